@@ -22,6 +22,8 @@ tries = 1
 objects = [ {objects} ]
 """
 DATE = re.compile(rb"\r\nDate: ([^\r\n]*)\r\n")
+AGE = re.compile(rb"(round \d+ ended )\d+( s ago\n)")
+HEALTH = re.compile(rb"(ok|no round ended in time): round (\d+) ended (\d+) s ago\n|no round ended in time\n")
 SECONDS = 60
 
 
@@ -126,6 +128,27 @@ def undated(octets):
 
 def dates(octets):
     return [parsedate_to_datetime(date.decode()) for date in DATE.findall(octets)]
+
+
+def ageless(octets):
+    """Responses without the seconds since the last round."""
+    return AGE.sub(rb"\1N\2", octets)
+
+
+def health_in(body):
+    """Whether the body of /healthz says that rounds end in time, which ended last and how many seconds ago; None if it says neither."""
+    found = HEALTH.fullmatch(body)
+    return found and (found[1] == b"ok", *(number and int(number) for number in found.group(2, 3)))
+
+
+def exchange_at_an_age(address, pieces):
+    """An exchange during which the body of /healthz keeps its length, and that body before it."""
+    before, after = b"", b"-"
+    while len(before) != len(after):
+        before = get(address, "/healthz")[1]
+        told, closed = exchange(address, pieces)
+        after = get(address, "/healthz")[1]
+    return told, closed, before
 
 
 def get(address, path, method="GET"):

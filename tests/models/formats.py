@@ -105,23 +105,37 @@ def exact(number):
     return number if -(2**53) <= number <= 2**53 else str(number)
 
 
-def json_text(instances):
+def stale_in(instances, station):
+    """Of each instance whether it is stale: of a running station one without a new sample in as many rounds as its limit says."""
+    return [age >= station.stale_after for age in station.ages] if station else [False] * len(instances)
+
+
+def listed(it, stale):
+    """What JSON says of an instance, but for the member `stale`."""
     def stamp(raised):
         return None if raised is None else {"boots": raised[0], "time": raised[1]}
 
-    listed = []
-    for it in instances:
-        delta, span = it.totals()
-        rate = it.rate()
-        listed.append({
-            "engine": it.engine,
-            "name": it.name,
-            "samples": [{"boots": s.boots, "time": s.time, "mark": s.mark, "kind": s.kind, "value": exact(s.value)} for s in it.samples],
-            "totals": {"delta": exact(delta), "span": exact(span)},
-            "rate_thousandths": None if rate is None else exact(rate),
-            "alarms": [{"rising": exact(a.rising), "falling": exact(a.falling), "raised": stamp(a.raised)} for a in it.alarms],
-        })
-    said = {"instances": listed, "samples": sum(len(it.samples) for it in instances)}
+    delta, span = it.totals()
+    rate = None if stale else it.rate()
+    return {
+        "engine": it.engine,
+        "name": it.name,
+        "samples": [{"boots": s.boots, "time": s.time, "mark": s.mark, "kind": s.kind, "value": exact(s.value)} for s in it.samples],
+        "totals": {"delta": exact(delta), "span": exact(span)},
+        "rate_thousandths": None if rate is None else exact(rate),
+        "alarms": [] if stale else [{"rising": exact(a.rising), "falling": exact(a.falling), "raised": stamp(a.raised)} for a in it.alarms],
+    }
+
+
+def json_text(instances, station=None):
+    """The report, and what a running `Station` says of itself and of the age of each instance."""
+    stale = stale_in(instances, station)
+    said = {
+        "instances": [listed(it, old) | ({"stale": old} if station else {}) for it, old in zip(instances, stale)],
+        "samples": sum(len(it.samples) for it in instances),
+    }
+    if station:
+        said["station"] = station.said()
     return json.dumps(said, sort_keys=True, separators=(",", ":"), ensure_ascii=False) + "\n"
 
 
@@ -131,6 +145,7 @@ METRICS = {
     "snmpmon_samples": ("gauge", "Samples that the window of an instance holds."),
     "snmpmon_rate": ("gauge", "What a counter counted a second over its window."),
     "snmpmon_alarm": ("gauge", "1 where the alarm of a rule is raised. Thresholds are in thousandths."),
+    "snmpmon_station": ("gauge", "Number of this station."),
     "snmpmon_incarnation": ("gauge", "How often the station was started over its file."),
     "snmpmon_samples_taken_total": ("counter", "Samples that the station took since it began."),
     "snmpmon_polls_given_up_total": ("counter", "Polls that the station gave up since it began."),
@@ -138,6 +153,7 @@ METRICS = {
     "snmpmon_saves_failed_total": ("counter", "Saves that failed since the station began."),
     "snmpmon_strangers_total": ("counter", "Datagrams since the station began from an address of no target and no peer."),
     "snmpmon_round_duration_seconds": ("gauge", "How long the last round took."),
+    "snmpmon_last_round_timestamp_seconds": ("gauge", "When the last round ended, in seconds since 1970."),
     "snmpmon_target_up": ("gauge", "1 where the last poll of a target was answered."),
     "snmpmon_target_answer_age_rounds": ("gauge", "Rounds since a target answered, or since the station began."),
     "snmpmon_target_answer_age_seconds": ("gauge", "Seconds since a target answered, or since the station began."),
@@ -174,6 +190,7 @@ class Target:
 class Station:
     """What a running station says of itself."""
 
+    number: int
     incarnation: int
     taken: int
     given_up: int
@@ -181,13 +198,16 @@ class Station:
     targets: list
     ages: list
     round_ms: int
+    round_at: int | None = None
     failed_saves: int = 0
     strangers: int = 0
     stale_after: int = 3
 
     def lines(self, instances):
         """Its metrics, by their names."""
-        plain = {"incarnation": self.incarnation, "samples_taken_total": self.taken, "polls_given_up_total": self.given_up, "saves_failed_total": self.failed_saves, "strangers_total": self.strangers, "round_duration_seconds": points(self.round_ms)}
+        plain = {"station": self.number, "incarnation": self.incarnation, "samples_taken_total": self.taken, "polls_given_up_total": self.given_up, "saves_failed_total": self.failed_saves, "strangers_total": self.strangers, "round_duration_seconds": points(self.round_ms)}
+        if self.round_at is not None:
+            plain["last_round_timestamp_seconds"] = self.round_at
         found = {f"snmpmon_{name}": [metric(f"snmpmon_{name}", [], value)] for name, value in plain.items()}
         found["snmpmon_debt"] = [metric("snmpmon_debt", [("peer", peer)], owed) for peer, owed in self.debts]
         for target in self.targets:
@@ -195,6 +215,18 @@ class Station:
                 found.setdefault(name, []).append(line)
         found["snmpmon_sample_age_rounds"] = [metric("snmpmon_sample_age_rounds", it.labels(), age) for it, age in zip(instances, self.ages)]
         return found
+
+    def said(self):
+        """Its object in JSON."""
+        plain = {"failed_saves": self.failed_saves, "given_up": self.given_up, "round_ms": self.round_ms, "strangers": self.strangers, "taken": self.taken}
+        return {name: exact(number) for name, number in plain.items()} | {
+            "ages": self.ages,
+            "debts": [{"peer": peer, "samples": owed} for peer, owed in self.debts],
+            "incarnation": self.incarnation,
+            "number": self.number,
+            "round_at": None if self.round_at is None else exact(self.round_at),
+            "targets": [vars(target) for target in self.targets],
+        }
 
 
 def metric(name, labels, value):
@@ -205,8 +237,7 @@ def metric(name, labels, value):
 def prometheus(instances, station=None):
     """The report, and what a running `Station` says of itself."""
     lines = {name: [] for name in METRICS}
-    stale = [station is not None and age >= station.stale_after for age in station.ages] if station else [False] * len(instances)
-    for it, is_stale in zip(instances, stale):
+    for it, is_stale in zip(instances, stale_in(instances, station)):
         labels = it.labels()
         lines["snmpmon_samples"].append(metric("snmpmon_samples", labels, len(it.samples)))
         if is_stale:
@@ -223,31 +254,37 @@ def prometheus(instances, station=None):
     shown = list(METRICS)[:5]
     if station:
         lines.update(station.lines(instances))
-        shown = list(METRICS)
+        shown = [name for name in METRICS if name != "snmpmon_last_round_timestamp_seconds" or station.round_at is not None]
     heads = {name: f"# HELP {name} {words}\n# TYPE {name} {kind}\n" for name, (kind, words) in METRICS.items()}
     return "".join(heads[name] + "".join(lines.get(name, [])) for name in shown)
 
 
-def columns(instances):
-    rows = []
-    for it in instances:
-        value = str(it.samples[-1].value) if it.samples else "-"
-        rate = "-" if it.rate() is None else points(it.rate()) + "/s"
-        raised = any(alarm.raised for alarm in it.alarms)
-        alarm = "RAISED" if raised else "clear" if it.alarms else "-"
-        rows.append((it.engine, value, rate, alarm, str(len(it.samples)), it.name))
-    wide = max([len("VALUE")] + [len(row[1]) for row in rows])
-    rates = max([len("RATE")] + [len(row[2]) for row in rows])
+def cells(it, stale):
+    """The cells of value, rate and alarm, which the table and the page have."""
+    value = str(it.samples[-1].value) if it.samples else "-"
+    rate = "-" if stale or it.rate() is None else points(it.rate()) + "/s"
+    raised = any(alarm.raised for alarm in it.alarms)
+    return value, rate, "stale" if stale else "RAISED" if raised else "clear" if it.alarms else "-"
 
-    def line(value, rate, alarm, samples, name):
-        return f"{value:>{wide}}  {rate:>{rates}}  {alarm:<6}  {samples:>7}  {name}\n"
 
-    table, before = line("VALUE", "RATE", "ALARM", "SAMPLES", "NAME"), None
-    for engine, *row in rows:
-        if engine != before:
-            table += f"engine {engine}\n"
-        table, before = table + line(*row), engine
-    return table + f"{len(rows)} instances, {sum(len(it.samples) for it in instances)} samples\n"
+def columns(instances, station=None):
+    """The table; of a running `Station` with ages, and a line for each target that is down."""
+    wide = max([len("VALUE")] + [len(cells(it, False)[0]) for it in instances])
+    rates = max([len("RATE")] + [len(cells(it, False)[1]) for it in instances])
+
+    def line(value, rate, alarm, samples, age, name):
+        return f"{value:>{wide}}  {rate:>{rates}}  {alarm:<6}  {samples:>7}  {f'{age:>5}  ' if station else ''}{name}\n"
+
+    table, before = line("VALUE", "RATE", "ALARM", "SAMPLES", "AGE", "NAME"), None
+    for it, stale, age in zip(instances, stale_in(instances, station), station.ages if station else [""] * len(instances)):
+        table += f"engine {it.engine}\n" if it.engine != before else ""
+        table += line(*cells(it, stale), str(len(it.samples)), str(age), it.name)
+        before = it.engine
+    table += f"{len(instances)} instances, {sum(len(it.samples) for it in instances)} samples\n"
+    for target in station.targets if station else []:
+        silence = f"target {target.number} at {target.address} is down: no answer in {target.rounds} rounds, {target.seconds} s"
+        table += "" if target.up else silence + (f": {target.refusal}" if target.refusal is not None else "") + "\n"
+    return table
 
 
 FORMATS = {"text": text, "json": json_text, "prometheus": prometheus, "columns": columns}

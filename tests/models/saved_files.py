@@ -138,11 +138,11 @@ def short(octets, path):
 
 
 def station(octets, path, targets):
-    """The same of a station's round in which none of its targets answers."""
+    """The same of a station's round in which none of its targets answers. Each fault of a file's octets lasts, so the status is 3."""
     try:
         incarnation, windows, file = begun(octets)
     except Fault as fault:
-        return 1, "", failed(fault, path), slots.laid_out(octets)
+        return 3, "", failed(fault, path), slots.laid_out(octets)
     said = short(octets, path)
     said += f"snmpmon: station 1 at HERE, incarnation {incarnation}, file {path}, targets: {len(targets)}, peers: 0\n"
     said += raised_lines(windows)
@@ -152,7 +152,7 @@ def station(octets, path, targets):
     except slots.Refused as fault:
         # Its last save failed, so the command does, after its report.
         unsaved = f"snmpmon: round 1: not saved, mon_disk {fault.args[0]}\n"
-        return 1, report_of(windows), said + unsaved + silent + failed(Fault("mon_disk", *fault.args), path), file
+        return 3, report_of(windows), said + unsaved + silent + failed(Fault("mon_disk", *fault.args), path), file
 
 
 def counted(chance):

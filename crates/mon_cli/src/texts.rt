@@ -123,16 +123,19 @@ them, each with its discontinuity mark where there is one, in targets of 16.
 Packets are those of unicast, and of multicast and broadcast where ifXTable
 counts them. The text is read back before it is printed, and nothing is printed
 if anything fails. With -m names are shown as ifHCInOctets.1. Where ifNumber is
-not the number of ifTable's interfaces, a line on standard error says so.
+not the number of ifTable's interfaces, a line on standard error says so, and
+another for how many interfaces --thresholds finds no speed.
 
-An agent without the snmpEngine group ends it with mon_survey 2 NoEngine, since
-a station stamps each sample by it; no counter to poll with 5 NoCounter, more
-than 256 with 6 TooMany, an option that no settings can have with 8 Refused.
+An agent whose snmpEngine group is absent or hidden from this community ends it
+with mon_survey 2 NoEngine, since a station stamps each sample by it; no counter
+to poll, also where a view hides the interfaces, with 5 NoCounter, more than 256
+with 6 TooMany, an option that no settings can have with 8 Refused.
 
 With --split there may be more: FOLDER/station-1.toml has the first 256,
 station-2.toml the next, and so on, each the settings of a station of its own.
 From the second on the ports of --listen and --peer are counted up, and the
-number follows the name of its file.
+number follows the name of its file. If one of the files is there, nothing is
+written.
 
 With --append the settings in FILE come first, octet by octet, and then the
 targets of this agent and their alarms; options of the station are FILE's own.

@@ -1,9 +1,9 @@
 //! What may go wrong in a command, and whose fault it is.
 
 ghost use Rattle.std.specs.Prelude.{◌≡◌};
-ghost use Rattle.mon_faults.specs.Fault.{innermost_of, station_fault};
+ghost use Rattle.mon_faults.specs.Fault.{app_lasts, innermost_of, is_no_memory, lasts, station_fault};
 
-use mon_app::AppFault;
+use mon_app::{AppFault, SocketReason};
 use mon_disk::KeeperFault;
 use mon_mib::DeviceFault;
 use mon_saved::ImageFault;
@@ -62,6 +62,52 @@ impl Fault {
             Fault::Station(fault) => fault.innermost(),
             Fault::Other(innermost) => innermost,
         }
+    }
+
+    /// Returns `true` if the fault stays until somebody changes something: the arguments, the
+    /// settings, a module, the station's file, or what has its address.
+    pub fn lasts(self) -> bool
+        ensures { result ≡ lasts self }
+    {
+        match self {
+            Fault::App(fault) => app_lasts(fault),
+            Fault::Names(fault) => is_no_memory(fault.number()),
+            Fault::Text(fault) => is_no_memory(fault.number()),
+            Fault::Settings(fault) => is_no_memory(fault.number()),
+            Fault::Keeper(fault) => matches!(
+                fault,
+                KeeperFault::Damaged | KeeperFault::NoMoreGenerations | KeeperFault::TooLarge
+            ),
+            Fault::Image(fault) => is_no_memory(fault.number()),
+            Fault::Station(fault) => matches!(fault, StationFault::NoMoreIncarnations),
+            Fault::Other(innermost) => is_no_memory(innermost.number),
+            Fault::Device(_) => false,
+        }
+    }
+}
+
+/// The number of each crate's fault that memory was refused.
+const OUT_OF_MEMORY: u8 = 1;
+
+/// Returns `true` for the number of a fault that is not refused memory.
+fn is_no_memory(number: u8) -> bool
+    ensures { result ≡ is_no_memory number }
+{
+    number != OUT_OF_MEMORY
+}
+
+/// Returns `true` if arguments are not read, another program has the address, or the system does not
+/// permit the port.
+fn app_lasts(fault: AppFault) -> bool
+    ensures { result ≡ app_lasts fault }
+{
+    match fault {
+        AppFault::BadText => true,
+        AppFault::SocketFault { reason } => matches!(
+            reason,
+            SocketReason::AddressInUse | SocketReason::PermissionDenied
+        ),
+        _ => false,
     }
 }
 

@@ -8,7 +8,7 @@ use Rattle.mon_alarms.specs.Changes.{is_raised}
 use Rattle.mon_alarms.specs.Rule.{Rule}
 use Rattle.mon_alarms.specs.Observed.{state_by}
 use Rattle.mon_report.specs.Report.{Entry}
-use Rattle.mon_page.specs.Cells.{alarm_cell, newest_of, rate_cell, rate_of, value_cell}
+use Rattle.mon_page.specs.Cells.{alarm_cell, fresh_rate, newest_of, rate_cell, rate_of, state_cell, value_cell}
 use Rattle.mon_formats.specs.declared.columns.Widths.{Widths}
 use Rattle.mon_formats.specs.Columns.{cells_text, row_cells, spaces, title_cells, to_left, to_right, widest, widths_of}
 
@@ -65,17 +65,28 @@ alarm-fits : (items : List ℕ) (rules : List Rule) → length (alarm_cell items
 alarm-fits items [] = omega arith
 alarm-fits items (r ∷ rs) = word-fits (list_any (λ rule. is_raised (state_by rule items)) (r ∷ rs))
 
+state-fits : (fresh : Bool) (items : List ℕ) (rules : List Rule) → length (state_cell fresh items rules) ≤ 6
+state-fits false items rules = omega arith
+state-fits true items rules = alarm-fits items rules
+
+-- a dash in place of a rate fits too
+rate-fits : (fresh : Bool) (items : List ℕ) (width : ℕ) → 4 ≤ width → length (rate_cell (rate_of items)) ≤ width → length (rate_cell (fresh_rate fresh items)) ≤ width
+rate-fits false items width wide fits = omega (arith, wide)
+rate-fits true items width wide fits = fits
+
 -- how long the titles are
 title-long : (es : List Entry) → length (title_cells (widths_of es)) ≡ (widths_of es).value + (widths_of es).rate + 21
 title-long es =
     length-cells (widths_of es) (codes "VALUE") (codes "RATE") (codes "ALARM") (codes "SAMPLES") (heading-fits (λ e. value_cell (newest_of e.items)) 5 es)
     (heading-fits (λ e. rate_cell (rate_of e.items)) 4 es) (omega arith) (omega arith)
 
-pub aligned : (es : List Entry) → All (λ e. length e.items < 10 ^ 7) es → All (λ e. length (row_cells (widths_of es) e) ≡ length (title_cells (widths_of es))) es
-aligned es few = λ k d inside.
+pub aligned : (fresh : Bool) (es : List Entry) → All (λ e. length e.items < 10 ^ 7) es
+    → All (λ e. length (row_cells (widths_of es) fresh e) ≡ length (title_cells (widths_of es))) es
+aligned fresh es few = λ k d inside.
     let e = get_or es k d in
     let value = each-fits (λ x. value_cell (newest_of x.items)) 5 es k d inside in
-    let rate = each-fits (λ x. rate_cell (rate_of x.items)) 4 es k d inside in
+    let rate =
+    rate-fits fresh e.items (widths_of es).rate (heading-fits (λ x. rate_cell (rate_of x.items)) 4 es) (each-fits (λ x. rate_cell (rate_of x.items)) 4 es k d inside) in
     let samples = length-decimal-le 7 (length e.items) (omega arith) (few k d inside) (omega (arith, few k d inside)) in
-    length-cells (widths_of es) (value_cell (newest_of e.items)) (rate_cell (rate_of e.items)) (alarm_cell e.items e.rules) (decimal (length e.items)) value rate
-    (alarm-fits e.items e.rules) samples ∙ sym (title-long es)
+    length-cells (widths_of es) (value_cell (newest_of e.items)) (rate_cell (fresh_rate fresh e.items)) (state_cell fresh e.items e.rules) (decimal (length e.items)) value rate
+    (state-fits fresh e.items e.rules) samples ∙ sym (title-long es)

@@ -1,5 +1,5 @@
 -- A report as JSON nests six deep at most.
-use Rattle.std.proofs.Common.{◌≤◌, ℕ, ℤ, pos, negsuc, suc, ◌^◌, List, [], ◌∷◌, Bool, true, false, cond, max, Option, Some, None, decimal, map, nat_le, nat_lt, arith, String}
+use Rattle.std.proofs.Common.{◌≤◌, ℕ, ℤ, pos, negsuc, suc, ◌+◌, ◌^◌, List, [], ◌∷◌, Bool, true, false, cond, max, Option, Some, None, decimal, map, nat_le, nat_lt, arith, String}
 use Rattle.std.specs.Fmt.{signed_decimal}
 use Rattle.serde_json.specs.Data.{Data, number, unsigned, negative, string, depth, items_depth}
 use Rattle.serde_json.specs.Read.{max_depth}
@@ -10,8 +10,9 @@ use Rattle.mon_alarms.specs.declared.alarm.AlarmState.{AlarmState}
 use Rattle.mon_alarms.specs.declared.alarm.AlarmState.TheVariants.{Clear, Raised}
 use Rattle.mon_rates.specs.Totals.{totals}
 use Rattle.mon_report.specs.Report.{Entry, samples_in}
-use Rattle.mon_page.specs.Cells.{value_of, rate_of}
-use Rattle.mon_formats.specs.Json.{exact, exact_signed, sample_data, raised_data, alarm_data, rate_data, totals_data, age_data, debt_data, refusal_data, target_data, station_data, entry_data, report_data}
+use Rattle.mon_page.specs.Cells.{value_of, fresh_rate}
+use Rattle.mon_page.specs.Freshness.{fresh_at}
+use Rattle.mon_formats.specs.Json.{exact, exact_signed, sample_data, raised_data, alarm_data, exact_or_null, totals_data, age_data, debt_data, refusal_data, target_data, station_data, fresh_rules, entry_data, entries_data, report_data}
 use Rattle.mon_page.specs.declared.figures.Figures.{Figures}
 use Rattle.mon_page.specs.declared.figures.TargetFigures.{TargetFigures}
 
@@ -43,9 +44,9 @@ of_raised : (s : AlarmState) → depth (raised_data s) ≤ 1
 of_raised Clear = none 1
 of_raised (Raised boots time) = deeper _ 0 (both _ _ 0 (none 0) (both _ _ 0 (none 0) (none 0)))
 
-of_rate : (rate : Option ℕ) (n : ℕ) → depth (rate_data rate) ≤ n
-of_rate None n = none n
-of_rate (Some q) n = of_exact q n
+of_option : (o : Option ℕ) (n : ℕ) → depth (exact_or_null o) ≤ n
+of_option None n = none n
+of_option (Some m) n = of_exact m n
 
 of_sample : (s : ℕ) → depth (sample_data s) ≤ 1
 of_sample s =
@@ -58,15 +59,28 @@ of_alarm items rule =
 of_totals : (items : List ℕ) → depth (totals_data items) ≤ 1
 of_totals items = deeper _ 0 (both _ _ 0 (of_exact (totals items).delta 0) (both _ _ 0 (of_exact (totals items).span 0) (none 0)))
 
-pub of_entry : (shown : List ℕ → List ℕ) (e : Entry) → depth (entry_data shown e) ≤ 4
-of_entry shown e =
+pub of_entry : (shown : List ℕ → List ℕ) (fresh : Option Bool) (e : Entry) → depth (entry_data shown fresh e) ≤ 4
+of_entry shown None e =
     deeper _ 3
     (both _ _ 3 (deeper _ 2 (of_items (alarm_data e.items) 2 (of_alarm e.items) e.rules))
     (both _ _ 3 (none 3)
     (both _ _ 3 (none 3)
-    (both _ _ 3 (of_rate (rate_of e.items) 3)
+    (both _ _ 3 (of_option (fresh_rate true e.items) 3)
     (both _ _ 3 (deeper _ 2 (of_items sample_data 2 (λ s. omega (arith, of_sample s)) e.items))
     (both _ _ 3 (omega (arith, of_totals e.items)) (none 3)))))))
+of_entry shown (Some fresh) e =
+    deeper _ 3
+    (both _ _ 3 (deeper _ 2 (of_items (alarm_data e.items) 2 (of_alarm e.items) (fresh_rules fresh e.rules)))
+    (both _ _ 3 (none 3)
+    (both _ _ 3 (none 3)
+    (both _ _ 3 (of_option (fresh_rate fresh e.items) 3)
+    (both _ _ 3 (deeper _ 2 (of_items sample_data 2 (λ s. omega (arith, of_sample s)) e.items))
+    (both _ _ 3 (none 3)
+    (both _ _ 3 (omega (arith, of_totals e.items)) (none 3))))))))
+
+of_entries : (shown : List ℕ → List ℕ) (station : Option Figures) (place : ℕ) (es : List Entry) → items_depth (items_of (entries_data shown station place es)) ≤ 4
+of_entries shown station place [] = none 4
+of_entries shown station place (e ∷ es) = both _ _ 4 (of_entry shown (fresh_at station place) e) (of_entries shown station (place + 1) es)
 
 of_refusal : {A : Type 0} (reason : Option (String A)) (n : ℕ) → depth (refusal_data reason) ≤ n
 of_refusal None n = none n
@@ -92,18 +106,20 @@ of_station f =
     (both _ _ 2 (of_exact f.failed_saves 2)
     (both _ _ 2 (of_exact f.given_up 2)
     (both _ _ 2 (none 2)
+    (both _ _ 2 (none 2)
+    (both _ _ 2 (of_option f.round_at 2)
     (both _ _ 2 (of_exact f.round_ms 2)
     (both _ _ 2 (of_exact f.strangers 2)
-    (both _ _ 2 (of_exact f.taken 2) (both _ _ 2 (deeper _ 1 (of_items target_data 1 of_target f.targets.items)) (none 2))))))))))
+    (both _ _ 2 (of_exact f.taken 2) (both _ _ 2 (deeper _ 1 (of_items target_data 1 of_target f.targets.items)) (none 2))))))))))))
 
 pub of_report : (shown : List ℕ → List ℕ) (entries : List Entry) (station : Option Figures) → depth (report_data shown entries station) ≤ max_depth
 of_report shown entries None =
     let shallow : depth (report_data shown entries None) ≤ 6 =
-    deeper _ 5 (both _ _ 5 (deeper _ 4 (of_items (entry_data shown) 4 (of_entry shown) entries)) (both _ _ 5 (of_exact (samples_in entries) 5) (none 5))) in
+    deeper _ 5 (both _ _ 5 (deeper _ 4 (of_entries shown None 0 entries)) (both _ _ 5 (of_exact (samples_in entries) 5) (none 5))) in
     omega (arith, shallow)
 of_report shown entries (Some f) =
     let shallow : depth (report_data shown entries (Some f)) ≤ 6 =
     deeper _ 5
-    (both _ _ 5 (deeper _ 4 (of_items (entry_data shown) 4 (of_entry shown) entries))
+    (both _ _ 5 (deeper _ 4 (of_entries shown (Some f) 0 entries))
     (both _ _ 5 (of_exact (samples_in entries) 5) (both _ _ 5 (omega (arith, of_station f)) (none 5)))) in
     omega (arith, shallow)

@@ -3,7 +3,8 @@ use Rattle.std.proofs.Common.{◌≡◌, ℕ, zero, suc, ◌+◌, ◌<◌, ◌�
 use Rattle.std.specs.Prelude.{if◌then◌else◌}
 use Rattle.std.proofs.lemmas.List.{drop_all, drop_more}
 use Rattle.mon_page.specs.Labelled.{Labelled}
-use Rattle.mon_formats.specs.Prometheus.{age_line, age_lines, fresh, is_fresh}
+use Rattle.mon_page.specs.Freshness.{fresh, is_fresh}
+use Rattle.mon_formats.specs.Prometheus.{age_line, age_lines}
 
 -- an instance that is not stale comes before the others
 step_fresh : (limit : ℕ) (ages : List ℕ) (es : List Labelled) (i : ℕ) (e : Labelled) → i < length es → is_fresh limit (slice_get ages i) ≡ true

@@ -10,8 +10,8 @@ use Rattle.mon_alarms.specs.declared.alarm.AlarmState.{AlarmState}
 use Rattle.mon_alarms.specs.declared.alarm.AlarmState.TheVariants.{Clear, Raised}
 use Rattle.mon_rates.specs.Totals.{totals}
 use Rattle.mon_report.specs.Report.{Entry}
-use Rattle.mon_page.specs.Cells.{value_of, rate_of}
-use Rattle.mon_formats.specs.Json.{exact, exact_signed, sample_data, raised_data, alarm_data, rate_data, totals_data, age_data, debt_data, refusal_data, target_data, station_data, entry_data}
+use Rattle.mon_page.specs.Cells.{value_of, fresh_rate}
+use Rattle.mon_formats.specs.Json.{exact, exact_signed, sample_data, raised_data, alarm_data, exact_or_null, totals_data, age_data, debt_data, refusal_data, target_data, station_data, fresh_rules, entry_data}
 use Rattle.mon_page.specs.declared.figures.Figures.{Figures}
 use Rattle.mon_page.specs.declared.figures.TargetFigures.{TargetFigures}
 
@@ -38,9 +38,9 @@ of_raised : (s : AlarmState) → has_float (raised_data s) ≡ false
 of_raised Clear = refl
 of_raised (Raised boots time) = refl
 
-of_rate : (rate : Option ℕ) → has_float (rate_data rate) ≡ false
-of_rate None = refl
-of_rate (Some q) = of_exact q
+of_option : (o : Option ℕ) → has_float (exact_or_null o) ≡ false
+of_option None = refl
+of_option (Some n) = of_exact n
 
 of_sample : (s : ℕ) → has_float (sample_data s) ≡ false
 of_sample s = neither _ _ (of_exact_signed (value_of s)) refl
@@ -51,10 +51,13 @@ of_alarm items rule = neither _ _ (of_exact_signed rule.falling) (neither _ _ (o
 of_totals : (items : List ℕ) → has_float (totals_data items) ≡ false
 of_totals items = neither _ _ (of_exact (totals items).delta) (neither _ _ (of_exact (totals items).span) refl)
 
-pub of_entry : (shown : List ℕ → List ℕ) (e : Entry) → has_float (entry_data shown e) ≡ false
-of_entry shown e =
+pub of_entry : (shown : List ℕ → List ℕ) (fresh : Option Bool) (e : Entry) → has_float (entry_data shown fresh e) ≡ false
+of_entry shown None e =
     neither _ _ (of_items (alarm_data e.items) (of_alarm e.items) e.rules)
-    (neither _ _ (of_rate (rate_of e.items)) (neither _ _ (of_items sample_data of_sample e.items) (neither _ _ (of_totals e.items) refl)))
+    (neither _ _ (of_option (fresh_rate true e.items)) (neither _ _ (of_items sample_data of_sample e.items) (neither _ _ (of_totals e.items) refl)))
+of_entry shown (Some fresh) e =
+    neither _ _ (of_items (alarm_data e.items) (of_alarm e.items) (fresh_rules fresh e.rules))
+    (neither _ _ (of_option (fresh_rate fresh e.items)) (neither _ _ (of_items sample_data of_sample e.items) (neither _ _ (of_totals e.items) refl)))
 
 of_refusal : {A : Type 0} (reason : Option (String A)) → has_float (refusal_data reason) ≡ false
 of_refusal None = refl
@@ -69,5 +72,6 @@ of_station f =
     (neither _ _ (of_items debt_data (λ d. refl) f.debts.items)
     (neither _ _ (of_exact f.failed_saves)
     (neither _ _ (of_exact f.given_up)
+    (neither _ _ (of_option f.round_at)
     (neither _ _ (of_exact f.round_ms)
-    (neither _ _ (of_exact f.strangers) (neither _ _ (of_exact f.taken) (neither _ _ (of_items target_data of_target f.targets.items) refl)))))))
+    (neither _ _ (of_exact f.strangers) (neither _ _ (of_exact f.taken) (neither _ _ (of_items target_data of_target f.targets.items) refl))))))))

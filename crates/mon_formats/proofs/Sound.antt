@@ -1,5 +1,5 @@
 -- Data that was written and read back is sound, data of sound parts is sound, and the text of sound data reads back.
-use Rattle.std.proofs.Common.{◌≡◌, ℕ, suc, ◌≤◌, max, List, [], Option, Some, None, option_map, option_and_then, refl, sym, ap, ap₂, ◌∙◌, arith, append-nil, false, map}
+use Rattle.std.proofs.Common.{◌≡◌, ℕ, suc, ◌≤◌, max, List, [], Option, Some, None, option_map, option_and_then, refl, sym, ap, ap₂, ◌∙◌, arith, append-nil, false}
 use Rattle.std.specs.Borrow.{Bor}
 use Rattle.std.specs.Prelude.{IfSome}
 use Rattle.json.specs.Lex.{tokens}
@@ -15,7 +15,7 @@ use Rattle.serde_json.specs.Written.{IsInOrder, compact_text, has_float, outline
 use Rattle.serde_json.proofs.Texts.{print-outline, tokens_from_order}
 use Rattle.mon_report.specs.Report.{Entry, samples_in}
 use Rattle.mon_page.specs.declared.figures.Figures.{Figures}
-use Rattle.mon_formats.specs.Json.{exact, entry_data, station_data, report_data}
+use Rattle.mon_formats.specs.Json.{exact, entries_data, station_data, report_data}
 use Rattle.mon_formats.specs.Sound.{IsSound}
 
 mutual
@@ -69,8 +69,8 @@ pub of_more : (d : Data) (ds : Items) → IsSound d → IsSound (array ds) → I
 unfolding IsSound
 of_more d ds one more = ((one.0, more.0), rw (one.1, inside _ ds more.1) refl)
 
-pub of_report : (shown : List ℕ → List ℕ) (entries : List Entry) (station : Option (Bor Figures)) → IsSound (array (items_of (map (entry_data shown) entries))) → IsSound (exact (samples_in entries))
-    → IfSome station (λ f. IsSound (station_data f.now)) → IsSound (report_data shown entries (option_map (λ f. f.now) station))
+pub of_report : (shown : List ℕ → List ℕ) (entries : List Entry) (station : Option (Bor Figures))
+    → IsSound (array (items_of (entries_data shown (option_map (λ f. f.now) station) 0 entries))) → IsSound (exact (samples_in entries)) → IfSome station (λ f. IsSound (station_data f.now)) → IsSound (report_data shown entries (option_map (λ f. f.now) station))
 unfolding IsSound
 of_report shown entries None instances samples figures = ((instances.0, (samples.0, tt)), rw (instances.1, samples.1) refl)
 of_report shown entries (Some f) instances samples figures = ((instances.0, (samples.0, (figures.0, tt))), rw (instances.1, samples.1, figures.1) refl)

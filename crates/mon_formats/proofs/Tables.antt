@@ -6,6 +6,7 @@ use Rattle.std.specs.Result.{is_ok}
 use Rattle.std.proofs.lemmas.List.{map_more}
 use Rattle.std.proofs.lemmas.List.Sums.{fold_push}
 use Rattle.mon_report.specs.Report.{Entry}
+use Rattle.mon_page.specs.Freshness.{is_fresh}
 use Rattle.mon_formats.specs.declared.columns.Widths.{Widths}
 use Rattle.mon_formats.specs.Columns.{cells_text, engine_if_new, row_line, rows_from, to_left, to_right, widest}
 
@@ -40,15 +41,15 @@ widest-more heading f es i e lt =
     ap (widest heading) (map_more f es i e lt) ∙ fold_push (λ w text. max w (length text)) heading (map f (take i es)) (f (get_or es i e))
 
 -- the line of one instance more, and its engine's above it
-pub one-row : (w : Widths) (shown : List ℕ → List ℕ) (aged : Bool) (ages : List ℕ) (at : ℕ) (before : Option (List ℕ)) (e : Entry) (es : List Entry) (t0 t1 t2 total : List ℕ)
-    → drop at es ≡ e ∷ drop (at + 1) es → t1 ≡ t0 ++ engine_if_new before e.engine → t2 ≡ t1 ++ row_line w shown aged (slice_get ages at) e
-    → t0 ++ rows_from w shown aged ages at before (drop at es) ≡ total
-    → t2 ++ rows_from w shown aged ages (at + 1) (Some e.engine) (drop (at + 1) es) ≡ total
-one-row w shown aged ages at before e es t0 t1 t2 total more engine row whole =
+pub one-row : (w : Widths) (shown : List ℕ → List ℕ) (aged : Bool) (limit : ℕ) (ages : List ℕ) (at : ℕ) (before : Option (List ℕ)) (e : Entry) (es : List Entry) (t0 t1 t2 total : List ℕ)
+    → drop at es ≡ e ∷ drop (at + 1) es → t1 ≡ t0 ++ engine_if_new before e.engine → t2 ≡ t1 ++ row_line w shown aged (is_fresh limit (slice_get ages at)) (slice_get ages at) e
+    → t0 ++ rows_from w shown aged limit ages at before (drop at es) ≡ total
+    → t2 ++ rows_from w shown aged limit ages (at + 1) (Some e.engine) (drop (at + 1) es) ≡ total
+one-row w shown aged limit ages at before e es t0 t1 t2 total more engine row whole =
     let first = engine_if_new before e.engine in
-    let second = row_line w shown aged (slice_get ages at) e in
-    let rest = rows_from w shown aged ages (at + 1) (Some e.engine) (drop (at + 1) es) in
+    let second = row_line w shown aged (is_fresh limit (slice_get ages at)) (slice_get ages at) e in
+    let rest = rows_from w shown aged limit ages (at + 1) (Some e.engine) (drop (at + 1) es) in
     ap (λ t. t ++ rest) (row ∙ ap (λ t. t ++ second) engine ∙ append_assoc t0 first second)
     ∙ append_assoc t0 (first ++ second) rest
-    ∙ ap (λ l. t0 ++ rows_from w shown aged ages at before l) (sym more)
+    ∙ ap (λ l. t0 ++ rows_from w shown aged limit ages at before l) (sym more)
     ∙ whole

@@ -1,8 +1,8 @@
 -- A report as JSON (RFC 8259), on one line. Whole numbers beyond 2^53, which many readers round, are texts.
-use Rattle.std.specs.Prelude.{◌≡◌, ℕ, ℤ, pos, negsuc, ◌^◌, List, ◌++◌, Option, Some, None, codes, decimal, map, nat_le, nat_lt, String, string_bytes, if◌then◌else◌}
+use Rattle.std.specs.Prelude.{◌≡◌, ℕ, ℤ, pos, negsuc, ◌+◌, ◌^◌, Bool, true, false, not, List, [], ◌∷◌, ◌++◌, Option, Some, None, codes, decimal, map, nat_le, nat_lt, String, string_bytes, if◌then◌else◌}
 use Rattle.std.specs.Fmt.{signed_decimal}
 use Rattle.hex.specs.Hex.{encode_lower}
-use Rattle.serde_json.specs.Data.{Data, Members, boolean, null, number, unsigned, negative, string, array, object, no_members, member}
+use Rattle.serde_json.specs.Data.{Data, Members, boolean, null, number, unsigned, negative, string, array, object, no_members, member, put}
 use Rattle.serde_json.specs.Read.{read}
 use Rattle.serde_json.specs.View.{items_of}
 use Rattle.serde_json.specs.Written.{compact_text}
@@ -14,7 +14,8 @@ use Rattle.mon_alarms.specs.Observed.{state_by}
 use Rattle.mon_alarms.specs.declared.alarm.AlarmState.{AlarmState}
 use Rattle.mon_alarms.specs.declared.alarm.AlarmState.TheVariants.{Clear, Raised}
 use Rattle.mon_report.specs.Report.{Entry, samples_in}
-use Rattle.mon_page.specs.Cells.{value_of, rate_of}
+use Rattle.mon_page.specs.Cells.{value_of, fresh_rate}
+use Rattle.mon_page.specs.Freshness.{fresh_at}
 use Rattle.mon_page.specs.declared.figures.Figures.{Figures}
 use Rattle.mon_page.specs.declared.figures.TargetFigures.{TargetFigures}
 
@@ -26,6 +27,11 @@ exact n = if nat_le n (2 ^ 53) then number (unsigned n) else string (decimal n)
 abbrev pub exact_signed : ℤ → Data
 exact_signed (pos n) = exact n
 exact_signed (negsuc n) = if nat_lt n (2 ^ 53) then number (negative (negsuc n)) else string (signed_decimal (negsuc n))
+
+-- a whole number, if there is one; else null
+abbrev pub exact_or_null : Option ℕ → Data
+exact_or_null None = null
+exact_or_null (Some n) = exact n
 
 -- boots and time of the agent's engine
 abbrev pub stamp : ℕ → ℕ → Data
@@ -54,25 +60,44 @@ alarm_data items rule = object
     (member (codes "rising") (exact_signed rule.rising)
     no_members)))
 
--- a rate in thousandths; null if there is none
-abbrev pub rate_data : Option ℕ → Data
-rate_data None = null
-rate_data (Some q) = exact q
-
 -- how much the counter counted, and in how many seconds
 abbrev pub totals_data : List ℕ → Data
 totals_data items = object (member (codes "delta") (exact (totals items).delta) (member (codes "span") (exact (totals items).span) no_members))
 
--- an instance, its name as it is shown
-abbrev pub entry_data : (List ℕ → List ℕ) → Entry → Data
-entry_data shown e = object
-    (member (codes "alarms") (array (items_of (map (alarm_data e.items) e.rules)))
+-- the rules whose alarms are said of an instance: none if it is stale
+abbrev pub fresh_rules : Bool → List Rule → List Rule
+fresh_rules false rules = []
+fresh_rules true rules = rules
+
+-- what is said of an instance, fresh or stale, its name as it is shown
+abbrev pub entry_members : (List ℕ → List ℕ) → Bool → Entry → Members
+entry_members shown fresh e =
+    (member (codes "alarms") (array (items_of (map (alarm_data e.items) (fresh_rules fresh e.rules))))
     (member (codes "engine") (string (encode_lower e.engine))
     (member (codes "name") (string (shown e.name))
-    (member (codes "rate_thousandths") (rate_data (rate_of e.items))
+    (member (codes "rate_thousandths") (exact_or_null (fresh_rate fresh e.items))
     (member (codes "samples") (array (items_of (map sample_data e.items)))
     (member (codes "totals") (totals_data e.items)
     no_members))))))
+
+-- an instance counts as fresh without a station
+abbrev pub or_fresh : Option Bool → Bool
+or_fresh None = true
+or_fresh (Some fresh) = fresh
+
+-- the members, of a running station's instance with whether it is stale, in alphabetical order
+abbrev pub with_stale : Option Bool → Members → Members
+with_stale None members = members
+with_stale (Some fresh) members = put (codes "stale") (boolean (not fresh)) members
+
+-- an instance, and of a running station whether it is fresh
+abbrev pub entry_data : (List ℕ → List ℕ) → Option Bool → Entry → Data
+entry_data shown fresh e = object (with_stale fresh (entry_members shown (or_fresh fresh) e))
+
+-- the instances from a place on
+abbrev pub entries_data : (List ℕ → List ℕ) → Option Figures → ℕ → List Entry → List Data
+entries_data shown station place [] = []
+entries_data shown station place (e ∷ es) = entry_data shown (fresh_at station place) e ∷ entries_data shown station (place + 1) es
 
 -- why a target's last response was refused; null where none was
 abbrev pub refusal_data : {A : Type 0} → Option (String A) → Data
@@ -108,26 +133,25 @@ station_data f = object
     (member (codes "failed_saves") (exact f.failed_saves)
     (member (codes "given_up") (exact f.given_up)
     (member (codes "incarnation") (number (unsigned f.incarnation))
+    (member (codes "number") (number (unsigned f.station))
+    (member (codes "round_at") (exact_or_null f.round_at)
     (member (codes "round_ms") (exact f.round_ms)
     (member (codes "strangers") (exact f.strangers)
     (member (codes "taken") (exact f.taken)
     (member (codes "targets") (array (items_of (map target_data f.targets.items)))
-    no_members)))))))))
+    no_members)))))))))))
 
 -- what a running station says of itself, as a member
 abbrev pub station_member : Option Figures → Members
 station_member None = no_members
 station_member (Some f) = member (codes "station") (station_data f) no_members
 
--- the instances, how many samples they have, and further members
-abbrev pub file_members : (List ℕ → List ℕ) → List Entry → Members → Members
-file_members shown entries more =
-    member (codes "instances") (array (items_of (map (entry_data shown) entries)))
-    (member (codes "samples") (exact (samples_in entries)) more)
-
 -- the instances, how many samples they have, and what a running station says of itself
 abbrev pub report_data : (List ℕ → List ℕ) → List Entry → Option Figures → Data
-report_data shown entries station = object (file_members shown entries (station_member station))
+report_data shown entries station = object
+    (member (codes "instances") (array (items_of (entries_data shown station 0 entries)))
+    (member (codes "samples") (exact (samples_in entries))
+    (station_member station)))
 
 -- the text, with a line feed behind it
 unfoldable pub json_report : (List ℕ → List ℕ) → List Entry → Option Figures → List ℕ

@@ -1,6 +1,6 @@
 -- A report as Prometheus reads it: the text exposition format, version 0.0.4. Each metric has a line `# HELP`, a line `# TYPE`, and then
 -- its lines together.
-use Rattle.std.specs.Prelude.{ℕ, ℤ, Bool, true, false, List, [], ◌∷◌, ◌++◌, Option, Some, None, codes, decimal, length, nat_lt, ◌==◌, if◌then◌else◌, slice_index, String, string_bytes}
+use Rattle.std.specs.Prelude.{ℕ, ℤ, Bool, true, false, List, [], ◌∷◌, ◌++◌, Option, Some, None, codes, decimal, length, ◌==◌, if◌then◌else◌, slice_index, String, string_bytes}
 use Rattle.std.specs.Char.{is_ascii_digit}
 use Rattle.std.specs.Fmt.{signed_decimal}
 use Rattle.std.specs.List.{after_first, before_first, flat_map}
@@ -14,6 +14,7 @@ use Rattle.mon_alarms.specs.Observed.{state_by}
 use Rattle.mon_alarms.specs.declared.alarm.AlarmState.{AlarmState}
 use Rattle.mon_alarms.specs.declared.alarm.AlarmState.TheVariants.{Clear, Raised}
 use Rattle.mon_report.specs.Report.{Entry, rate_text}
+use Rattle.mon_page.specs.Freshness.{fresh}
 use Rattle.mon_page.specs.Labelled.{Labelled}
 use Rattle.mon_page.specs.declared.extras.InstanceLabels.{InstanceLabels}
 use Rattle.mon_page.specs.declared.figures.Figures.{Figures}
@@ -21,7 +22,7 @@ use Rattle.mon_page.specs.declared.figures.TargetFigures.{TargetFigures}
 use Rattle.mon_formats.specs.declared.prometheus.metric.Metric.{Metric}
 use Rattle.mon_formats.specs.declared.prometheus.metric.Metric.TheVariants.{Counted, Number, Samples, Rate, Alarm}
 use Rattle.mon_formats.specs.declared.prometheus.station.StationMetric.{StationMetric}
-use Rattle.mon_formats.specs.declared.prometheus.station.StationMetric.TheVariants.{Incarnation, Taken, GivenUp, Debt, FailedSaves, Strangers, Duration, Age}
+use Rattle.mon_formats.specs.declared.prometheus.station.StationMetric.TheVariants.{Station, Incarnation, Taken, GivenUp, Debt, FailedSaves, Strangers, Duration, LastRound, Age}
 use Rattle.mon_formats.specs.declared.prometheus.target.TargetMetric.{TargetMetric}
 use Rattle.mon_formats.specs.declared.prometheus.target.TargetMetric.TheVariants.{Up, Rounds, Seconds, PollsGivenUp, Refusal}
 use Rattle.mon_page.specs.Cells.{newest_of, value_of, rate_of}
@@ -189,6 +190,7 @@ instances_text shown all some =
 
 -- what a metric of the station itself is called
 abbrev pub station_name : StationMetric → List ℕ
+station_name Station = codes "snmpmon_station"
 station_name Incarnation = codes "snmpmon_incarnation"
 station_name Taken = codes "snmpmon_samples_taken_total"
 station_name GivenUp = codes "snmpmon_polls_given_up_total"
@@ -196,10 +198,12 @@ station_name Debt = codes "snmpmon_debt"
 station_name FailedSaves = codes "snmpmon_saves_failed_total"
 station_name Strangers = codes "snmpmon_strangers_total"
 station_name Duration = codes "snmpmon_round_duration_seconds"
+station_name LastRound = codes "snmpmon_last_round_timestamp_seconds"
 station_name Age = codes "snmpmon_sample_age_rounds"
 
 -- what it is, in a sentence
 abbrev pub station_help : StationMetric → List ℕ
+station_help Station = codes "Number of this station."
 station_help Incarnation = codes "How often the station was started over its file."
 station_help Taken = codes "Samples that the station took since it began."
 station_help GivenUp = codes "Polls that the station gave up since it began."
@@ -207,10 +211,12 @@ station_help Debt = codes "Samples that the station owes a peer."
 station_help FailedSaves = codes "Saves that failed since the station began."
 station_help Strangers = codes "Datagrams since the station began from an address of no target and no peer."
 station_help Duration = codes "How long the last round took."
+station_help LastRound = codes "When the last round ended, in seconds since 1970."
 station_help Age = codes "Rounds since an instance had a new sample, or since the station began."
 
 -- its type
 abbrev pub station_type : StationMetric → List ℕ
+station_type Station = codes "gauge"
 station_type Incarnation = codes "gauge"
 station_type Taken = codes "counter"
 station_type GivenUp = codes "counter"
@@ -218,6 +224,7 @@ station_type Debt = codes "gauge"
 station_type FailedSaves = codes "counter"
 station_type Strangers = codes "counter"
 station_type Duration = codes "gauge"
+station_type LastRound = codes "gauge"
 station_type Age = codes "gauge"
 
 -- the first two lines of a metric of the station
@@ -231,6 +238,11 @@ plain_metric metric value = station_head metric ++ station_name metric ++ codes 
 -- how long the last round took: milliseconds, written as seconds with three digits after the point
 unfoldable pub duration_text : ℕ → List ℕ
 duration_text milliseconds = station_head Duration ++ station_name Duration ++ codes " " ++ rate_text (Some milliseconds) ++ codes "\n"
+
+-- when the last round ended, in seconds since 1970; nothing before the end of the first one
+abbrev pub last_round_if : Option ℕ → List ℕ
+last_round_if None = []
+last_round_if (Some seconds) = plain_metric LastRound seconds
 
 -- how many samples the station owes a peer, by the peer's number
 abbrev pub debt_line : ℕ × ℕ → List ℕ
@@ -314,13 +326,14 @@ unfoldable pub targets_text : List TargetFigures → List ℕ
 targets_text targets =
     target_metric Up targets ++ target_metric Rounds targets ++ target_metric Seconds targets ++ target_metric PollsGivenUp targets ++ refusals_text targets
 
--- what a station says of itself since its start: its incarnation, how many samples it took and how many polls it gave up, by the number of
--- each peer how many samples it owes that peer, how many saves failed, how many datagrams strangers sent, how long the last round took, and
--- what it says of each target
+-- what a station says of itself since its start: its number and its incarnation, how many samples it took and how many polls it gave up, by the
+-- number of each peer how many samples it owes that peer, how many saves failed, how many datagrams strangers sent, how long the last round
+-- took and when it ended, and what it says of each target
 unfoldable pub station_text : Figures → List ℕ
 station_text f =
-    plain_metric Incarnation f.incarnation ++ plain_metric Taken f.taken ++ plain_metric GivenUp f.given_up ++ debts_text f.debts.items
-    ++ plain_metric FailedSaves f.failed_saves ++ plain_metric Strangers f.strangers ++ duration_text f.round_ms ++ targets_text f.targets.items
+    plain_metric Station f.station ++ plain_metric Incarnation f.incarnation ++ plain_metric Taken f.taken ++ plain_metric GivenUp f.given_up
+    ++ debts_text f.debts.items ++ plain_metric FailedSaves f.failed_saves ++ plain_metric Strangers f.strangers ++ duration_text f.round_ms
+    ++ last_round_if f.round_at ++ targets_text f.targets.items
 
 -- ---- ages of instances
 -- the line of an instance that had no new sample in this many rounds
@@ -336,17 +349,6 @@ age_lines shown (age ∷ ages) (i ∷ is) = age_line shown i age ++ age_lines sh
 -- the ages of all instances
 unfoldable pub ages_text : (List ℕ → List ℕ) → List ℕ → List Labelled → List ℕ
 ages_text shown ages instances = station_head Age ++ age_lines shown ages instances
-
--- whether an instance of this age is not stale: its age is below the limit, or it has none
-abbrev pub is_fresh : ℕ → Option ℕ → Bool
-is_fresh limit None = true
-is_fresh limit (Some age) = nat_lt age limit
-
--- the instances that are not stale, by their ages
-abbrev pub fresh : ℕ → List ℕ → List Labelled → List Labelled
-fresh limit [] is = is
-fresh limit (age ∷ ages) [] = []
-fresh limit (age ∷ ages) (i ∷ is) = if is_fresh limit (Some age) then i ∷ fresh limit ages is else fresh limit ages is
 
 -- the instances whose values are reported: of a running station those that are fresh, else all
 abbrev pub fresh_by : Option Figures → List Labelled → List Labelled

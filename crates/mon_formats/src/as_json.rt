@@ -1,18 +1,19 @@
 //! A report as JSON.
 
-ghost use Rattle.std.specs.Prelude.{◌≡◌, ◌≤◌, ◌∷◌, ◌++◌, [], IfOk, IfSome, OnOk, codes, false, map, option_map, true};
+ghost use Rattle.std.specs.Prelude.{◌≡◌, ◌≤◌, ◌∷◌, ◌++◌, [], IfOk, IfSome, OnOk, codes, false, map, option_map, slice_get, true};
 ghost use Rattle.hex.specs.Hex.{encode_lower};
 ghost use Rattle.serde_json.specs.Data.{array, depth, no_members, object, put as with_member, string};
 ghost use Rattle.serde_json.specs.Read.{max_depth};
 ghost use Rattle.serde_json.specs.View.{view, items_of, members_view};
 ghost use Rattle.serde_json.specs.Written.{comma_if, compact_text, has_float, items_text, members_text};
-ghost use Rattle.mon_page.specs.Cells.{rate_of};
-ghost use Rattle.mon_formats.specs.Json.{exact, exact_signed, sample_data, raised_data, alarm_data, rate_data, totals_data, age_data, debt_data, target_data, refusal_data, station_data, station_member, entry_data, report_data, json_report, ReadsAsReport};
+ghost use Rattle.mon_page.specs.Cells.{fresh_rate};
+ghost use Rattle.mon_page.specs.Freshness.{fresh_at, is_fresh};
+ghost use Rattle.mon_formats.specs.Json.{exact, exact_signed, sample_data, raised_data, alarm_data, exact_or_null, totals_data, age_data, debt_data, target_data, refusal_data, station_data, station_member, or_fresh, fresh_rules, with_stale, entry_members, entry_data, entries_data, report_data, json_report, ReadsAsReport};
 ghost use Rattle.mon_formats.specs.Sound.{IsSound};
 
 use crate::cells::count_samples;
 use mon_alarms::{AlarmState, Rule, state};
-use mon_page::{Figures, TargetFigures};
+use mon_page::{Figures, TargetFigures, fresh_rate, is_fresh};
 use mon_report::Entry;
 use mon_sample::Sample;
 use mon_smi::NameTexts;
@@ -21,6 +22,13 @@ use std::alloc::{AllocError, Global};
 
 /// The largest whole number that is written as a number: readers that keep numbers as floats of 64 bits have it exactly.
 const LARGEST_NUMBER: u64 = 1 << 53;
+
+/// An instance, and of a running station whether it is fresh.
+#[derive(Clone, Copy)]
+struct Seen<'a, 'e> {
+    instance: &'a Entry<'e>,
+    fresh: Option<bool>,
+}
 
 /// The report as JSON (RFC 8259), on one line.
 pub(crate) fn json_report<S: NameTexts>(
@@ -51,7 +59,7 @@ fn put_report<S: NameTexts>(
     ensures sound { OnOk result (IsSound (report_data (S.shown names.now) entries.now (option_map (λ f. f.now) station.entry))) }
 {
     text.extend_from_slice(b"{\"instances\":[")?;
-    put_instances(alloc, text, names, entries)?;
+    put_instances(alloc, text, names, entries, station)?;
     put_value(
         alloc,
         text,
@@ -88,16 +96,35 @@ fn put_instances<S: NameTexts>(
     text: &mut Vec<u8>,
     names: &S,
     entries: &[Entry],
+    station: Option<&Figures>,
 ) -> Result<(), AllocError>
-    ensures text { OnOk result (text.new.items ≡ text.old.items ++ items_text false (items_of (map (entry_data (S.shown names.now)) entries.now))) }
-    ensures sound { OnOk result (IsSound (array (items_of (map (entry_data (S.shown names.now)) entries.now)))) }
+    ensures text { OnOk result (text.new.items ≡ text.old.items ++ items_text false (items_of (entries_data (S.shown names.now) (option_map (λ f. f.now) station.entry) 0 entries.now))) }
+    ensures sound { OnOk result (IsSound (array (items_of (entries_data (S.shown names.now) (option_map (λ f. f.now) station.entry) 0 entries.now)))) }
 {
     let mut later = false;
-    for entry in entries {
-        put_instance(alloc, text, names, entry, later)?;
+    for (place, instance) in entries.iter().enumerate() {
+        let fresh = fresh_at(station, place);
+        put_instance(alloc, text, names, Seen { instance, fresh }, later)?;
         later = true;
     }
     text.extend_from_slice(b"]")
+}
+
+/// Returns whether the instance at this place is fresh. Returns `None` without a station.
+fn fresh_at(station: Option<&Figures>, place: usize) -> Option<bool>
+    ensures { result ≡ fresh_at (option_map (λ f. f.now) station.entry) place }
+{
+    match station {
+        None => None,
+        Some(figures) => Some(is_fresh_in(figures, place)),
+    }
+}
+
+/// Returns `true` if the instance at this place is fresh.
+fn is_fresh_in(figures: &Figures, place: usize) -> bool
+    ensures { result ≡ is_fresh figures.now.stale_after (slice_get figures.now.ages.items place) }
+{
+    is_fresh(figures.stale_after, figures.ages.get(place).copied())
 }
 
 /// Adds an instance, behind a comma where another stands before it.
@@ -105,18 +132,13 @@ fn put_instance<S: NameTexts>(
     alloc: Global,
     text: &mut Vec<u8>,
     names: &S,
-    entry: &Entry,
+    seen: Seen,
     later: bool,
 ) -> Result<(), AllocError>
-    ensures text { OnOk result (text.new.items ≡ text.old.items ++ (comma_if later ++ compact_text (entry_data (S.shown names.now) entry.now))) }
-    ensures sound { OnOk result (IsSound (entry_data (S.shown names.now) entry.now)) }
+    ensures text { OnOk result (text.new.items ≡ text.old.items ++ (comma_if later ++ compact_text (entry_data (S.shown names.now) seen.entry.fresh seen.entry.instance.now))) }
+    ensures sound { OnOk result (IsSound (entry_data (S.shown names.now) seen.entry.fresh seen.entry.instance.now)) }
 {
-    put_value(
-        alloc,
-        text,
-        comma(later),
-        &entry_value(alloc, names, entry)?,
-    )
+    put_value(alloc, text, comma(later), &entry_value(alloc, names, seen)?)
 }
 
 /// The comma between two values; nothing before the first.
@@ -186,6 +208,13 @@ fn put_station(
         "incarnation",
         Value::from(figures.incarnation),
     )?;
+    put(members, alloc, "number", Value::from(figures.station))?;
+    put(
+        members,
+        alloc,
+        "round_at",
+        round_at_value(alloc, figures.round_at)?,
+    )?;
     put_exact(alloc, members, "round_ms", u128::from(figures.round_ms))?;
     put_exact(alloc, members, "strangers", u128::from(figures.strangers))?;
     put_exact(alloc, members, "taken", u128::from(figures.taken))?;
@@ -195,6 +224,16 @@ fn put_station(
         "targets",
         targets_value(alloc, figures.targets.as_slice())?,
     )
+}
+
+/// When the last round ended, in seconds since 1970; null before the end of the first one.
+fn round_at_value(alloc: Global, round_at: Option<u64>) -> Result<Value, AllocError>
+    ensures { IfOk result (λ v. view v ≡ exact_or_null round_at) }
+{
+    match round_at {
+        None => Ok(Value::Null),
+        Some(seconds) => exact_value(alloc, u128::from(seconds)),
+    }
 }
 
 /// Puts a whole number into an object.
@@ -333,25 +372,52 @@ fn text_value(alloc: Global, text: &str) -> Result<Value, AllocError>
 }
 
 /// What is known of an instance, its name as it is shown.
-fn entry_value<S: NameTexts>(alloc: Global, names: &S, entry: &Entry) -> Result<Value, AllocError>
-    ensures { IfOk result (λ v. view v ≡ entry_data (S.shown names.now) entry.now) }
+fn entry_value<S: NameTexts>(alloc: Global, names: &S, seen: Seen) -> Result<Value, AllocError>
+    ensures { IfOk result (λ v. view v ≡ entry_data (S.shown names.now) seen.entry.fresh seen.entry.instance.now) }
 {
     let mut members = Map::new(alloc);
-    put_entry(alloc, &mut members, names, entry)?;
+    let fresh = or_fresh(seen.fresh);
+    put_entry(alloc, &mut members, names, seen.instance, fresh)?;
+    put_stale(alloc, &mut members, seen.fresh)?;
     Ok(Value::Object(members))
 }
 
-/// Puts what is known of an instance into an object without members.
+/// Returns `true` without a station, and of a fresh instance.
+fn or_fresh(fresh: Option<bool>) -> bool
+    ensures { result ≡ or_fresh fresh }
+{
+    match fresh {
+        None => true,
+        Some(fresh) => fresh,
+    }
+}
+
+/// Puts whether an instance of a running station is stale into an object.
+fn put_stale(
+    alloc: Global,
+    members: &mut Map<String, Value>,
+    fresh: Option<bool>,
+) -> Result<(), AllocError>
+    ensures { OnOk result (members_view members.new.entries ≡ with_stale fresh (members_view members.old.entries)) }
+{
+    match fresh {
+        None => Ok(()),
+        Some(fresh) => put(members, alloc, "stale", Value::from(!fresh)),
+    }
+}
+
+/// Puts what is known of an instance, fresh or stale, into an object without members.
 fn put_entry<S: NameTexts>(
     alloc: Global,
     members: &mut Map<String, Value>,
     names: &S,
     entry: &Entry,
+    fresh: bool,
 ) -> Result<(), AllocError>
     requires { members_view members.old.entries ≡ no_members }
-    ensures { OnOk result (object (members_view members.new.entries) ≡ entry_data (S.shown names.now) entry.now) }
+    ensures { OnOk result (members_view members.new.entries ≡ entry_members (S.shown names.now) fresh entry.now) }
 {
-    put(members, alloc, "alarms", alarms_value(alloc, entry)?)?;
+    put(members, alloc, "alarms", alarms_value(alloc, entry, fresh)?)?;
     put(
         members,
         alloc,
@@ -363,7 +429,7 @@ fn put_entry<S: NameTexts>(
         members,
         alloc,
         "rate_thousandths",
-        rate_value(alloc, entry)?,
+        rate_value(alloc, entry, fresh)?,
     )?;
     put(
         members,
@@ -381,10 +447,13 @@ fn name_value<S: NameTexts>(alloc: Global, names: &S, entry: &Entry) -> Result<V
     Ok(Value::String(names.text(alloc, entry.name())?))
 }
 
-/// The array of the alarms of an instance.
-fn alarms_value(alloc: Global, entry: &Entry) -> Result<Value, AllocError>
-    ensures { IfOk result (λ v. view v ≡ array (items_of (map (alarm_data entry.now.items) entry.now.rules))) }
+/// The array of the alarms of an instance; of a stale one it is empty.
+fn alarms_value(alloc: Global, entry: &Entry, fresh: bool) -> Result<Value, AllocError>
+    ensures { IfOk result (λ v. view v ≡ array (items_of (map (alarm_data entry.now.items) (fresh_rules fresh entry.now.rules)))) }
 {
+    if !fresh {
+        return rules_value(alloc, entry.samples(), &[]);
+    }
     let rules = entry.rules(alloc)?;
     rules_value(alloc, entry.samples(), rules.as_slice())
 }
@@ -500,11 +569,11 @@ fn put_sample(
     )
 }
 
-/// The rate of an instance in thousandths; null if there is none.
-fn rate_value(alloc: Global, entry: &Entry) -> Result<Value, AllocError>
-    ensures { IfOk result (λ v. view v ≡ rate_data (rate_of entry.now.items)) }
+/// The rate of an instance in thousandths; null if there is none, and of a stale instance.
+fn rate_value(alloc: Global, entry: &Entry, fresh: bool) -> Result<Value, AllocError>
+    ensures { IfOk result (λ v. view v ≡ exact_or_null (fresh_rate fresh entry.now.items)) }
 {
-    match entry.totals().thousandths() {
+    match fresh_rate(entry, fresh) {
         None => Ok(Value::Null),
         Some(rate) => exact_value(alloc, rate),
     }

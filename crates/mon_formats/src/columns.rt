@@ -6,7 +6,7 @@ ghost use Rattle.mon_page.specs.Cells.{newest_of, rate_of, value_cell, rate_cell
 ghost use Rattle.mon_formats.specs.Columns.{to_right, to_left, widths_of, title_cells, title_line, row_cells, row_line, engine_line, engine_if_new, rows_from, count_line, columns_report, age_if, age_title, down_if, down_line, place_text, reason_text, silence_text, table_text};
 
 use crate::cells::count_samples;
-use mon_page::{Figures, TargetFigures, alarm_cell};
+use mon_page::{Figures, TargetFigures, fresh_rate, is_fresh, state_cell};
 use mon_report::{Entry, write_rate};
 use mon_sample::Sample;
 use mon_smi::NameTexts;
@@ -21,13 +21,14 @@ struct Widths {
     rate: usize,
 }
 
-/// How wide a row's columns are, and the age of its instance.
+/// How wide a row's columns are, and the age of its instance, which is fresh or stale.
 #[derive(Clone, Copy)]
 struct Shape {
     widths: Widths,
     /// Says whether there is a column of ages.
     is_aged: bool,
     age: Option<u32>,
+    is_fresh: bool,
 }
 
 /// Instances, and in how many rounds each had no new sample.
@@ -35,6 +36,8 @@ struct Shape {
 struct Listing<'a, 'e> {
     entries: &'a [Entry<'e>],
     ages: &'a [u32],
+    /// From which age on an instance is stale.
+    limit: u32,
 }
 
 /// The report as a table.
@@ -67,7 +70,11 @@ fn put_report<S: NameTexts>(
 ) -> Result<(), AllocError>
     ensures { OnOk result (string_bytes text.new ≡ string_bytes text.old ++ columns_report (S.shown names.now) entries.now (option_map (λ f. f.now) station.entry)) }
 {
-    let listing = Listing { entries, ages: &[] };
+    let listing = Listing {
+        entries,
+        ages: &[],
+        limit: 0,
+    };
     match station {
         None => put_table(alloc, text, names, listing, false),
         Some(figures) => put_running(alloc, text, names, listing, figures),
@@ -82,10 +89,11 @@ fn put_running<S: NameTexts>(
     listing: Listing,
     figures: &Figures,
 ) -> Result<(), AllocError>
-    ensures { OnOk result (string_bytes text.new ≡ string_bytes text.old ++ (table_text (S.shown names.now) true figures.now.ages.items listing.entry.entries.now ++ flat_map down_if figures.now.targets.items)) }
+    ensures { OnOk result (string_bytes text.new ≡ string_bytes text.old ++ (table_text (S.shown names.now) true figures.now.stale_after figures.now.ages.items listing.entry.entries.now ++ flat_map down_if figures.now.targets.items)) }
 {
     let aged = Listing {
         ages: figures.ages.as_slice(),
+        limit: figures.stale_after,
         ..listing
     };
     put_table(alloc, text, names, aged, true)?;
@@ -101,12 +109,13 @@ fn put_table<S: NameTexts>(
     listing: Listing,
     is_aged: bool,
 ) -> Result<(), AllocError>
-    ensures { OnOk result (string_bytes text.new ≡ string_bytes text.old ++ table_text (S.shown names.now) is_aged listing.entry.ages.now listing.entry.entries.now) }
+    ensures { OnOk result (string_bytes text.new ≡ string_bytes text.old ++ table_text (S.shown names.now) is_aged listing.entry.limit listing.entry.ages.now listing.entry.entries.now) }
 {
     let shape = Shape {
         widths: widths_of(alloc, listing.entries)?,
         is_aged,
         age: None,
+        is_fresh: true,
     };
     put_title(alloc, text, shape)?;
     put_rows(alloc, text, names, listing, shape)?;
@@ -204,7 +213,7 @@ fn value_width(alloc: Global, entry: &Entry) -> Result<usize, AllocError>
 fn rate_width(alloc: Global, entry: &Entry) -> Result<usize, AllocError>
     ensures { IfOk result (λ width. width ≡ length (rate_cell (rate_of entry.now.items))) }
 {
-    Ok(rate_cell(alloc, entry)?.len())
+    Ok(rate_cell(alloc, entry.totals().thousandths())?.len())
 }
 
 /// Adds the line of the columns' titles.
@@ -265,13 +274,19 @@ fn put_rows<S: NameTexts>(
     listing: Listing,
     shape: Shape,
 ) -> Result<(), AllocError>
-    ensures { OnOk result (string_bytes text.new ≡ string_bytes text.old ++ rows_from shape.widths (S.shown names.now) shape.is_aged listing.entry.ages.now 0 None listing.entry.entries.now) }
+    ensures { OnOk result (string_bytes text.new ≡ string_bytes text.old ++ rows_from shape.widths (S.shown names.now) shape.is_aged listing.entry.limit listing.entry.ages.now 0 None listing.entry.entries.now) }
 {
     let mut before: Option<&[u8]> = None;
     for (place, entry) in listing.entries.iter().enumerate() {
         let age = age_at(listing.ages, place);
+        let fresh = is_fresh(listing.limit, age);
         put_engine_if_new(alloc, text, before, entry.engine())?;
-        put_row(alloc, text, names, entry, Shape { age, ..shape })?;
+        let aged = Shape {
+            age,
+            is_fresh: fresh,
+            ..shape
+        };
+        put_row(alloc, text, names, entry, aged)?;
         before = Some(entry.engine());
     }
     Ok(())
@@ -316,9 +331,9 @@ fn put_row<S: NameTexts>(
     entry: &Entry,
     shape: Shape,
 ) -> Result<(), AllocError>
-    ensures { OnOk result (string_bytes text.new ≡ string_bytes text.old ++ row_line shape.widths (S.shown names.now) shape.is_aged shape.age entry.now) }
+    ensures { OnOk result (string_bytes text.new ≡ string_bytes text.old ++ row_line shape.widths (S.shown names.now) shape.is_aged shape.is_fresh shape.age entry.now) }
 {
-    put_cells(alloc, text, shape.widths, entry)?;
+    put_cells(alloc, text, shape, entry)?;
     put_age(alloc, text, shape)?;
     put_name(alloc, text, names, entry)?;
     text.push_str("\n")
@@ -341,14 +356,15 @@ fn put_name<S: NameTexts>(
 fn put_cells(
     alloc: Global,
     text: &mut String,
-    widths: Widths,
+    shape: Shape,
     entry: &Entry,
 ) -> Result<(), AllocError>
-    ensures { OnOk result (string_bytes text.new ≡ string_bytes text.old ++ row_cells widths entry.now) }
+    ensures { OnOk result (string_bytes text.new ≡ string_bytes text.old ++ row_cells shape.widths shape.is_fresh entry.now) }
 {
-    put_value(alloc, text, widths.value, entry)?;
-    put_rate(alloc, text, widths.rate, entry)?;
-    put_left(alloc, text, 6, alarm_cell(alloc, entry)?)?;
+    put_value(alloc, text, shape.widths.value, entry)?;
+    let rate = fresh_rate(entry, shape.is_fresh);
+    put_rate(alloc, text, shape.widths.rate, rate)?;
+    put_left(alloc, text, 6, state_cell(alloc, entry, shape.is_fresh)?)?;
     put_samples(alloc, text, entry.samples())
 }
 
@@ -365,11 +381,16 @@ fn put_value(
     put_right(alloc, text, width, cell.as_str())
 }
 
-/// Adds the cell of an instance's rate.
-fn put_rate(alloc: Global, text: &mut String, width: usize, entry: &Entry) -> Result<(), AllocError>
-    ensures { OnOk result (string_bytes text.new ≡ string_bytes text.old ++ to_right width (rate_cell (rate_of entry.now.items))) }
+/// Adds the cell of a rate in thousandths.
+fn put_rate(
+    alloc: Global,
+    text: &mut String,
+    width: usize,
+    rate: Option<u128>,
+) -> Result<(), AllocError>
+    ensures { OnOk result (string_bytes text.new ≡ string_bytes text.old ++ to_right width (rate_cell rate)) }
 {
-    let cell = rate_cell(alloc, entry)?;
+    let cell = rate_cell(alloc, rate)?;
     put_right(alloc, text, width, cell.as_str())
 }
 
@@ -407,11 +428,11 @@ fn value_cell(alloc: Global, samples: &[Sample]) -> Result<String, AllocError>
     newest.number().to_string(alloc)
 }
 
-/// Writes an instance's rate with three digits after the point; a dash if there is none.
-fn rate_cell(alloc: Global, entry: &Entry) -> Result<String, AllocError>
-    ensures { IfOk result (λ text. string_bytes text ≡ rate_cell (rate_of entry.now.items)) }
+/// Writes a rate in thousandths with three digits after the point; a dash if there is none.
+fn rate_cell(alloc: Global, rate: Option<u128>) -> Result<String, AllocError>
+    ensures { IfOk result (λ text. string_bytes text ≡ rate_cell rate) }
 {
-    match entry.totals().thousandths() {
+    match rate {
         None => String::from_str(alloc, "-"),
         Some(rate) => rate_text(alloc, rate),
     }

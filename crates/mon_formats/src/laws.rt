@@ -1,6 +1,6 @@
 //! Laws of the formats. Each is a function that does nothing.
 
-ghost use Rattle.std.specs.Prelude.{◌≡◌, ◌<◌, ◌^◌, ◌∷◌, ◌++◌, List, ℕ, All, Option, Some, length};
+ghost use Rattle.std.specs.Prelude.{◌≡◌, ◌<◌, ◌^◌, ◌∷◌, ◌++◌, Bool, List, ℕ, All, Option, Some, length};
 ghost use Rattle.std.specs.List.{flat_map};
 ghost use Rattle.mon_oid.specs.Oid.{dotted};
 ghost use Rattle.mon_board.specs.Watch.{Watch};
@@ -39,8 +39,8 @@ pub fn label_read_back()
     ensures { (value rest : List ℕ) → read_value (flat_map escaped value ++ 34 ∷ rest) ≡ Some (value, rest) }
 {}
 
-/// In a table the names begin in one column, that of their title, where no instance has ten million samples.
+/// In a table the names of fresh and of stale instances begin in one column, that of their title, where no instance has ten million samples.
 pub fn names_in_one_column()
-    ensures { (entries : List Entry) → All (λ e. length e.items < 10 ^ 7) entries
-        → All (λ e. length (row_cells (widths_of entries) e) ≡ length (title_cells (widths_of entries))) entries }
+    ensures { (fresh : Bool) (entries : List Entry) → All (λ e. length e.items < 10 ^ 7) entries
+        → All (λ e. length (row_cells (widths_of entries) fresh e) ≡ length (title_cells (widths_of entries))) entries }
 {}

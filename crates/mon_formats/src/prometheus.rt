@@ -5,8 +5,9 @@ ghost use Rattle.std.specs.Fmt.{signed_decimal};
 ghost use Rattle.std.specs.List.{flat_map};
 ghost use Rattle.mon_report.specs.Report.{Entry as AnEntry};
 ghost use Rattle.mon_page.specs.Cells.{newest_of, value_of, rate_of};
+ghost use Rattle.mon_page.specs.Freshness.{fresh, is_fresh};
 ghost use Rattle.mon_page.specs.Labelled.{labelled};
-ghost use Rattle.mon_formats.specs.Prometheus.{prometheus_report, ages_text, age_line, fresh, is_fresh, instances_text, metric_text, entry_lines, lines_of, counted_line, number_line, samples_line, rate_line, alarm_line, alarm_labels, state_digit, name_of, metric_line, threshold_text};
+ghost use Rattle.mon_formats.specs.Prometheus.{prometheus_report, ages_text, age_line, instances_text, metric_text, entry_lines, lines_of, counted_line, number_line, samples_line, rate_line, alarm_line, alarm_labels, state_digit, name_of, metric_line, threshold_text};
 
 mod instance;
 mod metric;
@@ -18,7 +19,7 @@ use instance::{Labelled, labels_of};
 use itoa::Buffer;
 use metric::Metric;
 use mon_alarms::{AlarmState, Rule, state};
-use mon_page::{Extras, Figures, InstanceLabels};
+use mon_page::{Extras, Figures, InstanceLabels, is_fresh};
 use mon_rates::is_counter;
 use mon_report::{Entry, write_rate};
 use mon_sample::Sample;
@@ -65,10 +66,7 @@ impl<'a, 'e> Listing<'a, 'e> {
     fn is_fresh(self, place: usize) -> bool
         ensures { result ≡ is_fresh self.entry.limit (slice_get self.entry.ages.now place) }
     {
-        match self.ages.get(place) {
-            None => true,
-            Some(age) => *age < self.limit,
-        }
+        is_fresh(self.limit, self.ages.get(place).copied())
     }
 }
 

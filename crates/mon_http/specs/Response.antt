@@ -7,8 +7,10 @@ use Rattle.mon_http.specs.declared.response.Status.TheVariants.{Success, BadRequ
 use Rattle.mon_http.specs.declared.response.Media.{Media}
 use Rattle.mon_http.specs.declared.response.Media.TheVariants.{Prometheus, Json, Html, Plain}
 use Rattle.mon_http.specs.declared.response.Head.{Head}
+use Rattle.mon_http.specs.declared.answer.LastRound.{LastRound}
 use Rattle.mon_http.specs.declared.answer.Answer.{Answer}
 use Rattle.mon_http.specs.declared.answer.Answer.TheVariants as An
+use Rattle.mon_http.specs.declared.body.Body.{Body}
 use Rattle.mon_http.specs.declared.route.Route.{Route}
 use Rattle.mon_http.specs.declared.route.Route.TheVariants.{Metrics, Report, Page, Health}
 use Rattle.mon_http.specs.declared.request.Request.{Request}
@@ -97,13 +99,39 @@ pub record Reply : Type 0 where
   pub media : Media
   pub body : List ℕ
 
+-- which round ended last, and how many whole seconds ago
+unfoldable pub round_text : LastRound → List ℕ
+round_text last = codes "round " ++ decimal last.number ++ codes " ended " ++ decimal last.seconds ++ codes " s ago\n"
+
+-- a text, and after it the last round, if there is one
+unfoldable pub text_with : List ℕ → Option LastRound → List ℕ
+text_with text None = text
+text_with text (Some last) = text ++ round_text last
+
+-- the octets of a body
+abbrev pub body_text : Body → List ℕ
+body_text body = text_with body.text.now body.last
+
+-- what is said if no round ended in time: which one ended last, if any did
+abbrev pub unhealthy_text : Option LastRound → List ℕ
+unhealthy_text None = codes "no round ended in time\n"
+unhealthy_text (Some last) = codes "no round ended in time: " ++ round_text last
+
+-- 200: rounds end in time, and this one ended last
+abbrev pub healthy_reply : LastRound → Reply
+healthy_reply last = record { status = Success; media = Plain; body = codes "ok: " ++ round_text last }
+
+-- 503: no round ended in time; this one ended last, if any did
+abbrev pub unhealthy_reply : Option LastRound → Reply
+unhealthy_reply last = record { status = ServiceUnavailable; media = Plain; body = unhealthy_text last }
+
 -- the reply that an answer means
 abbrev pub reply_of : Answer → Reply
 reply_of (An.Metrics text) = record { status = Success; media = Prometheus; body = text.now }
 reply_of (An.Report text) = record { status = Success; media = Json; body = text.now }
 reply_of (An.Page text) = record { status = Success; media = Html; body = text.now }
-reply_of An.Healthy = record { status = Success; media = Plain; body = codes "ok\n" }
-reply_of An.Unhealthy = record { status = ServiceUnavailable; media = Plain; body = codes "no round ended in time\n" }
+reply_of (An.Healthy last) = healthy_reply last
+reply_of (An.Unhealthy last) = unhealthy_reply last
 reply_of An.OutOfMemory = record { status = ServiceUnavailable; media = Plain; body = codes "out of memory\n" }
 
 -- the answer is one to a request for this route
@@ -111,8 +139,8 @@ abbrev pub fits : Route → Answer → Bool
 fits Metrics (An.Metrics _) = true
 fits Report (An.Report _) = true
 fits Page (An.Page _) = true
-fits Health An.Healthy = true
-fits Health An.Unhealthy = true
+fits Health (An.Healthy _) = true
+fits Health (An.Unhealthy _) = true
 fits _ An.OutOfMemory = true
 fits _ _ = false
 

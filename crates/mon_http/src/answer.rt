@@ -1,9 +1,19 @@
 //! What a station answers to a request.
 
 ghost use Rattle.std.specs.Prelude.{◌≡◌};
-ghost use Rattle.mon_http.specs.Response.{reply_of};
+ghost use Rattle.mon_http.specs.Response.{body_text, reply_of};
 
+use crate::body::{Body, unhealthy_body};
 use crate::response::{Media, Status};
+
+/// The last round that ended.
+#[derive(Clone, Copy)]
+pub struct LastRound {
+    /// Its number.
+    pub number: u32,
+    /// How long ago it ended, in whole seconds.
+    pub seconds: u64,
+}
 
 /// What a station answers. Each route has its own; `OutOfMemory` is for any.
 #[derive(Clone, Copy)]
@@ -14,10 +24,10 @@ pub enum Answer<'a> {
     Report(&'a [u8]),
     /// To `/`: the page.
     Page(&'a [u8]),
-    /// To `/healthz`: rounds end in time.
-    Healthy,
-    /// To `/healthz`: no round ended in time.
-    Unhealthy,
+    /// To `/healthz`: rounds end in time, and the last was this one.
+    Healthy(LastRound),
+    /// To `/healthz`: no round ended in time. The last was this one, if any ended.
+    Unhealthy(Option<LastRound>),
     /// No memory for the body.
     OutOfMemory,
 }
@@ -28,7 +38,7 @@ impl<'a> Answer<'a> {
         ensures { result ≡ (reply_of self.entry).status }
     {
         match self {
-            Answer::Unhealthy | Answer::OutOfMemory => Status::ServiceUnavailable,
+            Answer::Unhealthy(_) | Answer::OutOfMemory => Status::ServiceUnavailable,
             _ => Status::Success,
         }
     }
@@ -46,14 +56,24 @@ impl<'a> Answer<'a> {
     }
 
     /// Returns the body.
-    pub(crate) fn body(self) -> &'a [u8]
-        ensures { result.now ≡ (reply_of self.entry).body }
+    #[tactic(auto, unfolding(crate::specs::Response::text_with))]
+    pub(crate) fn body(self) -> Body<'a>
+        ensures { body_text result ≡ (reply_of self.entry).body }
     {
         match self {
-            Answer::Metrics(text) | Answer::Report(text) | Answer::Page(text) => text,
-            Answer::Healthy => b"ok\n",
-            Answer::Unhealthy => b"no round ended in time\n",
-            Answer::OutOfMemory => b"out of memory\n",
+            Answer::Metrics(text) | Answer::Report(text) | Answer::Page(text) => Body {
+                text,
+                last: None,
+            },
+            Answer::Healthy(last) => Body {
+                text: b"ok: ",
+                last: Some(last),
+            },
+            Answer::Unhealthy(last) => unhealthy_body(last),
+            Answer::OutOfMemory => Body {
+                text: b"out of memory\n",
+                last: None,
+            },
         }
     }
 }

@@ -99,7 +99,7 @@ fn response(
     };
     put_head(&mut out, &head)?;
     if request.with_body {
-        out.extend_from_slice(body)?;
+        body.put(&mut out)?;
     }
     Ok(out)
 }

@@ -5,6 +5,7 @@
 #![tactic(auto)]
 
 mod answer;
+mod body;
 mod connection;
 mod front;
 mod host;
@@ -14,7 +15,7 @@ mod response;
 mod route;
 mod step;
 
-pub use answer::Answer;
+pub use answer::{Answer, LastRound};
 pub use connection::Connection;
 pub use request::{Refusal, Request, Verdict};
 pub use response::{Media, Status};

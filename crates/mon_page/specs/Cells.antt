@@ -1,5 +1,5 @@
 -- What every format says of an instance.
-use Rattle.std.specs.Prelude.{ℕ, ℤ, List, [], ◌∷◌, ◌++◌, Option, Some, None, codes, decimal, if◌then◌else◌}
+use Rattle.std.specs.Prelude.{ℕ, ℤ, Bool, true, false, List, [], ◌∷◌, ◌++◌, Option, Some, None, codes, decimal, if◌then◌else◌}
 use Rattle.std.specs.Fmt.{signed_decimal}
 use Rattle.std.specs.List.{list_any}
 use Rattle.mon_sample.specs.Kind.{number_of}
@@ -23,6 +23,11 @@ value_of sample = number_of (kind_of sample) (sample_value sample)
 abbrev pub rate_of : List ℕ → Option ℕ
 rate_of items = thousandths (totals items)
 
+-- that rate, if the instance is fresh; a stale one has none
+abbrev pub fresh_rate : Bool → List ℕ → Option ℕ
+fresh_rate false items = None
+fresh_rate true items = rate_of items
+
 -- ---- cells, which the table and the page have alike
 -- the newest value; a dash if there is no sample
 abbrev pub value_cell : Option ℕ → List ℕ
@@ -38,6 +43,11 @@ rate_cell (Some q) = rate_text (Some q) ++ codes "/s"
 abbrev pub alarm_cell : List ℕ → List Rule → List ℕ
 alarm_cell items [] = codes "-"
 alarm_cell items (r ∷ rs) = if list_any (λ rule. is_raised (state_by rule items)) (r ∷ rs) then codes "RAISED" else codes "clear"
+
+-- what is said of an instance's alarms, if it is fresh; else that it is stale
+abbrev pub state_cell : Bool → List ℕ → List Rule → List ℕ
+state_cell false items rules = codes "stale"
+state_cell true items rules = alarm_cell items rules
 
 -- in how many rounds an instance had no new sample; a dash where that is not known
 abbrev pub age_cell : Option ℕ → List ℕ

@@ -4,4 +4,6 @@ pub mod Style
 pub mod Cells
 pub mod Plot
 pub mod Labelled
+pub mod Freshness
+pub mod Dates
 pub mod Page

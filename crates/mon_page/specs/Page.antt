@@ -1,12 +1,14 @@
 -- The page of a report: what the station says of its targets and its debts, and a row for each instance.
-use Rattle.std.specs.Prelude.{ℕ, ◌+◌, Bool, true, false, List, [], ◌∷◌, ◌++◌, Option, Some, None, codes, decimal, length, slice_get, String, string_bytes, ◌==◌, if◌then◌else◌}
+use Rattle.std.specs.Prelude.{ℕ, ◌+◌, Bool, true, false, List, [], ◌∷◌, ◌++◌, Option, Some, None, codes, decimal, length, nat_lt, slice_get, String, string_bytes, ◌==◌, if◌then◌else◌}
 use Rattle.std.specs.List.{flat_map}
 use Rattle.hex.specs.Hex.{encode_lower}
 use Rattle.mon_report.specs.Report.{Entry}
 use Rattle.mon_page.specs.declared.extras.InstanceLabels.{InstanceLabels}
 use Rattle.mon_page.specs.declared.figures.Figures.{Figures}
 use Rattle.mon_page.specs.declared.figures.TargetFigures.{TargetFigures}
-use Rattle.mon_page.specs.Cells.{newest_of, rate_of, value_cell, rate_cell, alarm_cell, age_cell}
+use Rattle.mon_page.specs.Cells.{newest_of, fresh_rate, value_cell, rate_cell, state_cell, age_cell}
+use Rattle.mon_page.specs.Dates.{date_at}
+use Rattle.mon_page.specs.Freshness.{ages_of, is_fresh, limit_of}
 use Rattle.mon_page.specs.Escape.{escaped}
 use Rattle.mon_page.specs.Between.{between}
 use Rattle.mon_page.specs.Labelled.{Labelled}
@@ -14,6 +16,16 @@ use Rattle.mon_page.specs.Plot.{plot_cell}
 use Rattle.mon_page.specs.Style.{style_text}
 
 -- ---- what the station says
+-- when the last round ended, if one did before the year 10000
+abbrev pub round_text : Option ℕ → List ℕ
+round_text None = []
+round_text (Some seconds) = if nat_lt seconds 253_402_300_800 then between (codes ", last round ") (date_at seconds) [] else []
+
+-- which station it is, in which incarnation, and when its last round ended
+unfoldable pub station_line : Figures → List ℕ
+station_line f =
+    between (codes "<p>station ") (decimal f.station) (codes ", incarnation ") ++ decimal f.incarnation ++ round_text f.round_at ++ codes "</p>\n"
+
 -- a target's state as a word, which is its class too
 abbrev pub state_word : Bool → List ℕ
 state_word true = codes "up"
@@ -42,9 +54,9 @@ target_item t = place_text t ++ since_text t ++ reason_text t.refusal ++ codes "
 unfoldable pub debt_item : ℕ × ℕ → List ℕ
 debt_item d = between (codes "<li>") (decimal d.1) (codes " samples owed to peer ") ++ between [] (decimal d.0) (codes "</li>\n")
 
--- the lines of targets and peers
+-- the line of the station, and below it those of targets and peers
 unfoldable pub station_list : Figures → List ℕ
-station_list f = codes "<ul>\n" ++ flat_map target_item f.targets.items ++ flat_map debt_item f.debts.items ++ codes "</ul>\n"
+station_list f = station_line f ++ codes "<ul>\n" ++ flat_map target_item f.targets.items ++ flat_map debt_item f.debts.items ++ codes "</ul>\n"
 
 -- nothing if there is no station
 abbrev pub station_if : Option Figures → List ℕ
@@ -91,27 +103,28 @@ unfoldable pub class_cell : List ℕ → List ℕ
 class_cell text = between (codes "<td class=\"") text (codes "\">") ++ between [] text (codes "</td>")
 
 -- the cells after the name: value, rate, alarm, and in how many rounds there was no new sample
-unfoldable pub figure_cells : Option ℕ → Entry → List ℕ
-figure_cells age e =
-    cell (value_cell (newest_of e.items)) ++ cell (rate_cell (rate_of e.items)) ++ class_cell (alarm_cell e.items e.rules) ++ cell (age_cell age)
+unfoldable pub figure_cells : Bool → Option ℕ → Entry → List ℕ
+figure_cells fresh age e =
+    cell (value_cell (newest_of e.items)) ++ cell (rate_cell (fresh_rate fresh e.items)) ++ class_cell (state_cell fresh e.items e.rules) ++ cell (age_cell age)
 
--- the row of an instance
-unfoldable pub row_text : (List ℕ → List ℕ) → Option ℕ → Labelled → List ℕ
-row_text shown age i = codes "<tr>" ++ name_cell shown i ++ figure_cells age i.0 ++ plot_cell i.0.items i.0.rules ++ codes "</tr>\n"
+-- the row of an instance that is fresh or stale, and has this age
+unfoldable pub row_text : (List ℕ → List ℕ) → Bool → Option ℕ → Labelled → List ℕ
+row_text shown fresh age i = codes "<tr>" ++ name_cell shown i ++ figure_cells fresh age i.0 ++ plot_cell i.0.items i.0.rules ++ codes "</tr>\n"
 
--- the rows of instances from a place on
-abbrev pub rows_from : (List ℕ → List ℕ) → List ℕ → ℕ → List Labelled → List ℕ
-rows_from shown ages place [] = []
-rows_from shown ages place (i ∷ is) = row_text shown (slice_get ages place) i ++ rows_from shown ages (place + 1) is
+-- the rows of instances from a place on, of which those of this age and above are stale
+abbrev pub rows_from : (List ℕ → List ℕ) → ℕ → List ℕ → ℕ → List Labelled → List ℕ
+rows_from shown limit ages place [] = []
+rows_from shown limit ages place (i ∷ is) =
+    row_text shown (is_fresh limit (slice_get ages place)) (slice_get ages place) i ++ rows_from shown limit ages (place + 1) is
 
 -- the titles of the table
 unfoldable pub table_head : List ℕ
 table_head = codes "<table>\n<thead><tr><th>Name</th><th>Value</th><th>Rate</th><th>Alarm</th><th>Age in rounds</th><th>Window</th></tr></thead>\n<tbody>\n"
 
 -- the table, and how many instances there are
-unfoldable pub table_text : (List ℕ → List ℕ) → List ℕ → List Labelled → List ℕ
-table_text shown ages instances =
-    table_head ++ rows_from shown ages 0 instances ++ between (codes "</tbody>\n</table>\n<p>") (decimal (length instances)) (codes " instances</p>\n")
+unfoldable pub table_text : (List ℕ → List ℕ) → ℕ → List ℕ → List Labelled → List ℕ
+table_text shown limit ages instances =
+    table_head ++ rows_from shown limit ages 0 instances ++ between (codes "</tbody>\n</table>\n<p>") (decimal (length instances)) (codes " instances</p>\n")
 
 -- ---- the document
 -- after how many seconds a browser loads the page again, if it is to
@@ -140,15 +153,10 @@ refresh_of (Some f) = if f.interval == 0 then None else Some f.interval
 unfoldable pub head_text : Option ℕ → List ℕ
 head_text refresh = first_lines ++ refresh_text refresh ++ title_lines ++ style_text ++ heading_lines
 
--- the ages that a station has of its instances
-abbrev pub ages_of : Option Figures → List ℕ
-ages_of None = []
-ages_of (Some f) = f.ages.items
-
 -- what follows the head: the station, and the table
 unfoldable pub body_text : (List ℕ → List ℕ) → List Labelled → Option Figures → List ℕ
 body_text shown instances station =
-    station_if station ++ table_text shown (ages_of station) instances ++ between (codes "</body>\n") (codes "</html>\n") []
+    station_if station ++ table_text shown (limit_of station) (ages_of station) instances ++ between (codes "</body>\n") (codes "</html>\n") []
 
 -- the page, of instances with their labels and what a running station says of itself
 unfoldable pub page_text : (List ℕ → List ℕ) → List Labelled → Option Figures → List ℕ

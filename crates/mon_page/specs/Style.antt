@@ -3,15 +3,15 @@ use Rattle.std.specs.Prelude.{ℕ, List, ◌++◌, codes}
 
 -- colours, by the scheme that the reader prefers
 unfoldable pub colours : List ℕ
-colours = codes ":root{color-scheme:light dark;--line:#0a58ca;--limit:#b02a37;--edge:#8886}@media (prefers-color-scheme:dark){:root{--line:#6ea8fe;--limit:#ea868f}}"
+colours = codes ":root{color-scheme:light dark;--line:#0a58ca;--limit:#b02a37;--muted:#595959;--edge:#8886}@media (prefers-color-scheme:dark){:root{--line:#6ea8fe;--limit:#ea868f;--muted:#adadad}}"
 
 -- the text and the table
 unfoldable pub layout : List ℕ
 layout = codes "body{font:16px/1.4 system-ui,sans-serif;margin:1rem;max-width:72rem}table{border-collapse:collapse;width:100%}th,td{border-top:1px solid var(--edge);padding:.25rem .5rem;text-align:left;overflow-wrap:anywhere}small{display:block;opacity:.7}"
 
--- what is down or raised, and the plots
+-- what is down, raised or stale, and the plots
 unfoldable pub marks : List ℕ
-marks = codes ".down,.RAISED{color:var(--limit);font-weight:bold}svg{display:block;width:100%;max-width:12rem;height:3rem}path{fill:none;stroke:var(--line);stroke-width:2;stroke-linecap:round;vector-effect:non-scaling-stroke}.limit{stroke:var(--limit);stroke-width:1}"
+marks = codes ".down,.RAISED{color:var(--limit);font-weight:bold}.stale{color:var(--muted);font-style:italic}svg{display:block;width:100%;max-width:12rem;height:3rem}path{fill:none;stroke:var(--line);stroke-width:2;stroke-linecap:round;vector-effect:non-scaling-stroke}.limit{stroke:var(--limit);stroke-width:1}"
 
 -- rows as blocks in a narrow window
 unfoldable pub narrow : List ℕ

@@ -3,6 +3,8 @@
 /// What a station says of itself.
 #[derive(Debug)]
 pub struct Figures {
+    /// Its number.
+    pub station: u32,
     /// How often it was started over its file.
     pub incarnation: u32,
     /// How many samples it took since its start.
@@ -15,13 +17,15 @@ pub struct Figures {
     pub failed_saves: u64,
     /// How many datagrams came since its start from an address of no target and no peer.
     pub strangers: u64,
+    /// When its last round ended, in seconds since 1970-01-01 00:00:00 UTC; `None` before the end of its first one.
+    pub round_at: Option<u64>,
     /// How long its last round took, in milliseconds.
     pub round_ms: u64,
     /// What it says of each target, in their order.
     pub targets: Vec<TargetFigures>,
     /// Of each instance, in their order, in how many rounds it had no new sample.
     pub ages: Vec<u32>,
-    /// From which age on an instance is stale: Prometheus' text leaves it out.
+    /// From which age on an instance is stale: then no format says anything of its rate and alarms.
     pub stale_after: u32,
     /// How many seconds lie between the beginnings of two rounds, at least; 0 for none.
     pub interval: u32,
@@ -31,12 +35,14 @@ pub struct Figures {
 impl Drop for Figures {
     fn drop(self) {
         let Figures {
+            station: _,
             incarnation: _,
             taken: _,
             given_up: _,
             debts: _,
             failed_saves: _,
             strangers: _,
+            round_at: _,
             round_ms: _,
             targets: _,
             ages: _,

@@ -1,11 +1,13 @@
 //! Laws over the definitions. Each is a function that does nothing; its clauses are the law.
 
-ghost use Rattle.std.specs.Prelude.{◌≡◌, ◌++◌, ℕ, List, [], Option, None, All, codes};
+ghost use Rattle.std.specs.Prelude.{◌≡◌, ◌≤◌, ◌++◌, ℕ, List, [], Option, None, Some, All, codes, false};
 ghost use Rattle.std.specs.List.{flat_map};
 ghost use Rattle.mon_report.specs.Report.{Entry};
+ghost use Rattle.mon_page.specs.Cells.{newest_of};
 ghost use Rattle.mon_page.specs.Escape.{escaped, text_read, IsLineOf, IsPlain};
+ghost use Rattle.mon_page.specs.Freshness.{is_fresh};
 ghost use Rattle.mon_page.specs.Labelled.{labelled, IsNameless};
-ghost use Rattle.mon_page.specs.Page.{label_line, page_text};
+ghost use Rattle.mon_page.specs.Page.{figure_cells, label_line, page_text};
 ghost use Rattle.mon_page.specs.declared.extras.InstanceLabels.{InstanceLabels};
 ghost use Rattle.mon_page.specs.declared.figures.Figures.{Figures};
 
@@ -22,4 +24,11 @@ pub fn escaped_texts()
 pub fn nameless_labels()
     ensures { (shown : List ℕ → List ℕ) (labels : List InstanceLabels) (entries : List Entry) (station : Option Figures) → All IsNameless labels
         → page_text shown (labelled labels entries) station ≡ page_text shown (labelled [] entries) station }
+{}
+
+/// An instance is stale if its age is at the limit or above. Its cells say no more than its newest value and its age:
+/// they are those of any other stale instance with these two, whatever rates and alarms both have.
+pub fn stale_cells()
+    ensures stale { (limit age : ℕ) → limit ≤ age → is_fresh limit (Some age) ≡ false }
+    ensures alike { (age : Option ℕ) (some other : Entry) → newest_of some.items ≡ newest_of other.items → figure_cells false age some ≡ figure_cells false age other }
 {}

@@ -8,6 +8,7 @@ pub(crate) mod cells;
 mod escape;
 mod extras;
 mod figures;
+mod freshness;
 pub mod laws;
 mod name;
 mod page;
@@ -16,7 +17,8 @@ mod rows;
 mod station;
 mod style;
 
-pub use cells::alarm_cell;
+pub use cells::state_cell;
 pub use extras::{Extras, InstanceLabels};
 pub use figures::{Figures, TargetFigures};
+pub use freshness::{fresh_rate, is_fresh};
 pub use page::page_report;

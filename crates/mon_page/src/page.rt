@@ -2,11 +2,12 @@
 
 ghost use Rattle.std.specs.Prelude.{◌≡◌, ◌++◌, IfOk, OnOk, None, Some, ◌==◌, if◌then◌else◌, option_map};
 ghost use Rattle.mon_page.specs.Labelled.{labelled};
-ghost use Rattle.mon_page.specs.Page.{refresh_text, first_lines, title_lines, heading_lines, head_text, refresh_of, ages_of, body_text, page_text};
+ghost use Rattle.mon_page.specs.Page.{refresh_text, first_lines, title_lines, heading_lines, head_text, refresh_of, body_text, page_text};
 
 use crate::escape::put_between;
 use crate::extras::Extras;
 use crate::figures::Figures;
+use crate::freshness::{ages_of, limit_of};
 use crate::rows::{Listing, put_table};
 use crate::station::put_station_if;
 use crate::style::put_style;
@@ -54,19 +55,10 @@ fn put_body<S: NameTexts>(
         entries,
         labels: extras.labels,
         ages: ages_of(extras.station),
+        limit: limit_of(extras.station),
     };
     put_table(alloc, text, names, listing)?;
     put_between(text, b"</body>\n", b"</html>\n", b"")
-}
-
-/// Returns the ages that a station has of its instances.
-fn ages_of<'a>(station: Option<&'a Figures>) -> &'a [u32]
-    ensures { result.now ≡ ages_of (option_map (λ f. f.now) station.entry) }
-{
-    match station {
-        None => &[],
-        Some(figures) => figures.ages.as_slice(),
-    }
 }
 
 /// Returns after how many seconds a browser loads the page again, or `None` if it does not.

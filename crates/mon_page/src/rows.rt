@@ -2,14 +2,16 @@
 
 ghost use Rattle.std.specs.Prelude.{◌≡◌, ◌<◌, ◌++◌, OnOk, Some, get_or, length, option_map, slice_get};
 ghost use Rattle.mon_report.specs.Report.{Entry as AnEntry};
-ghost use Rattle.mon_page.specs.Cells.{newest_of, rate_of, value_cell, rate_cell, age_cell};
+ghost use Rattle.mon_page.specs.Cells.{newest_of, value_cell, rate_cell, age_cell};
+ghost use Rattle.mon_page.specs.Freshness.{is_fresh};
 ghost use Rattle.mon_page.specs.Labelled.{labelled};
 ghost use Rattle.mon_page.specs.Plot.{plot_cell};
 ghost use Rattle.mon_page.specs.Page.{cell, class_cell, figure_cells, row_text, rows_from, table_head, table_text};
 
-use crate::cells::alarm_cell;
+use crate::cells::state_cell;
 use crate::escape::put_between;
 use crate::extras::InstanceLabels;
+use crate::freshness::{fresh_rate, is_fresh};
 use crate::name::put_name;
 use crate::plot::put_plot;
 use itoa::Buffer;
@@ -26,6 +28,8 @@ pub(crate) struct Listing<'a, 'e> {
     pub(crate) labels: &'a [InstanceLabels],
     /// Of the first instances.
     pub(crate) ages: &'a [u32],
+    /// From which age on an instance is stale.
+    pub(crate) limit: u32,
 }
 
 /// An instance with its labels and its age, if they are given.
@@ -34,20 +38,24 @@ struct Row<'a, 'e> {
     instance: &'a Entry<'e>,
     labels: Option<&'a InstanceLabels>,
     age: Option<u32>,
+    is_fresh: bool,
 }
 
 impl<'a, 'e> Listing<'a, 'e> {
-    /// Returns the instance at this place, with its labels and its age.
+    /// Returns the instance at this place, with its labels and its age, and whether it is not stale.
     fn at(self, place: usize) -> Row<'a, 'e>
         requires { place < length self.entries.now }
         ensures instance { (other : AnEntry) → result.instance.now ≡ get_or self.entry.entries.now place other }
         ensures labels { option_map (λ l. l.now) result.labels ≡ slice_get self.entry.labels.now place }
         ensures age { result.age ≡ slice_get self.entry.ages.now place }
+        ensures fresh { result.is_fresh ≡ is_fresh self.entry.limit (slice_get self.entry.ages.now place) }
     {
+        let age = self.ages.get(place).copied();
         Row {
             instance: &self.entries[place],
             labels: self.labels.get(place),
-            age: self.ages.get(place).copied(),
+            age,
+            is_fresh: is_fresh(self.limit, age),
         }
     }
 }
@@ -60,7 +68,7 @@ pub(crate) fn put_table<S: NameTexts>(
     names: &S,
     listing: Listing,
 ) -> Result<(), AllocError>
-    ensures { OnOk result (text.new.items ≡ text.old.items ++ table_text (S.shown names.now) listing.entry.ages.now (labelled listing.entry.labels.now listing.entry.entries.now)) }
+    ensures { OnOk result (text.new.items ≡ text.old.items ++ table_text (S.shown names.now) listing.entry.limit listing.entry.ages.now (labelled listing.entry.labels.now listing.entry.entries.now)) }
 {
     let mut digits = Buffer::new();
     let count = digits.format(listing.entries.len());
@@ -89,7 +97,7 @@ fn put_rows<S: NameTexts>(
     names: &S,
     listing: Listing,
 ) -> Result<(), AllocError>
-    ensures { OnOk result (text.new.items ≡ text.old.items ++ rows_from (S.shown names.now) listing.entry.ages.now 0 (labelled listing.entry.labels.now listing.entry.entries.now)) }
+    ensures { OnOk result (text.new.items ≡ text.old.items ++ rows_from (S.shown names.now) listing.entry.limit listing.entry.ages.now 0 (labelled listing.entry.labels.now listing.entry.entries.now)) }
 {
     for place in 0..listing.entries.len() {
         put_row(alloc, text, names, listing.at(place))?;
@@ -105,11 +113,11 @@ fn put_row<S: NameTexts>(
     names: &S,
     row: Row,
 ) -> Result<(), AllocError>
-    ensures { OnOk result (text.new.items ≡ text.old.items ++ row_text (S.shown names.now) row.entry.age (row.entry.instance.now, option_map (λ l. l.now) row.entry.labels)) }
+    ensures { OnOk result (text.new.items ≡ text.old.items ++ row_text (S.shown names.now) row.entry.is_fresh row.entry.age (row.entry.instance.now, option_map (λ l. l.now) row.entry.labels)) }
 {
     text.extend_from_slice(b"<tr>")?;
     put_name(alloc, text, names, row.instance, row.labels)?;
-    put_figures(alloc, text, row.instance, row.age)?;
+    put_figures(alloc, text, row)?;
     put_window(alloc, text, row.instance)?;
     text.extend_from_slice(b"</tr>\n")
 }
@@ -124,18 +132,16 @@ fn put_window(alloc: Global, text: &mut Vec<u8>, entry: &Entry) -> Result<(), Al
 
 /// Adds the cells after the name: value, rate, alarm and age.
 #[tactic(auto, unfolding(crate::specs::Page::figure_cells))]
-fn put_figures(
-    alloc: Global,
-    text: &mut Vec<u8>,
-    entry: &Entry,
-    age: Option<u32>,
-) -> Result<(), AllocError>
-    ensures { OnOk result (text.new.items ≡ text.old.items ++ figure_cells age entry.now) }
+fn put_figures(alloc: Global, text: &mut Vec<u8>, row: Row) -> Result<(), AllocError>
+    ensures { OnOk result (text.new.items ≡ text.old.items ++ figure_cells row.entry.is_fresh row.entry.age row.entry.instance.now) }
 {
-    put_value(text, entry.samples())?;
-    put_rate(alloc, text, entry)?;
-    put_class_cell(text, alarm_cell(alloc, entry)?.as_bytes())?;
-    put_age(text, age)
+    put_value(text, row.instance.samples())?;
+    put_rate(alloc, text, fresh_rate(row.instance, row.is_fresh))?;
+    put_class_cell(
+        text,
+        state_cell(alloc, row.instance, row.is_fresh)?.as_bytes(),
+    )?;
+    put_age(text, row.age)
 }
 
 /// Adds the cell of the newest value, with a dash if there is none.
@@ -156,14 +162,14 @@ fn put_number(text: &mut Vec<u8>, sample: &Sample) -> Result<(), AllocError>
     put_cell(text, digits.format(sample.number()).as_bytes())
 }
 
-/// Adds the cell of an instance's rate, with a dash if it has none.
-fn put_rate(alloc: Global, text: &mut Vec<u8>, entry: &Entry) -> Result<(), AllocError>
-    ensures { OnOk result (text.new.items ≡ text.old.items ++ cell (rate_cell (rate_of entry.now.items))) }
+/// Adds the cell of a rate in thousandths, with a dash if there is none.
+fn put_rate(alloc: Global, text: &mut Vec<u8>, rate: Option<u128>) -> Result<(), AllocError>
+    ensures { OnOk result (text.new.items ≡ text.old.items ++ cell (rate_cell rate)) }
 {
-    let Some(rate) = entry.totals().thousandths() else {
-        return put_cell(text, b"-");
-    };
-    put_thousandths(alloc, text, rate)
+    match rate {
+        None => put_cell(text, b"-"),
+        Some(rate) => put_thousandths(alloc, text, rate),
+    }
 }
 
 /// Adds the cell of a rate that there is.

@@ -1,12 +1,13 @@
 //! What a station says of its targets and its debts.
 
-ghost use Rattle.std.specs.Prelude.{◌≡◌, ◌++◌, OnOk, codes, option_map};
+ghost use Rattle.std.specs.Prelude.{◌≡◌, ◌++◌, OnOk, Some, codes, option_map};
 ghost use Rattle.std.specs.List.{flat_map};
 ghost use Rattle.mon_page.specs.Escape.{escaped};
-ghost use Rattle.mon_page.specs.Page.{state_word, reason_text, place_text, since_text, target_item, debt_item, station_list, station_if};
+ghost use Rattle.mon_page.specs.Page.{state_word, reason_text, place_text, since_text, target_item, debt_item, round_text, station_line, station_list, station_if};
 
 use crate::escape::{put_between, put_escaped};
 use crate::figures::{Figures, TargetFigures};
+use httpdate::HttpDate;
 use itoa::Buffer;
 use std::alloc::AllocError;
 
@@ -23,15 +24,50 @@ pub(crate) fn put_station_if(
     }
 }
 
-/// Adds the lines of targets and peers.
+/// Adds the line of the station, and below it those of targets and peers.
 #[tactic(auto, unfolding(crate::specs::Page::station_list))]
 fn put_station(text: &mut Vec<u8>, figures: &Figures) -> Result<(), AllocError>
     ensures { OnOk result (text.new.items ≡ text.old.items ++ station_list figures.now) }
 {
+    put_line(text, figures)?;
     text.extend_from_slice(b"<ul>\n")?;
     put_targets(text, figures.targets.as_slice())?;
     put_debts(text, figures.debts.as_slice())?;
     text.extend_from_slice(b"</ul>\n")
+}
+
+/// Adds which station it is, in which incarnation, and when its last round ended.
+#[tactic(auto, unfolding(crate::specs::Page::station_line))]
+fn put_line(text: &mut Vec<u8>, figures: &Figures) -> Result<(), AllocError>
+    ensures { OnOk result (text.new.items ≡ text.old.items ++ station_line figures.now) }
+{
+    let mut digits = Buffer::new();
+    let number = digits.format(figures.station);
+    put_between(text, b"<p>station ", number.as_bytes(), b", incarnation ")?;
+    let incarnation = digits.format(figures.incarnation);
+    text.extend_from_slice(incarnation.as_bytes())?;
+    put_round(text, figures.round_at)?;
+    text.extend_from_slice(b"</p>\n")
+}
+
+/// Adds when the last round ended, if one did before the year 10000.
+fn put_round(text: &mut Vec<u8>, round_at: Option<u64>) -> Result<(), AllocError>
+    ensures { OnOk result (text.new.items ≡ text.old.items ++ round_text round_at) }
+{
+    match round_at {
+        None => Ok(()),
+        Some(seconds) => put_date(text, seconds),
+    }
+}
+
+/// Adds the date of a second in which a round ended, if it is before the year 10000.
+fn put_date(text: &mut Vec<u8>, seconds: u64) -> Result<(), AllocError>
+    ensures { OnOk result (text.new.items ≡ text.old.items ++ round_text (Some seconds)) }
+{
+    match HttpDate::from_unix_secs(seconds) {
+        Ok(date) => put_between(text, b", last round ", &date.to_bytes(), b""),
+        Err(_) => Ok(()),
+    }
 }
 
 /// Adds a line for each target.

@@ -10,7 +10,7 @@ use std::alloc::AllocError;
 fn colours() -> &'static [u8]
     ensures { result.now ≡ colours }
 {
-    b":root{color-scheme:light dark;--line:#0a58ca;--limit:#b02a37;--edge:#8886}@media (prefers-color-scheme:dark){:root{--line:#6ea8fe;--limit:#ea868f}}"
+    b":root{color-scheme:light dark;--line:#0a58ca;--limit:#b02a37;--muted:#595959;--edge:#8886}@media (prefers-color-scheme:dark){:root{--line:#6ea8fe;--limit:#ea868f;--muted:#adadad}}"
 }
 
 /// Returns the style of the text and the table.
@@ -21,12 +21,12 @@ fn layout() -> &'static [u8]
     b"body{font:16px/1.4 system-ui,sans-serif;margin:1rem;max-width:72rem}table{border-collapse:collapse;width:100%}th,td{border-top:1px solid var(--edge);padding:.25rem .5rem;text-align:left;overflow-wrap:anywhere}small{display:block;opacity:.7}"
 }
 
-/// Returns the style of what is down or raised, and of the plots.
+/// Returns the style of what is down, raised or stale, and of the plots.
 #[tactic(auto, unfolding(crate::specs::Style::marks))]
 fn marks() -> &'static [u8]
     ensures { result.now ≡ marks }
 {
-    b".down,.RAISED{color:var(--limit);font-weight:bold}svg{display:block;width:100%;max-width:12rem;height:3rem}path{fill:none;stroke:var(--line);stroke-width:2;stroke-linecap:round;vector-effect:non-scaling-stroke}.limit{stroke:var(--limit);stroke-width:1}"
+    b".down,.RAISED{color:var(--limit);font-weight:bold}.stale{color:var(--muted);font-style:italic}svg{display:block;width:100%;max-width:12rem;height:3rem}path{fill:none;stroke:var(--line);stroke-width:2;stroke-linecap:round;vector-effect:non-scaling-stroke}.limit{stroke:var(--limit);stroke-width:1}"
 }
 
 /// Returns the style of a narrow window, where rows are blocks.

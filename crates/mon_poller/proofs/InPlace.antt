@@ -12,6 +12,7 @@ use Rattle.mon_ber.specs.Sequence.{AreSpelled}
 use Rattle.mon_pdu.specs.declared.frame.Frame.{Frame}
 use Rattle.mon_pdu.specs.declared.message.Binding.{Binding}
 use Rattle.mon_pdu.specs.Grammar.{IsBinding}
+use Rattle.mon_poller.specs.declared.poller.Offered.{Offered}
 use Rattle.mon_poller.specs.declared.target.Object.{Object}
 use Rattle.mon_poller.specs.InPlace.{IsRead, IsSampled, OffersSo, framed_pdu, given}
 use Rattle.mon_poller.specs.declared.target.Target.{Target}
@@ -156,15 +157,15 @@ pub own_stamp : (engine : List ℕ) (e b n : Value) (boots time : ℕ) → octet
 own_stamp engine e b n boots time is is2 is3 = rw (is, is2, is3) refl
 
 -- what they offer of a target whose stamp it is
-pub stamped_offers : (t : Target) (s : Stamp) (engine boots time : Value) (others : List Binding) → stamp_of_values engine boots time ≡ Some s
-    → s.engine ≡ t.engine → target_offers t (stamped engine boots time others) ≡ Ok (object_offers s t.objects others)
+pub stamped_offers : (number : ℕ) (t : Target) (s : Stamp) (engine boots time : Value) (others : List Binding) → stamp_of_values engine boots time ≡ Some s
+    → s.engine ≡ t.engine → target_offers number t (stamped engine boots time others) ≡ Ok (record { target = number; boots = s.boots; time = s.time; pairs = object_offers s t.objects others })
 unfolding target_offers stamp_and_others
-stamped_offers t s engine boots time others is own =
+stamped_offers number t s engine boots time others is own =
     let same : bytes_eq s.engine t.engine ≡ true = (bytes_eq-Decides s.engine t.engine).1 own in
     rw (is, same) refl
 
 -- what a Response without an error offers
-pub framed_answer : (t : Target) (f : Frame) (bindings : List Binding) (pairs : List (ℕ × ℕ)) → f.error_status ≡ pos 0 → have_names (poll_names t) bindings ≡ true → target_offers t bindings ≡ Ok pairs
-    → poll_answer t (framed_pdu f bindings) ≡ Ok pairs
+pub framed_answer : (number : ℕ) (t : Target) (f : Frame) (bindings : List Binding) (offered : Offered) → f.error_status ≡ pos 0 → have_names (poll_names t) bindings ≡ true
+    → target_offers number t bindings ≡ Ok offered → poll_answer number t (framed_pdu f bindings) ≡ Ok offered
 unfolding poll_answer
-framed_answer t f bindings pairs status named offers = rw (status, named, offers) refl
+framed_answer number t f bindings offered status named offers = rw (status, named, offers) refl

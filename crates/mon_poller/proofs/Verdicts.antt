@@ -1,5 +1,5 @@
 -- What a datagram is answered, and what its answer makes of the open polls.
-use Rattle.std.proofs.Common.{◌≡◌, ℕ, pos, ◌≤◌, false, List, refl, ap, ◌∙◌, arith, Result, Ok, Err, Option, Some}
+use Rattle.std.proofs.Common.{◌≡◌, ℕ, pos, ◌≤◌, false, List, sym, ap, subst, ◌∙◌, arith, Result, Ok, Err, Option, Some}
 use Rattle.std.specs.Option.{option_map}
 use Rattle.std.specs.Prelude.{nat_lt}
 use Rattle.std.proofs.lemmas.Bool.Decides.{nat_tests}
@@ -7,41 +7,22 @@ use Rattle.mon_pdu.specs.declared.message.Message.{Message}
 use Rattle.mon_pdu.specs.declared.message.Pdu.{Pdu}
 use Rattle.mon_udp.specs.declared.addr.Addr.{Addr}
 use Rattle.mon_poller.specs.declared.fault.ResponseFault.{ResponseFault}
-use Rattle.mon_poller.specs.declared.fault.ResponseFault.TheVariants.{OutOfMemory, BadMessage, Stray, WrongSource, WrongCommunity, AgentError, WrongNames, BadStamp, OtherEngine}
+use Rattle.mon_poller.specs.declared.fault.ResponseFault.TheVariants.{BadMessage}
+use Rattle.mon_poller.specs.declared.poller.Offered.{Offered}
 use Rattle.mon_poller.specs.declared.target.Target.{Target}
 use Rattle.mon_poller.specs.Fault.{response_number}
 use Rattle.mon_oid.specs.Steps.{◌>>=◌}
-use Rattle.mon_poller.specs.Gives.{or_refuse, Gives, Fails}
+use Rattle.mon_poller.specs.Gives.{or_refuse, Fails, Gives}
 use Rattle.mon_poller.specs.Polls.{Poll, Open, Polls, closed, closed_by}
 use Rattle.mon_poller.specs.Target.{target_at}
-use Rattle.mon_poller.specs.Verdict.{awaited, poll_answer, response_verdict, to_offered, ends, id_of, response_pdu}
+use Rattle.mon_poller.specs.Verdict.{awaited, poll_answer, response_verdict, ends, id_of, response_pdu}
 use Rattle.mon_poller.proofs.Steps.{fails_first}
-
--- what fails is offered of no target
-fails_offered : (e : ResponseFault) (t : ℕ) (v : Result (List (ℕ × ℕ)) ResponseFault) → Fails e v → Fails e (to_offered t v)
-fails_offered OutOfMemory t v h = tt
-fails_offered BadMessage t v h = ap (to_offered t) h
-fails_offered Stray t v h = ap (to_offered t) h
-fails_offered WrongSource t v h = ap (to_offered t) h
-fails_offered WrongCommunity t v h = ap (to_offered t) h
-fails_offered (AgentError status index) t v h = ap (to_offered t) h
-fails_offered WrongNames t v h = ap (to_offered t) h
-fails_offered BadStamp t v h = ap (to_offered t) h
-fails_offered OtherEngine t v h = ap (to_offered t) h
-
-pub gives_offered : (t : ℕ) (a v : Result (List (ℕ × ℕ)) ResponseFault) → Gives (λ p. p) a v → Gives (λ o. o) (to_offered t a) (to_offered t v)
-gives_offered t (Ok pairs) v h = ap (to_offered t) h
-gives_offered t (Err e) v h = fails_offered e t v h
-
-pub ends_offered : (t : ℕ) (a : Result (List (ℕ × ℕ)) ResponseFault) → ends (to_offered t a) ≡ ends a
-ends_offered t (Ok pairs) = refl
-ends_offered t (Err e) = refl
 
 module _ (targets : List Target) (polls : Open) (from : Addr) (read : Option Message) where
   -- no poll is responded to
   pub fails_early : (e : ResponseFault) → Fails e (awaited targets polls from read) → Fails e (response_verdict targets polls from read)
   unfolding response_verdict
-  fails_early e h = fails_first e (awaited targets polls from read) (λ found. to_offered found.0.target (poll_answer (target_at targets found.0.target) found.1)) h
+  fails_early e h = fails_first e (awaited targets polls from read) (λ found. poll_answer found.0.target (target_at targets found.0.target) found.1) h
 
   -- the datagram is not read
   not_awaited : (e : ResponseFault) → Fails e (or_refuse {E = ResponseFault} BadMessage read) → Fails e (awaited targets polls from read)
@@ -51,9 +32,15 @@ module _ (targets : List Target) (polls : Open) (from : Addr) (read : Option Mes
   pub fails_reading : (e : ResponseFault) → Fails e (or_refuse {E = ResponseFault} BadMessage read) → Fails e (response_verdict targets polls from read)
   fails_reading e h = fails_early e (not_awaited e h)
 
-  pub by_answer : (poll : Poll) (r : Pdu) → awaited targets polls from read ≡ Ok (poll, r) → response_verdict targets polls from read ≡ to_offered poll.target (poll_answer (target_at targets poll.target) r)
+  pub by_answer : (poll : Poll) (r : Pdu) → awaited targets polls from read ≡ Ok (poll, r) → response_verdict targets polls from read ≡ poll_answer poll.target (target_at targets poll.target) r
   unfolding response_verdict
-  by_answer poll r is = ap (λ a. a >>= λ found. to_offered found.0.target (poll_answer (target_at targets found.0.target) found.1)) is
+  by_answer poll r is = ap (λ a. a >>= λ found. poll_answer found.0.target (target_at targets found.0.target) found.1) is
+
+  -- what a call gave of the target of its poll is what is answered to the datagram
+  pub gives_answer : (poll : Poll) (r : Pdu) (t : Target) (answered : Result Offered ResponseFault) → awaited targets polls from read ≡ Ok (poll, r) → t ≡ target_at targets poll.target
+      → Gives (λ o. o) answered (poll_answer poll.target t r) → Gives (λ o. o) answered (response_verdict targets polls from read)
+  gives_answer poll r t answered found is given =
+      subst (λ (v : Result Offered ResponseFault). Gives (λ o. o) answered v) (sym (by_answer poll r found)) (subst (λ (x : Target). Gives (λ o. o) answered (poll_answer poll.target x r)) is given)
 
 -- a refusal up to 5 ends no poll
 pub ends_none : (A : Type 0) (e : ResponseFault) → response_number e ≤ 5 → ends {A = A} (Err e) ≡ false

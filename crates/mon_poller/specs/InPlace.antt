@@ -10,6 +10,7 @@ use Rattle.mon_pdu.specs.declared.message.Message.{Message}
 use Rattle.mon_pdu.specs.declared.message.Pdu.{Pdu}
 use Rattle.mon_pdu.specs.Grammar.{BeginsWithMessage, IsBinding}
 use Rattle.mon_udp.specs.declared.addr.Addr.{Addr}
+use Rattle.mon_poller.specs.declared.poller.Offered.{Offered}
 use Rattle.mon_poller.specs.declared.target.Object.{Object}
 use Rattle.mon_poller.specs.declared.target.Target.{Target}
 use Rattle.mon_poller.specs.Polls.{Poll, Open}
@@ -51,10 +52,10 @@ pub record OffersSo (stamp : Stamp) (objects : List Object) (list : List ℕ) (o
   pub named : have_names (flat_map object_names objects) bindings ≡ true
   pub offers : new ≡ old ++ object_offers stamp objects bindings
 
--- a datagram begins with this message, which answers the open poll and offers these pairs
-pub record IsOffered (targets : List Target) (polls : Open) (from : Addr) (octets : List ℕ) (m : Message) (pdu : Pdu) (id : ℕ) (poll : Poll) (pairs : List (ℕ × ℕ)) : Type 0 where
+-- a datagram begins with this message, which answers the open poll and offers this
+pub record IsOffered (targets : List Target) (polls : Open) (from : Addr) (octets : List ℕ) (m : Message) (pdu : Pdu) (id : ℕ) (poll : Poll) (offered : Offered) : Type 0 where
   pub begins : BeginsWithMessage octets m
   pub response : response_pdu m.body ≡ Some pdu
   pub named : pdu.request_id ≡ pos id
   pub found : awaited targets polls from (Some m) ≡ Ok (poll, pdu)
-  pub answer : poll_answer (target_at targets poll.target) pdu ≡ Ok pairs
+  pub answer : poll_answer poll.target (target_at targets poll.target) pdu ≡ Ok offered

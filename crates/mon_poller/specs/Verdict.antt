@@ -101,19 +101,19 @@ unfoldable pub object_offers : Stamp → List Object → List Binding → List (
 object_offers stamp [] bindings = []
 object_offers stamp (o ∷ os) bindings = option_to_list (option_map (λ s. (o.instance, s)) (sample_of stamp o bindings)) ++ object_offers stamp os (drop (bindings_for o.discontinuity) bindings)
 
--- what bindings with the names of a poll offer of its target: their stamp must be its engine's
-unfoldable pub target_offers : Target → List Binding → Result (List (ℕ × ℕ)) ResponseFault
-target_offers t bindings = do
+-- what bindings with the names of a poll offer of its target, which has this number: their stamp must be its engine's
+unfoldable pub target_offers : ℕ → Target → List Binding → Result Offered ResponseFault
+target_offers number t bindings = do
   stamp ← stamp_and_others bindings
   known ← need OtherEngine (bytes_eq stamp.0.engine t.engine)
-  Ok (object_offers stamp.0 t.objects stamp.1)
+  Ok (record { target = number; boots = stamp.0.boots; time = stamp.0.time; pairs = object_offers stamp.0 t.objects stamp.1 })
 
--- what a response offers of a target that it came from, or the first reason why it offers nothing
-unfoldable pub poll_answer : Target → AnyPdu → Result (List (ℕ × ℕ)) ResponseFault
-poll_answer t r = do
+-- what a response offers of a target that it came from, which has this number, or the first reason why it offers nothing
+unfoldable pub poll_answer : ℕ → Target → AnyPdu → Result Offered ResponseFault
+poll_answer number t r = do
   fine ← no_error r.error_status r.error_index
   named ← need WrongNames (have_names (poll_names t) r.bindings)
-  target_offers t r.bindings
+  target_offers number t r.bindings
 
 -- the open poll that a datagram responds to, and the Response, or the first reason why it responds to none
 unfoldable pub awaited : List Target → Open → Addr → Option Message → Result (Poll × AnyPdu) ResponseFault
@@ -125,16 +125,11 @@ awaited targets polls from read = do
   community ← need WrongCommunity (bytes_eq m.community (target_at targets poll.target).community)
   Ok (poll, r)
 
--- what a response offers, of the target of this number
-abbrev pub to_offered : ℕ → Result (List (ℕ × ℕ)) ResponseFault → Result Offered ResponseFault
-to_offered target (Ok pairs) = Ok (record { target = target; pairs = pairs })
-to_offered target (Err e) = Err e
-
 -- what is answered to a datagram: the first refusal that holds, or what it offers of its poll's target
 unfoldable pub response_verdict : List Target → Open → Addr → Option Message → Result Offered ResponseFault
 response_verdict targets polls from read = do
   found ← awaited targets polls from read
-  to_offered found.0.target (poll_answer (target_at targets found.0.target) found.1)
+  poll_answer found.0.target (target_at targets found.0.target) found.1
 
 -- a response with this answer ends its poll: it was accepted, or refused by number 6 to 9
 abbrev pub ends : {A : Type 0} → Result A ResponseFault → Bool

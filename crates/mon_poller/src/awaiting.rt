@@ -12,9 +12,8 @@ ghost use Rattle.mon_poller.specs.declared.fault.ResponseFault.TheVariants.{BadM
 use crate::fault::ResponseFault;
 use crate::finding::find;
 use crate::offers::response_pdu;
-use crate::poller::OpenPoll;
+use crate::poller::{Offered, OpenPoll};
 use crate::target::Target;
-use mon_board::Pairs;
 use mon_pdu::{Message, Pdu, read_message};
 use mon_udp::Addr;
 use slab::Slab;
@@ -67,7 +66,7 @@ pub(crate) fn find_awaited<'m>(
 }
 
 /// Returns `true` if a response with this answer ends its poll.
-pub(crate) fn ends_poll(poll_answer: &Result<Pairs, ResponseFault>) -> bool
+pub(crate) fn ends_poll(poll_answer: &Result<Offered, ResponseFault>) -> bool
     ensures { result ≡ ends poll_answer.now }
 {
     match poll_answer {

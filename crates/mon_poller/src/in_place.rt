@@ -22,7 +22,7 @@ ghost use Rattle.mon_poller.specs.Verdict.{awaited, have_names, response_pdu, ta
 use crate::asked::Asked;
 use crate::finding::find;
 use crate::lent::Stamp;
-use crate::poller::OpenPoll;
+use crate::poller::{Offered, OpenPoll};
 use crate::stamp::{discontinuity_in, octets_in, stamp_number};
 use crate::target::{Object, Target};
 use mon_ber::{Octets, Value};
@@ -42,7 +42,7 @@ pub(crate) fn in_place(
     polls: &Slab<OpenPoll>,
     from: Addr,
     octets: &[u8],
-) -> Option<(usize, OpenPoll, Pairs)>
+) -> Option<(usize, OpenPoll, Offered)>
     requires { AreSlots asked.now polls.now }
     ensures slot { IfSome result (λ r. get polls.now r.0 ≡ Some r.1) }
     ensures offered { IfSome result (λ r. (m : AnyMessage) × (pdu : AnyPdu) × IsOffered asked.now (open_of polls.now.slots) from octets.now m pdu r.1.id (poll_in r.1) r.2) }
@@ -50,13 +50,14 @@ pub(crate) fn in_place(
     let frame = read_frame(octets)?;
     let (key, poll) = framed_poll(asked.as_slice(), polls, from, &frame)?;
     let number = usize::from(poll.target);
-    let pairs = offers(
+    let offered = offers(
         alloc,
+        poll.target,
         asked.at(number),
         asked.names(number).as_slice(),
         frame.list,
     )?;
-    Some((key, poll, pairs))
+    Some((key, poll, offered))
 }
 
 /// The slot of the poll that a Response of this frame answers, and the poll. None where it answers none, or has an error-status.
@@ -102,10 +103,17 @@ struct Unread<'a> {
     list: &'a [u8],
 }
 
-/// What is offered of a target in the variable bindings of a response, which these octets spell.
-fn offers<'a>(alloc: Global, target: &Target, names: &'a [Octets], list: &'a [u8]) -> Option<Pairs>
+/// What is offered of the target of this number in the variable bindings of a response, which these
+/// octets spell.
+fn offers<'a>(
+    alloc: Global,
+    number: u16,
+    target: &Target,
+    names: &'a [Octets],
+    list: &'a [u8],
+) -> Option<Offered>
     requires { SpellNames names.now (poll_names target.now) }
-    ensures { IfSome result (λ pairs. (bindings : List AnyBinding) × AreSpelled IsBinding list.now bindings × (have_names (poll_names target.now) bindings ≡ true) × (target_offers target.now bindings ≡ Ok pairs)) }
+    ensures { IfSome result (λ o. (bindings : List AnyBinding) × AreSpelled IsBinding list.now bindings × (have_names (poll_names target.now) bindings ≡ true) × (target_offers number target.now bindings ≡ Ok o)) }
 {
     let unread = after_engine(alloc, target.engine.as_slice(), &Unread { names, list })?;
     let (boots, unread) = next_number(alloc, &unread)?;
@@ -123,7 +131,12 @@ fn offers<'a>(alloc: Global, target: &Target, names: &'a [Octets], list: &'a [u8
         &unread,
         &mut pairs,
     )?;
-    Some(pairs)
+    Some(Offered {
+        target: number,
+        boots,
+        time,
+        pairs,
+    })
 }
 
 /// The value of the next name, and what is left. None where there is none, or where its name has another spelling.

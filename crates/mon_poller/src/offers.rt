@@ -1,6 +1,6 @@
 //! What a response offers: samples of the objects that were asked for.
 
-ghost use Rattle.std.specs.Prelude.{◌≡◌, ◌∷◌, ℕ, List, drop};
+ghost use Rattle.std.specs.Prelude.{◌≡◌, ◌∷◌, ℕ, List, IfOk, drop};
 ghost use Rattle.std.specs.List.{flat_map};
 ghost use Rattle.std.specs.Option.{option_copied};
 ghost use Rattle.mon_poller.specs.Gives.{Gives};
@@ -10,13 +10,14 @@ ghost use Rattle.mon_poller.specs.Verdict.{no_error, response_pdu, have_names, h
 
 use crate::fault::ResponseFault;
 use crate::lent::Stamp;
+use crate::poller::Offered;
 use crate::stamp::{ENGINE_BOOTS, ENGINE_ID, ENGINE_TIME, discontinuity_in};
 use crate::target::{Object, Target};
 use mon_board::Pairs;
 use mon_oid::Oid;
 use mon_pdu::{Binding, Body, Pdu, PduKind};
 use mon_sample::Sample;
-use std::alloc::Global;
+use std::alloc::{AllocError, Global};
 
 /// The Response that a PDU is.
 pub(crate) fn response_pdu(body: &Body) -> Option<&Pdu>
@@ -34,17 +35,22 @@ pub(crate) fn response_pdu(body: &Body) -> Option<&Pdu>
     }
 }
 
-/// What a response offers of the target that it came from, or the first reason why it offers nothing.
+/// What a response offers of the target that it came from, which has this number, or the first reason why it offers nothing.
 #[tactic(auto, unfolding(crate::specs::Verdict::poll_answer))]
-pub(crate) fn poll_answer(alloc: Global, target: &Target, pdu: &Pdu) -> Result<Pairs, ResponseFault>
-    ensures { Gives (λ p. p) result (poll_answer target.now pdu.now) }
+pub(crate) fn poll_answer(
+    alloc: Global,
+    number: u16,
+    target: &Target,
+    pdu: &Pdu,
+) -> Result<Offered, ResponseFault>
+    ensures { Gives (λ o. o) result (poll_answer number target.now pdu.now) }
 {
     require_no_error(pdu)?;
     let bindings = pdu.bindings.as_slice();
     if !have_names(target, bindings) {
         return Err(ResponseFault::WrongNames);
     }
-    target_offers(alloc, target, bindings)
+    target_offers(alloc, number, target, bindings)
 }
 
 /// Requires error-status 0.
@@ -57,20 +63,27 @@ fn require_no_error(pdu: &Pdu) -> Result<(), ResponseFault>
     Ok(())
 }
 
-/// What the bindings offer of the target, whose names they have.
+/// What the bindings offer of the target of this number, whose names they have.
 #[tactic(auto, unfolding(crate::specs::Verdict::target_offers))]
 fn target_offers(
     alloc: Global,
+    number: u16,
     target: &Target,
     bindings: &[Binding],
-) -> Result<Pairs, ResponseFault>
-    ensures { Gives (λ p. p) result (target_offers target.now bindings.now) }
+) -> Result<Offered, ResponseFault>
+    ensures { Gives (λ o. o) result (target_offers number target.now bindings.now) }
 {
     let (stamp, others) = stamp_and_others(bindings)?;
     if stamp.engine.as_slice() != target.engine.as_slice() {
         return Err(ResponseFault::OtherEngine);
     }
-    object_offers(alloc, &stamp, target.objects.as_slice(), others)
+    let pairs = object_offers(alloc, &stamp, target.objects.as_slice(), others)?;
+    Ok(Offered {
+        target: number,
+        boots: stamp.boots,
+        time: stamp.time,
+        pairs,
+    })
 }
 
 /// Returns `true` if the bindings have the names that the target is asked for, in their order.
@@ -145,8 +158,8 @@ fn object_offers(
     stamp: &Stamp<'_>,
     objects: &[Object],
     bindings: &[Binding],
-) -> Result<Pairs, ResponseFault>
-    ensures { Gives (λ p. p) result (Ok (object_offers (lent_stamp stamp.now) objects.now bindings.now)) }
+) -> Result<Pairs, AllocError>
+    ensures { IfOk result (λ pairs. pairs ≡ object_offers (lent_stamp stamp.now) objects.now bindings.now) }
 {
     let mut pairs = Pairs::new(alloc);
     let mut rest = bindings;

@@ -6,7 +6,6 @@ ghost use Rattle.mon_pdu.specs.declared.message.Message.{Message as AnyMessage};
 ghost use Rattle.mon_pdu.specs.Grammar.{BeginsWithMessage};
 ghost use Rattle.mon_poller.specs.Polls.{IsOldestAfter, no_polls, with_poll, timed};
 ghost use Rattle.mon_poller.specs.Target.{AreTargets, poll_octets, target_at};
-ghost use Rattle.mon_poller.specs.Verdict.{to_offered};
 
 use crate::asked::Asked;
 use crate::awaiting::{ends_poll, find_awaited, read};
@@ -63,6 +62,10 @@ pub enum TimedOut {
 pub struct Offered {
     /// The number of the target that was polled.
     pub target: u16,
+    /// The agent's snmpEngineBoots (RFC 3411 section 5) in the response, below 2^31.
+    pub boots: u32,
+    /// The agent's snmpEngineTime in the response, in seconds, below 2^31.
+    pub time: u32,
     /// The samples with the numbers of their instances, in the order of the target's objects.
     pub pairs: Pairs,
 }
@@ -239,12 +242,9 @@ impl Poller {
             × (self.new ≡ record self.old { polls = after_response true (Some m) self.old.polls })) }
         ensures other { IfNone result (self.new ≡ self.old) }
     {
-        let (key, poll, pairs) = in_place(alloc, &self.targets, &self.polls, from, octets)?;
+        let (key, _poll, offered) = in_place(alloc, &self.targets, &self.polls, from, octets)?;
         self.polls.remove(key);
-        Some(Offered {
-            target: poll.target,
-            pairs,
-        })
+        Some(offered)
     }
 
     /// What a message from this address offers.
@@ -259,20 +259,10 @@ impl Poller {
     {
         let (key, poll, pdu) = find_awaited(self.targets.as_slice(), &self.polls, from, message)?;
         let target = self.targets.at(usize::from(poll.target));
-        let answered = poll_answer(alloc, target, pdu);
+        let answered = poll_answer(alloc, poll.target, target, pdu);
         if ends_poll(&answered) {
             self.polls.remove(key);
         }
-        to_offered(poll.target, answered)
-    }
-}
-
-/// What was offered of the target of this number.
-fn to_offered(target: u16, answered: Result<Pairs, ResponseFault>) -> Result<Offered, ResponseFault>
-    ensures { result ≡ to_offered target answered }
-{
-    match answered {
-        Ok(pairs) => Ok(Offered { target, pairs }),
-        Err(fault) => Err(fault),
+        answered
     }
 }

@@ -4,6 +4,7 @@ ghost use Rattle.std.specs.Prelude.{◌≡◌, IfOk, IsTrue, is_some};
 ghost use Rattle.std.specs.Option.{option_copied};
 ghost use Rattle.mon_ber.specs.Grammar.{tag_of};
 ghost use Rattle.mon_poller.specs.Lent.{lent_stamp};
+ghost use Rattle.mon_reasons.specs.Words.{kind_text};
 ghost use Rattle.mon_reasons.specs.Reason.{clock_reason, discontinuity_reason, other_than, reason_in, reason_of, value_reason, value_under};
 
 use mon_ber::{Octets, Tag, Value};
@@ -140,6 +141,11 @@ pub(crate) fn other_than(
 
 /// Says why, as after `ENGINE NAME has no new sample: `.
 impl fmt::Display for Reason {
+    ghost use Rattle.std.specs.Prelude.{Some};
+    ghost use Rattle.mon_reasons.specs.Words.{reason_text};
+
+    ghost output = { λ r. Some (reason_text r) };
+
     fn fmt<W: fmt::Write>(&self, f: &mut fmt::Formatter<W>) -> fmt::Result {
         match *self {
             Reason::Value(Tag::NoSuchObject) => f.write_str("the agent has no such object"),
@@ -162,7 +168,9 @@ impl fmt::Display for Reason {
 }
 
 /// Returns the name of a kind of values (RFC 2578 section 7.1, RFC 3416 section 3).
-fn kind_name<'a>(kind: Tag) -> &'a str {
+fn kind_name<'a>(kind: Tag) -> &'a str
+    ensures { result.now ≡ kind_text kind }
+{
     match kind {
         Tag::Integer => "INTEGER",
         Tag::OctetString => "OCTET STRING",

@@ -1,4 +1,3 @@
-mod Answered
 mod Few
 mod InPlace
 mod Lent
@@ -6,6 +5,8 @@ mod Onward
 mod Notices
 mod Becoming
 mod Pushed
+mod Restarts
+mod Rows
 mod Seldom
 mod Wholly
 mod Waited

@@ -4,9 +4,10 @@ use Rattle.std.specs.Prelude.{ℕ, ◌+◌, ◌==◌, Bool, true, false, ◌||�
 use Rattle.mon_poller.specs.declared.fault.ResponseFault.TheVariants as response
 use Rattle.mon_station.specs.declared.fault.StationFault.{StationFault}
 use Rattle.mon_station.specs.declared.fault.StationFault.TheVariants as fault
+use Rattle.mon_rounds.specs.Freshness.{is_late}
 use Rattle.mon_rounds.specs.declared.changes.Change.{Change}
 use Rattle.mon_rounds.specs.declared.changes.Trouble.{Trouble}
-use Rattle.mon_rounds.specs.declared.changes.Trouble.TheVariants.{SilentTarget, OtherEngine, SilentPeer, OffersOften, StaleInstance}
+use Rattle.mon_rounds.specs.declared.changes.Trouble.TheVariants.{SilentTarget, OtherEngine, LateTarget, SilentPeer, OffersOften, StaleInstance}
 use Rattle.mon_rounds.specs.declared.changes.Troubles.{Troubles}
 use Rattle.mon_rounds.specs.declared.freshness.Freshness.{Freshness}
 use Rattle.mon_rounds.specs.declared.freshness.InstanceAge.{InstanceAge}
@@ -17,19 +18,21 @@ use Rattle.mon_rounds.specs.declared.freshness.TargetAge.{TargetAge}
 pub record Told : Type 0 where
   pub silent_targets : List Bool
   pub other_engines : List Bool
+  pub late_targets : List Bool
   pub silent_peers : List Bool
   pub often_peers : List Bool
   pub stale_instances : List Bool
 
 -- nothing is wrong
 abbrev pub no_troubles : Told
-no_troubles = record { silent_targets = []; other_engines = []; silent_peers = []; often_peers = []; stale_instances = [] }
+no_troubles = record { silent_targets = []; other_engines = []; late_targets = []; silent_peers = []; often_peers = []; stale_instances = [] }
 
 -- what was said
 abbrev pub told_by : Troubles → Told
 told_by t = record {
   silent_targets = t.silent_targets.items;
   other_engines = t.other_engines.items;
+  late_targets = t.late_targets.items;
   silent_peers = t.silent_peers.items;
   often_peers = t.often_peers.items;
   stale_instances = t.stale_instances.items;
@@ -79,6 +82,7 @@ abbrev pub troubles_after : ℕ → Told → Freshness → Told
 troubles_after limit told f = record {
   silent_targets = map is_silent f.targets.items;
   other_engines = map is_other f.targets.items;
+  late_targets = map is_late f.targets.items;
   silent_peers = map (is_lost limit) f.peers.items;
   often_peers = map offers_often f.peers.items;
   stale_instances = map (is_stale limit told.stale_instances f.targets.items) f.instances.items;
@@ -102,6 +106,7 @@ abbrev pub changes_between : Told → Told → List Change
 changes_between was is =
     changes_from SilentTarget 0 was.silent_targets is.silent_targets
     ++ changes_from OtherEngine 0 was.other_engines is.other_engines
+    ++ changes_from LateTarget 0 was.late_targets is.late_targets
     ++ changes_from SilentPeer 0 was.silent_peers is.silent_peers
     ++ changes_from OffersOften 0 was.often_peers is.often_peers
     ++ changes_from StaleInstance 0 was.stale_instances is.stale_instances

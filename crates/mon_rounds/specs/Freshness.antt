@@ -1,17 +1,22 @@
 -- How long ago targets answered, peers sent something and instances had a new sample.
-use Rattle.std.specs.Prelude.{ℕ, ◌≤◌, ◌+◌, ◌-◌, ◌/◌, ◌^◌, ◌==◌, ◌&&◌, min, nat_lt, Bool, true, false, not, ◌||◌, if◌then◌else◌, List, [], ◌∷◌, Option, Some, None, filter, get_or, length, option_map, slice_get}
-use Rattle.std.specs.List.{fold}
+use Rattle.std.specs.Prelude.{ℕ, ◌≡◌, ◌≤◌, ◌+◌, ◌-◌, ◌/◌, ◌^◌, ◌==◌, ◌&&◌, min, nat_le, nat_lt, Bool, true, false, not, ◌||◌, if◌then◌else◌, List, [], ◌∷◌, Option, Some, None, filter, get_or, length, option_map, slice_get}
+use Rattle.std.specs.List.{fold, list_any}
 use Rattle.std.specs.Str.{bytes_eq}
 use Rattle.mon_sample.specs.Record.{octets_of}
 use Rattle.mon_board.specs.Board.{Board, window_of}
 use Rattle.mon_window.specs.Top.{rising}
 use Rattle.mon_udp.specs.Addr.{same_addr}
 use Rattle.mon_udp.specs.declared.addr.Addr.{Addr}
+use Rattle.mon_station.specs.declared.event.TargetStamp.{TargetStamp}
+use Rattle.mon_poller.specs.declared.fault.ResponseFault.TheVariants.{Stray}
 use Rattle.mon_station.specs.declared.fault.StationFault.{StationFault}
+use Rattle.mon_station.specs.declared.fault.StationFault.TheVariants.{Response}
+use Rattle.mon_rounds.specs.Clock.{clock_after, no_clock}
 use Rattle.mon_rounds.specs.Course.{counted_on}
 use Rattle.mon_rounds.specs.declared.freshness.InstanceAge.{InstanceAge}
 use Rattle.mon_rounds.specs.declared.freshness.PeerAge.{PeerAge}
 use Rattle.mon_rounds.specs.declared.freshness.TargetAge.{TargetAge}
+use Rattle.mon_rounds.specs.declared.late.LateRow.{LateRow}
 use Rattle.mon_rounds.specs.declared.reporting.Notice.{Notice}
 use Rattle.mon_rounds.specs.declared.reporting.Notice.TheVariants as notice
 use Rattle.mon_rounds.specs.declared.reporting.RoundReport.{RoundReport}
@@ -34,10 +39,83 @@ abbrev pub age_after : Span → Bool → ℕ → ℕ
 age_after span true age = 0
 age_after span false age = older span age
 
+-- ---- late datagrams
+-- a row of no round
+abbrev pub no_row : LateRow
+no_row = record { rounds = 0; datagrams = 0; counted = false }
+
+-- whether a datagram was refused since it responds to no open poll
+abbrev pub is_stray : StationFault → Bool
+is_stray (Response Stray) = true
+is_stray _ = false
+
+-- whether a notice is that of a late datagram from this address: one that responds to no open poll
+abbrev pub is_late_from : Addr → Notice → Bool
+is_late_from address (notice.BadResponse from fault) = is_stray fault && same_addr from address
+is_late_from address (notice.GaveUp target) = false
+is_late_from address (notice.NotPolled target fault) = false
+is_late_from address (notice.Astray from) = false
+is_late_from address (notice.BadClaim from fault) = false
+is_late_from address (notice.NotShared peer fault) = false
+is_late_from address (notice.NotSaved n) = false
+is_late_from address (notice.NoMemory event) = false
+
+-- how many late datagrams came from this address
+abbrev pub late_from : Addr → List Notice → ℕ
+late_from address notices = length (filter (is_late_from address) notices)
+
+-- a row at the beginning of a round: it goes on if a late datagram came in the round before, or in
+-- the time after it, and else ends
+abbrev pub begun_row : LateRow → LateRow
+begun_row row = if row.counted then record { rounds = row.rounds; datagrams = row.datagrams; counted = false } else no_row
+
+-- a row with this many late datagrams more: the first ones of a round, or of the time after it, make
+-- it one round longer
+abbrev pub with_late : ℕ → LateRow → LateRow
+with_late n row =
+    if n == 0 then row
+    else record {
+      rounds = if row.counted then row.rounds else min (row.rounds + 1) (2 ^ 32 - 1);
+      datagrams = counted_on row.datagrams n;
+      counted = true;
+    }
+
+-- a row after a round, or the time after it, in which this many late datagrams came
+abbrev pub late_after : Span → ℕ → LateRow → LateRow
+late_after Round n row = with_late n (begun_row row)
+late_after (Between milliseconds) n row = with_late n row
+
+-- whether a target is late: late datagrams came from its address in three rounds one after another,
+-- or more, each with the time after it, and the row goes on
+abbrev pub is_late : TargetAge → Bool
+is_late t = nat_le 3 t.late.rounds
+
+-- a row after rounds and the spells between them, in their order, in each of which this many late
+-- datagrams came
+abbrev pub late_over : List (Span × ℕ) → LateRow → LateRow
+late_over [] row = row
+late_over ((span, n) ∷ spells) row = late_over spells (late_after span n row)
+
+-- spells between two rounds, in which no late datagram came
+abbrev pub AreQuiet : List (Span × ℕ) → Type 0
+AreQuiet [] = Unit {0}
+AreQuiet ((Round, n) ∷ spells) = ⊥
+AreQuiet ((Between milliseconds, n) ∷ spells) = (n ≡ 0) × AreQuiet spells
+
+-- how many of these are rounds
+abbrev pub rounds_in : List (Span × ℕ) → ℕ
+rounds_in [] = 0
+rounds_in ((Round, n) ∷ spells) = rounds_in spells + 1
+rounds_in ((Between milliseconds, n) ∷ spells) = rounds_in spells
+
 -- ---- targets
 -- at the station's start: nothing is known of the target of this number, at this address
 abbrev pub new_target : ℕ → Addr → TargetAge
-new_target number address = record { number = number; address = address; up = false; rounds = 0; answered = 0; given_up = 0; refusal = None }
+new_target number address = record { number = number; address = address; up = false; rounds = 0; answered = 0; given_up = 0; refusal = None; late = no_row; clock = no_clock }
+
+-- whether a response that was taken answered a poll of the target of this number
+abbrev pub has_answered : ℕ → List TargetStamp → Bool
+has_answered number answered = list_any (λ stamp. stamp.target == number) answered
 
 -- whether the last poll was answered: after a round, whether it was in that round; an answer may
 -- come later, in the time after it
@@ -82,10 +160,10 @@ refusal_after answered (Some fault) before = Some fault
 refusal_after true None before = None
 refusal_after false None before = before
 
--- a target that answered or did not, after a round, or the time after it, that has these notices
--- and ended at this time
-abbrev pub target_with : Span → Bool → List Notice → ℕ → TargetAge → TargetAge
-target_with span answered notices now t = record {
+-- a target that answered or did not, after a round, or the time after it, in which these responses
+-- were taken, that has these notices and ended at this time
+abbrev pub target_with : Span → Bool → List TargetStamp → List Notice → ℕ → TargetAge → TargetAge
+target_with span answered responses notices now t = record {
   number = t.number;
   address = t.address;
   up = up_after span answered t.up;
@@ -93,12 +171,14 @@ target_with span answered notices now t = record {
   answered = if answered then now else t.answered;
   given_up = counted_on t.given_up (gave_up_by t.number notices);
   refusal = refusal_after answered (last_refusal t.address notices) t.refusal;
+  late = late_after span (late_from t.address notices) t.late;
+  clock = clock_after t.number responses t.clock;
 }
 
 -- a target after a round, or the time after it, of which this is reported and that ended at this
 -- time
 abbrev pub target_after : Span → RoundReport → ℕ → TargetAge → TargetAge
-target_after span report now t = target_with span (get_or report.answered.items t.number false) report.notices.items now t
+target_after span report now t = target_with span (has_answered t.number report.answered.items) report.answered.items report.notices.items now t
 
 -- how many seconds before this time a target answered, or the station began
 abbrev pub seconds_since : ℕ → TargetAge → ℕ

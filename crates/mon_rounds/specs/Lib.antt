@@ -1,5 +1,6 @@
 pub mod AtSocket
 pub mod Changes
+pub mod Clock
 pub mod Polled
 pub mod Course
 pub mod Explained

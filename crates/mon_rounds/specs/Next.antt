@@ -73,7 +73,7 @@ ends_poll fault.NoMoreIncarnations = false
 -- a datagram with this answer was taken: it was handled, or ended its poll
 abbrev pub is_taken : Option Answer → Bool
 is_taken None = false
-is_taken (Some (Handled samples)) = true
+is_taken (Some (Handled samples answered)) = true
 is_taken (Some (GaveUp target)) = false
 is_taken (Some Memory) = false
 is_taken (Some (Refused f)) = ends_poll f

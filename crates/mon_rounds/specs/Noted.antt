@@ -1,6 +1,6 @@
 -- What is reported of a round to an operator.
-use Rattle.std.specs.Prelude.{ℕ, ◌-◌, ◌^◌, min, Bool, true, false, not, ◌&&◌, ◌||◌, cond, List, [], ◌∷◌, ◌++◌, Option, Some, None, filter, length, map, sum_by}
-use Rattle.std.specs.List.{list_any}
+use Rattle.std.specs.Prelude.{ℕ, ◌-◌, ◌^◌, min, Bool, true, false, not, cond, List, [], ◌∷◌, ◌++◌, Option, Some, None, filter, length, map, sum_by}
+use Rattle.std.specs.List.{flat_map, list_any}
 use Rattle.mon_rounds.specs.Order.{RoundEvent}
 use Rattle.mon_udp.specs.declared.addr.Addr.{Addr}
 use Rattle.mon_udp.specs.Addr.{same_addr}
@@ -10,6 +10,7 @@ use Rattle.mon_rounds.specs.Next.{stands_in}
 use Rattle.mon_poller.specs.declared.fault.ResponseFault.TheVariants.{WrongSource}
 use Rattle.mon_station.specs.declared.fault.StationFault.{StationFault}
 use Rattle.mon_station.specs.declared.fault.StationFault.TheVariants.{Response}
+use Rattle.mon_station.specs.declared.event.TargetStamp.{TargetStamp}
 use Rattle.mon_station.specs.declared.running.Answer.{Answer}
 use Rattle.mon_station.specs.declared.running.Answer.TheVariants as answer
 use Rattle.mon_station.specs.declared.event.Event.TheVariants.{StartPoll, Timeout, FromAgent, FromPeer, Share, Save}
@@ -49,14 +50,14 @@ refusal_of targets Save fault = None
 
 -- the notice of an event with this answer, if there is one
 abbrev pub notice_of : List Addr → RoundEvent → Answer → Option Notice
-notice_of targets e (answer.Handled n) = None
+notice_of targets e (answer.Handled n answered) = None
 notice_of targets e (answer.GaveUp target) = Some (notice.GaveUp target)
 notice_of targets e answer.Memory = Some (notice.NoMemory e)
 notice_of targets e (answer.Refused fault) = refusal_of targets e fault
 notice_of targets e (answer.Keeper number) = Some (notice.NotSaved number)
 
--- the notice, if there is one
-abbrev pub listed : Option Notice → List Notice
+-- what there is, as a list of one or none
+abbrev pub listed : {A : Type 0} → Option A → List A
 listed None = []
 listed (Some told) = told ∷ []
 
@@ -72,7 +73,7 @@ notices_of targets (e ∷ events) (a ∷ answers) = told_of targets e a ++ notic
 
 -- how many samples were offered in an event that was answered so
 abbrev pub samples_in : Answer → ℕ
-samples_in (answer.Handled n) = n
+samples_in (answer.Handled n answered) = n
 samples_in (answer.GaveUp target) = 0
 samples_in answer.Memory = 0
 samples_in (answer.Refused fault) = 0
@@ -123,32 +124,18 @@ abbrev pub unsaved : List Notice → ℕ
 unsaved notices = length (filter is_unsaved notices)
 
 -- ---- targets that answered
--- whether an event is a datagram from this address that is no peer's
-abbrev pub comes_from : Addr → RoundEvent → Bool
-comes_from address (FromAgent from none) = same_addr from address
-comes_from address (FromPeer from) = false
-comes_from address (StartPoll target) = false
-comes_from address (Timeout id) = false
-comes_from address (Share peer) = false
-comes_from address Save = false
+-- the target whose poll an event with this answer answered, and the stamp of the response: none where
+-- no response was taken
+abbrev pub stamp_in : Answer → Option TargetStamp
+stamp_in (answer.Handled n answered) = answered
+stamp_in (answer.GaveUp target) = None
+stamp_in answer.Memory = None
+stamp_in (answer.Refused fault) = None
+stamp_in (answer.Keeper number) = None
 
--- whether an event with this answer was handled
-abbrev pub is_handled : Answer → Bool
-is_handled (answer.Handled n) = true
-is_handled (answer.GaveUp target) = false
-is_handled answer.Memory = false
-is_handled (answer.Refused fault) = false
-is_handled (answer.Keeper number) = false
-
--- whether a response from this address was taken, in events with these answers
-abbrev pub has_answered : Addr → List RoundEvent → List Answer → Bool
-has_answered address [] answers = false
-has_answered address (e ∷ events) [] = false
-has_answered address (e ∷ events) (a ∷ answers) = (comes_from address e && is_handled a) || has_answered address events answers
-
--- of each of these targets, whether a response from its address was taken
-abbrev pub answered_of : List Addr → List RoundEvent → List Answer → List Bool
-answered_of targets events answers = map (λ address. has_answered address events answers) targets
+-- of each response that was taken, in order, the target whose poll it answered, and its stamp
+abbrev pub answered_of : List Answer → List TargetStamp
+answered_of answers = flat_map (λ a. listed (stamp_in a)) answers
 
 -- ---- peers from which something came
 -- whether an event is a datagram from this address, a peer's

@@ -3,6 +3,7 @@
 
 ghost use Rattle.std.specs.Prelude.{◌≡◌, ◌++◌, IfOk, OnErr, OnOk, [], false, get_or, map};
 ghost use Rattle.mon_rounds.specs.Changes.{answers, change_at, changes_between, changes_from, is_lost, is_other, is_silent, is_stale, no_troubles, offers_often, told_by, troubles_after};
+ghost use Rattle.mon_rounds.specs.Freshness.{is_late};
 
 use crate::freshness::{Freshness, InstanceAge, PeerAge, TargetAge};
 use mon_poller::ResponseFault;
@@ -20,6 +21,9 @@ pub enum Trouble {
     SilentTarget,
     /// A target's last response was of another engine.
     OtherEngine,
+    /// Late datagrams came from a target's address in each of the last three rounds, or in the time
+    /// after it.
+    LateTarget,
     /// Nothing came from a peer for some rounds.
     SilentPeer,
     /// A peer offered more often than once in each of the last three times between two rounds.
@@ -43,6 +47,7 @@ pub struct Change {
 pub struct Troubles {
     silent_targets: Vec<bool>,
     other_engines: Vec<bool>,
+    late_targets: Vec<bool>,
     silent_peers: Vec<bool>,
     often_peers: Vec<bool>,
     stale_instances: Vec<bool>,
@@ -54,6 +59,7 @@ impl Drop for Troubles {
         let Troubles {
             silent_targets: _,
             other_engines: _,
+            late_targets: _,
             silent_peers: _,
             often_peers: _,
             stale_instances: _,
@@ -69,6 +75,7 @@ impl Troubles {
         Troubles {
             silent_targets: Vec::new(alloc),
             other_engines: Vec::new(alloc),
+            late_targets: Vec::new(alloc),
             silent_peers: Vec::new(alloc),
             often_peers: Vec::new(alloc),
             stale_instances: Vec::new(alloc),
@@ -105,6 +112,7 @@ impl Troubles {
         Ok(Troubles {
             silent_targets: silent_targets(alloc, targets)?,
             other_engines: other_engines(alloc, targets)?,
+            late_targets: late_targets(alloc, targets)?,
             silent_peers: silent_peers(alloc, peers, limit)?,
             often_peers: often_peers(alloc, peers)?,
             stale_instances: stale_instances(alloc, freshness, said, limit)?,
@@ -123,6 +131,8 @@ impl Troubles {
         put_changes(&mut changes, Trouble::SilentTarget, was, is)?;
         let (was, is) = (self.other_engines.as_slice(), now.other_engines.as_slice());
         put_changes(&mut changes, Trouble::OtherEngine, was, is)?;
+        let (was, is) = (self.late_targets.as_slice(), now.late_targets.as_slice());
+        put_changes(&mut changes, Trouble::LateTarget, was, is)?;
         let (was, is) = (self.silent_peers.as_slice(), now.silent_peers.as_slice());
         put_changes(&mut changes, Trouble::SilentPeer, was, is)?;
         let (was, is) = (self.often_peers.as_slice(), now.often_peers.as_slice());
@@ -211,6 +221,17 @@ fn is_other(target: &TargetAge) -> bool
         Some(StationFault::Response(ResponseFault::OtherEngine)) => true,
         _ => false,
     }
+}
+
+/// Of each target, whether it is late.
+fn late_targets(alloc: Global, targets: &[TargetAge]) -> Result<Vec<bool>, AllocError>
+    ensures { IfOk result (λ v. v.items ≡ map is_late targets.now) }
+{
+    let mut late = Vec::with_capacity(alloc, targets.len())?;
+    for target in targets {
+        late.push(target.is_late())?;
+    }
+    Ok(late)
 }
 
 /// Of each peer, whether it is silent.

@@ -2,18 +2,23 @@
 
 ghost use Rattle.std.specs.Prelude.{◌≡◌, ◌≤◌, IfOk, None, get_or, false, length, map};
 ghost use Rattle.mon_rounds.specs.Course.{counted_on};
-ghost use Rattle.mon_rounds.specs.Freshness.{age_after, count_on, gave_up_by, instance_after, instance_with, is_given_up_by, is_same, last_refusal, length_after, new_instance, new_instances, new_peer, new_target, newest_on, numbered, older, peer_after, refusal_after, refusal_with, row_after, seconds_since, target_after, target_with, up_after};
+ghost use Rattle.mon_rounds.specs.Freshness.{age_after, count_on, gave_up_by, has_answered, instance_after, instance_with, is_given_up_by, is_late, is_same, last_refusal, length_after, new_instance, new_instances, new_peer, new_target, newest_on, numbered, older, peer_after, refusal_after, refusal_with, row_after, seconds_since, target_after, target_with, up_after};
 
 use crate::addresses::Addresses;
+use crate::clock::{Clock, clock_after};
+use crate::late::{LateRow, count_late, late_after};
 use crate::reporting::{Notice, RoundReport};
 use crate::round::Span;
 use mon_board::Board;
-use mon_station::StationFault;
+use mon_station::{StationFault, TargetStamp};
 use mon_udp::Addr;
 use std::alloc::{AllocError, Global};
 
 /// In how many spells between two rounds a peer sends at least if it offers more often than once.
 const OFTEN: u32 = 2;
+
+/// After how many rounds with late datagrams, one after another, a target is late.
+const LATE_ROUNDS: u32 = 3;
 
 /// How long ago a target answered, and what became of its polls.
 #[derive(Clone, Copy, Debug)]
@@ -32,9 +37,13 @@ pub struct TargetAge {
     pub answered: u64,
     /// How many of its polls were given up, at most 2^64 - 1.
     pub given_up: u64,
-    /// Why its last response was refused, if one was and no round with an answer and without a
-    /// refusal came after it.
+    /// Why the last response from its address was refused, if one was and no round with an answer of
+    /// this target and without a refusal came after it.
     pub refusal: Option<StationFault>,
+    /// The rounds, one after another, in which late datagrams came from its address.
+    pub late: LateRow,
+    /// What the responses to its polls say of its agent's clock, and of a restart in the last spell.
+    pub clock: Clock,
 }
 
 impl TargetAge {
@@ -44,6 +53,14 @@ impl TargetAge {
         ensures { result ≡ seconds_since now self.now }
     {
         now.saturating_sub(self.answered) / 1000
+    }
+
+    /// Returns `true` if late datagrams came from its address in three rounds one after another, or
+    /// more, and the row goes on.
+    pub fn is_late(&self) -> bool
+        ensures { result ≡ is_late self.now }
+    {
+        self.late.rounds >= LATE_ROUNDS
     }
 }
 
@@ -230,6 +247,8 @@ fn new_target(number: u16, address: Addr) -> TargetAge
         answered: 0,
         given_up: 0,
         refusal: None,
+        late: LateRow::new(),
+        clock: Clock::new(),
     }
 }
 
@@ -325,7 +344,7 @@ fn add_to_targets(targets: &mut [TargetAge], spell: Spell, report: &RoundReport)
 fn target_after(target: TargetAge, spell: Spell, report: &RoundReport) -> TargetAge
     ensures { result ≡ target_after spell.span report.now spell.ended target }
 {
-    let answered = has_answered(report, target.number);
+    let answered = has_answered(report.answered.as_slice(), target.number);
     let notices = report.notices.as_slice();
     let given_up = count_given_up(notices, target.number);
     TargetAge {
@@ -342,18 +361,17 @@ fn target_after(target: TargetAge, spell: Spell, report: &RoundReport) -> Target
             last_refusal(notices, target.address),
             target.refusal,
         ),
+        late: late_after(target.late, spell.span, count_late(notices, target.address)),
+        clock: clock_after(target.clock, target.number, report.answered.as_slice()),
         ..target
     }
 }
 
-/// Returns `true` if the target of this number answered.
-fn has_answered(report: &RoundReport, number: u16) -> bool
-    ensures { result ≡ get_or report.now.answered.items number false }
+/// Returns `true` if a response that was taken answered a poll of the target of this number.
+fn has_answered(answered: &[TargetStamp], number: u16) -> bool
+    ensures { result ≡ has_answered number answered.now }
 {
-    match report.answered.as_slice().get(usize::from(number)) {
-        Some(answered) => *answered,
-        None => false,
-    }
+    answered.iter().any(|stamp| stamp.target == number)
 }
 
 /// Returns `true` if the last poll was answered.

@@ -11,10 +11,12 @@
 
 mod addresses;
 mod changes;
+mod clock;
 mod course;
 mod explaining;
 mod freshness;
 mod grid;
+mod late;
 pub mod laws;
 mod polled;
 mod receiver;
@@ -26,10 +28,12 @@ mod source;
 
 pub use addresses::Addresses;
 pub use changes::{Change, Trouble, Troubles};
+pub use clock::{Clock, Restart};
 pub use course::{Course, debts_of, is_due, left_of};
 pub use explaining::explain_stale;
 pub use freshness::{Freshness, InstanceAge, PeerAge, Spell, TargetAge};
 pub use grid::{milliseconds, next_start, phase_of};
+pub use late::LateRow;
 pub use polled::polled_targets;
 pub use receiver::{Arrival, Receiver, ReceiverFault, Wait};
 pub use reporting::{Notice, RoundReport};

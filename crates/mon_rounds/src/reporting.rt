@@ -1,12 +1,12 @@
 //! What is reported of a round to an operator.
 
-ghost use Rattle.std.specs.Prelude.{◌≡◌, ◌&&◌, ◌++◌, IfOk, OnOk, map};
-ghost use Rattle.mon_rounds.specs.Noted.{answered_of, comes_from, gave_up, has_answered, heard_from, heard_of, is_from_peer, is_handled, is_stranger, is_unsaved, unsaved, notice_of, notices_of, refusal_of, response_notice, samples_taken, stranger_notice, strangers_in, told_of};
+ghost use Rattle.std.specs.Prelude.{◌≡◌, ◌++◌, IfOk, OnOk, map};
+ghost use Rattle.mon_rounds.specs.Noted.{answered_of, gave_up, heard_from, heard_of, is_from_peer, is_stranger, is_unsaved, listed, unsaved, notice_of, notices_of, refusal_of, response_notice, samples_taken, stamp_in, stranger_notice, strangers_in, told_of};
 ghost use Rattle.mon_rounds.specs.Order.{datagrams_in};
 
 use crate::round::{Round, RoundEvent};
 use mon_poller::ResponseFault;
-use mon_station::{Answer, Run, StationFault};
+use mon_station::{Answer, Run, StationFault, TargetStamp};
 use mon_udp::Addr;
 use std::alloc::{AllocError, Global};
 
@@ -49,9 +49,8 @@ pub struct RoundReport {
     pub given_up: u64,
     /// How many saves failed.
     pub failed_saves: u64,
-    /// Of each target, in order, whether a response from its address was taken. (Of two targets at
-    /// one address both count as answered.)
-    pub answered: Vec<bool>,
+    /// Of each response that was taken, in order, the target whose poll it answered, and its stamp.
+    pub answered: Vec<TargetStamp>,
     /// Of each peer, in order, whether a datagram came from its address.
     pub heard: Vec<bool>,
 }
@@ -153,7 +152,7 @@ impl RoundReport {
         ensures taken { IfOk result (λ r. r.taken ≡ samples_taken run.now.answers.items) }
         ensures given_up { IfOk result (λ r. r.given_up ≡ gave_up r.notices.items) }
         ensures failed_saves { IfOk result (λ r. r.failed_saves ≡ unsaved r.notices.items) }
-        ensures answered { IfOk result (λ r. r.answered.items ≡ answered_of round.now.targets round.now.events run.now.answers.items) }
+        ensures answered { IfOk result (λ r. r.answered.items ≡ answered_of run.now.answers.items) }
         ensures heard { IfOk result (λ r. r.heard.items ≡ heard_of round.now.peer_addresses round.now.events) }
     {
         let events = round.events();
@@ -170,7 +169,7 @@ impl RoundReport {
             taken: count_taken(answers),
             given_up,
             failed_saves,
-            answered: answered_of(alloc, round.targets(), events, answers)?,
+            answered: answered_of(alloc, answers)?,
             heard: heard_of(alloc, round.peer_addresses(), events)?,
         })
     }
@@ -182,7 +181,7 @@ fn count_taken(answers: &[Answer]) -> u64
 {
     let mut taken: u64 = 0;
     for answer in answers {
-        if let Answer::Handled(samples) = answer {
+        if let Answer::Handled { samples, .. } = answer {
             taken = taken.saturating_add(*samples);
         }
     }
@@ -231,52 +230,34 @@ fn is_unsaved(notice: Notice) -> bool
     }
 }
 
-/// Of each of these targets, whether a response from its address was taken.
-fn answered_of(
-    alloc: Global,
-    targets: &[Addr],
-    events: &[RoundEvent],
-    answers: &[Answer],
-) -> Result<Vec<bool>, AllocError>
-    ensures { IfOk result (λ v. v.items ≡ answered_of targets.now events.now answers.now) }
+/// Returns of each response that was taken the target whose poll it answered, and its stamp.
+fn answered_of(alloc: Global, answers: &[Answer]) -> Result<Vec<TargetStamp>, AllocError>
+    ensures { IfOk result (λ v. v.items ≡ answered_of answers.now) }
 {
-    let mut answered = Vec::with_capacity(alloc, targets.len())?;
-    for address in targets {
-        answered.push(has_answered(*address, events, answers))?;
+    let mut answered = Vec::new(alloc);
+    for answer in answers {
+        put_stamp(&mut answered, *answer)?;
     }
     Ok(answered)
 }
 
-/// Returns `true` if a response from this address was taken, in events with these answers.
-fn has_answered(address: Addr, events: &[RoundEvent], answers: &[Answer]) -> bool
-    ensures { result ≡ has_answered address events.now answers.now }
+/// Adds the target whose poll an event with this answer answered, and the stamp.
+fn put_stamp(answered: &mut Vec<TargetStamp>, answer: Answer) -> Result<(), AllocError>
+    ensures { OnOk result (answered.new.items ≡ answered.old.items ++ listed (stamp_in answer)) }
 {
-    for place in 0..events.len().min(answers.len()) {
-        if is_answer(address, events[place], answers[place]) {
-            return true;
-        }
+    if let Some(stamp) = stamp_in(answer) {
+        answered.push(stamp)?;
     }
-    false
+    Ok(())
 }
 
-/// Returns `true` if an event with this answer is a response from this address that was taken.
-fn is_answer(address: Addr, event: RoundEvent, answer: Answer) -> bool
-    ensures { result ≡ (comes_from address event && is_handled answer) }
+/// Returns the target whose poll an event with this answer answered, and the stamp.
+fn stamp_in(answer: Answer) -> Option<TargetStamp>
+    ensures { result ≡ stamp_in answer }
 {
-    comes_from(address, event) && is_handled(answer)
-}
-
-/// Returns `true` if an event is a datagram from this address that is no peer's.
-fn comes_from(address: Addr, event: RoundEvent) -> bool
-    ensures { result ≡ comes_from address event }
-{
-    match event {
-        RoundEvent::FromAgent(from, ()) => from == address,
-        RoundEvent::FromPeer(_)
-        | RoundEvent::StartPoll(_)
-        | RoundEvent::Timeout(_)
-        | RoundEvent::Share(_)
-        | RoundEvent::Save => false,
+    match answer {
+        Answer::Handled { answered, .. } => answered,
+        Answer::GaveUp(_) | Answer::Memory | Answer::Refused(_) | Answer::Keeper(_) => None,
     }
 }
 
@@ -317,16 +298,6 @@ fn is_from_peer(address: Addr, event: RoundEvent) -> bool
     }
 }
 
-/// Returns `true` if an event with this answer was handled.
-fn is_handled(answer: Answer) -> bool
-    ensures { result ≡ is_handled answer }
-{
-    match answer {
-        Answer::Handled(_) => true,
-        Answer::GaveUp(_) | Answer::Memory | Answer::Refused(_) | Answer::Keeper(_) => false,
-    }
-}
-
 /// Returns the notices of the events of a round with these answers.
 fn notices_of(alloc: Global, round: &Round, answers: &[Answer]) -> Result<Vec<Notice>, AllocError>
     ensures { IfOk result (λ notices. notices.items ≡ notices_of round.now.targets round.now.events answers.now) }
@@ -359,7 +330,7 @@ fn notice_of(round: &Round, event: RoundEvent, answer: Answer) -> Option<Notice>
     ensures { result ≡ notice_of round.now.targets event answer }
 {
     match answer {
-        Answer::Handled(_) => None,
+        Answer::Handled { .. } => None,
         Answer::GaveUp(target) => Some(Notice::GaveUp(target)),
         Answer::Memory => Some(Notice::NoMemory(event)),
         Answer::Refused(fault) => refused(round, event, fault),

@@ -201,13 +201,6 @@ impl Round {
         MOST_DATAGRAMS - self.datagrams
     }
 
-    /// Returns the addresses of the targets, in their order.
-    pub(crate) fn targets(&self) -> &[Addr]
-        ensures { result.now ≡ self.now.targets }
-    {
-        self.addresses.targets.as_slice()
-    }
-
     /// Returns the addresses of the peers, in their order.
     pub(crate) fn peer_addresses(&self) -> &[Addr]
         ensures { result.now ≡ self.now.peer_addresses }
@@ -493,7 +486,7 @@ fn is_taken(last: Option<Answer>) -> bool
     ensures { result ≡ is_taken last }
 {
     match last {
-        Some(Answer::Handled(_)) => true,
+        Some(Answer::Handled { .. }) => true,
         Some(Answer::Refused(StationFault::Response(fault))) => fault.number() > LAST_STRAY,
         _ => false,
     }

@@ -3,6 +3,7 @@ pub mod Counting
 pub mod Exchanged
 pub mod Groups
 pub mod Lines
+pub mod Looking
 pub mod Made
 pub mod Peers
 pub mod Percentages

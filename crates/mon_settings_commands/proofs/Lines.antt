@@ -10,7 +10,7 @@ use Rattle.mon_console.specs.Failure.{HasLine}
 of_3 : (a b c : List ℕ) → a ++ (b ++ c) ≡ a ++ b ++ c
 of_3 a b c = sym (append_assoc a b c)
 
-of_4 : (a b c d : List ℕ) → a ++ (b ++ (c ++ d)) ≡ a ++ b ++ c ++ d
+pub of_4 : (a b c d : List ℕ) → a ++ (b ++ (c ++ d)) ≡ a ++ b ++ c ++ d
 of_4 a b c d = of_3 a b (c ++ d) ∙ of_3 (a ++ b) c d
 
 of_5 : (a b c d e : List ℕ) → a ++ (b ++ (c ++ (d ++ e))) ≡ a ++ b ++ c ++ d ++ e

@@ -1,6 +1,6 @@
 -- What follows each step of the command `settings`.
-use Rattle.std.proofs.Common.{List, ℕ, string_bytes}
-use Rattle.std.specs.Global.{Global}
+use Rattle.std.proofs.Common.{List, ℕ, [], length, map, string_bytes}
+use Rattle.std.specs.Global.{Global, Vec}
 use Rattle.std.specs.Prelude.{Result, String, option_copied}
 use Rattle.mon_app.specs.Network.{Agents}
 use Rattle.mon_cli.specs.declared.meaning.SettingsArgs.{SettingsArgs}
@@ -10,6 +10,9 @@ use Rattle.mon_host.specs.Then.{Then}
 use Rattle.mon_settings_commands.specs.Appended.{AreOldLabels, IsExisting, IsLonger}
 use Rattle.mon_settings_commands.specs.Asked.{IsAsking}
 use Rattle.mon_settings_commands.specs.Command.{source}
+use Rattle.mon_settings_commands.specs.Parts.{AreAbsent, AreWritten}
+use Rattle.mon_settings_commands.specs.Settings.{AreLabels}
+use Rattle.mon_settings_commands.specs.Source.{Source}
 use Rattle.mon_settings_commands.specs.declared.asking.Survey.{Survey}
 use Rattle.mon_settings_commands.specs.declared.existing.Existing.{Existing}
 use Rattle.mon_settings_commands.specs.declared.settings.Asked.{Asked}
@@ -25,3 +28,12 @@ AfterExisting agents words asked existing = Then (AreOldLabels (option_copied wo
 
 abbrev pub AfterAlone : Agents → SettingsArgs → Asked → List ℕ → Unit {0} → List AtHost → Result Unit Failure → Type 0
 AfterAlone agents words asked path done = Then (IsExisting path) (AfterExisting agents words asked)
+
+abbrev pub AfterLabels : List ℕ → Vec (String Global) → Unit {0} → List AtHost → Result Unit Failure → Type 0
+AfterLabels folder texts done = AreWritten folder 0 (map string_bytes texts.items)
+
+abbrev pub AfterAbsent : Source → List ℕ → Vec (String Global) → Unit {0} → List AtHost → Result Unit Failure → Type 0
+AfterAbsent s folder texts done = Then (AreLabels s []) (AfterLabels folder texts)
+
+abbrev pub AfterTexts : Source → List ℕ → Vec (String Global) → List AtHost → Result Unit Failure → Type 0
+AfterTexts s folder texts = Then (AreAbsent folder 0 (length texts.items)) (AfterAbsent s folder texts)

@@ -1,11 +1,12 @@
 -- What is done step after step, where a step fails or does nothing.
-use Rattle.std.proofs.Common.{◌≡◌, List, sym, ap, inr, subst}
+use Rattle.std.proofs.Common.{◌≡◌, List, refl, sym, ap, inr, subst}
 use Rattle.std.specs.Prelude.{IsErrAnd, Option, Result, Ok, Err}
 use Rattle.mon_console.specs.declared.failure.Failure.{Failure}
-use Rattle.mon_host.proofs.Promised.{quietly, then_fails, then_follows}
+use Rattle.mon_host.proofs.Promised.{quietly, then_fails, then_follows, weaker}
 use Rattle.mon_host.specs.AtHost.{AtHost}
 use Rattle.mon_host.specs.Log.{GoesOnBy}
 use Rattle.mon_host.specs.Then.{Quietly, Then}
+use Rattle.mon_settings_commands.specs.Notes.{Surely}
 use Rattle.mon_settings_commands.specs.Source.{OrMemory}
 
 -- a failure that a `?` made
@@ -29,6 +30,12 @@ fails_quietly Gives Second failure r now is gives = fails (Quietly Gives) Second
 pub quietly_then : {A B : Type 0} → (Gives : Result A Failure → Type 0) (Second : A → List AtHost → Result B Failure → Type 0) (value : A) (result : Result B Failure)
     (now end : Option (List AtHost)) → Gives (Ok value) → GoesOnBy (λ log. Second value log result) now end → GoesOnBy (λ log. Then (Quietly Gives) Second log result) now end
 quietly_then Gives Second value result now end gives second = then_follows (Quietly Gives) Second (Ok value) result now now end (quietly Gives (Ok value) now gives) second
+
+-- a step, and then one that always succeeds
+pub then_surely : (First : List AtHost → Result (Unit {0}) Failure → Type 0) (Holds : List AtHost → Type 0) (done : Unit {0}) (before between after : Option (List AtHost))
+    → GoesOnBy (λ log. First log (Ok done)) before between → GoesOnBy Holds between after → GoesOnBy (λ log. Then First (λ d. Surely Holds) log (Ok tt)) before after
+then_surely First Holds done before between after first said = then_follows First (λ d. Surely Holds) (Ok done) (Ok tt) before between after first
+    (weaker Holds (λ log. Surely Holds log (Ok tt)) between after (λ log holds. (holds, refl)) said)
 
 -- a step that was done, or memory ran out before it
 pub or_memory : {A C : Type 0} → (Step : List C → Result A Failure → Type 0) (log : List C) (r : Result A Failure) → Step log r → OrMemory Step log r

@@ -16,6 +16,7 @@ use Rattle.mon_survey.specs.Appended.{IsAppendFault, IsAppendedText}
 use Rattle.mon_survey.specs.declared.choice.Choice.{Choice}
 use Rattle.mon_survey.specs.declared.fault.SurveyFault.{SurveyFault}
 use Rattle.mon_survey.specs.declared.options.Options.{Options}
+use Rattle.mon_settings_commands.specs.Notes.{AreSpeedsNoted, Surely}
 use Rattle.mon_settings_commands.specs.Settings.{AreLabels}
 use Rattle.mon_settings_commands.specs.Source.{IsChoice, IsOfSurvey, Source}
 use Rattle.mon_settings_commands.specs.Texts.{AreOptions, IsOfOptions}
@@ -54,5 +55,9 @@ IsAppendedOf s existing (Err failure) = IsOfOptions failure
     × IsAppendFault existing.names choice o (string_bytes existing.text) (station_view existing.station) s.survey.engine.items s.survey.answers fault)
 
 -- Labels are replaced before the longer settings are printed.
+abbrev pub IsPutLonger : Source → Existing → List ℕ → List AtHost → Result Unit Failure → Type 0
+IsPutLonger s existing old = Then (Quietly (IsAppendedOf s existing)) (λ text. Then (AreLabels s old) (λ done. IsPrint (string_bytes text)))
+
+-- after that it is said for how many of the agent's interfaces there is no threshold
 abbrev pub IsLonger : Source → Existing → List ℕ → List AtHost → Result Unit Failure → Type 0
-IsLonger s existing old = Then (Quietly (IsAppendedOf s existing)) (λ text. Then (AreLabels s old) (λ done. IsPrint (string_bytes text)))
+IsLonger s existing old = Then (IsPutLonger s existing old) (λ done. Surely (AreSpeedsNoted s))

@@ -9,6 +9,7 @@ use Rattle.mon_host.specs.Then.{Quietly, Then}
 use Rattle.mon_smi.specs.declared.definition.Definition.{Definition}
 use Rattle.mon_settings_commands.specs.Appended.{AreOldLabels, IsAlone, IsExisting, IsLonger}
 use Rattle.mon_settings_commands.specs.Asked.{IsAsked, IsAsking}
+use Rattle.mon_settings_commands.specs.Notes.{AreSpeedsNoted, Surely}
 use Rattle.mon_settings_commands.specs.Parts.{AreParts}
 use Rattle.mon_settings_commands.specs.Settings.{IsWhole}
 use Rattle.mon_settings_commands.specs.Source.{Source}
@@ -25,8 +26,12 @@ AreTextsFor s None = IsWhole s
 AreTextsFor s (Some folder) = AreParts s folder
 
 -- settings go where the arguments say: into their folder, or to standard output
+abbrev pub ArePutTexts : Source → List AtHost → Result Unit Failure → Type 0
+ArePutTexts s = AreTextsFor s (option_copied s.words.split)
+
+-- after that it is said for how many interfaces there is no threshold
 abbrev pub AreNewTexts : Source → List AtHost → Result Unit Failure → Type 0
-AreNewTexts s = AreTextsFor s (option_copied s.words.split)
+AreNewTexts s = Then (ArePutTexts s) (λ done. Surely (AreSpeedsNoted s))
 
 -- New settings: modules are read, the agent is asked, and texts are written.
 abbrev pub AreNewSettings : Agents → SettingsArgs → Asked → List AtHost → Result Unit Failure → Type 0

@@ -5,6 +5,7 @@ pub mod Engine
 pub mod Exchange
 pub mod Kinds
 pub mod Named
+pub mod Notes
 pub mod Parts
 pub mod Percent
 pub mod Refused

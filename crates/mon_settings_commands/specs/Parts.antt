@@ -1,10 +1,13 @@
 -- The settings of several stations, a file each.
-use Rattle.std.specs.Prelude.{◌≡◌, ◌⊎◌, ◌+◌, ℕ, List, [], ◌∷◌, ◌++◌, Some, Result, Ok, Err, String, codes, decimal, length, map, string_bytes}
+use Rattle.std.specs.Prelude.{◌≡◌, ◌⊎◌, ◌+◌, ℕ, zero, suc, true, false, List, [], ◌∷◌, ◌++◌, Some, Result, Ok, Err, String, codes, decimal, length, map, string_bytes}
 use Rattle.std.specs.Global.{Global, Vec}
+use Rattle.mon_app.specs.declared.fault.AppFault.TheVariants.{FileFault}
 use Rattle.mon_console.specs.Files.{IsPrint, IsWrite}
-use Rattle.mon_console.specs.Failure.{IsMemory}
+use Rattle.mon_console.specs.Failure.{IsMemory, IsOfStream, IsSaid}
 use Rattle.mon_console.specs.declared.failure.Failure.{Failure}
-use Rattle.mon_host.specs.AtHost.{AtHost}
+use Rattle.mon_faults.specs.declared.fault.Fault.TheVariants.{App}
+use Rattle.mon_host.specs.AtHost.{AtHost, Found, Unfound}
+use Rattle.mon_host.specs.Reason.{Why}
 use Rattle.mon_host.specs.Then.{Quietly, Then}
 use Rattle.mon_survey.specs.Plan.{planned_of}
 use Rattle.mon_survey.specs.declared.choice.Choice.{Choice}
@@ -17,6 +20,10 @@ use Rattle.mon_settings_commands.specs.Source.{IsChoice, IsOfSurvey, OrMemory, S
 abbrev pub part_path : List ℕ → ℕ → List ℕ
 part_path folder place = folder ++ codes "/station-" ++ decimal (place + 1) ++ codes ".toml"
 
+-- a file that is there would be replaced, as the failure says
+abbrev pub IsTaken : List ℕ → Failure → Type 0
+IsTaken path = IsSaid (App FileFault) (path ++ codes ": a file is there, and is not replaced")
+
 -- a file is written and its name printed
 abbrev pub IsNamedWritten : List ℕ → List ℕ → List AtHost → Result Unit Failure → Type 0
 IsNamedWritten path text = Then (IsWrite path text) (λ done. OrMemory (IsPrint (path ++ 10 ∷ [])))
@@ -24,6 +31,22 @@ IsNamedWritten path text = Then (IsWrite path text) (λ done. OrMemory (IsPrint 
 -- a file is written and its name printed, unless memory ran out for its path
 abbrev pub IsPartWritten : List ℕ → List ℕ → List AtHost → Result Unit Failure → Type 0
 IsPartWritten path text = OrMemory (IsNamedWritten path text)
+
+-- nothing is at a path; or something is, or it cannot be seen, as the failure says
+abbrev pub IsAbsent : List ℕ → List AtHost → Result Unit Failure → Type 0
+IsAbsent path log (Ok done) = log ≡ Found path false ∷ []
+IsAbsent path log (Err failure) = ((log ≡ Found path true ∷ []) × IsTaken path failure)
+    ⊎ ((why : Why) × (log ≡ Unfound path why ∷ []) × IsOfStream path why failure)
+
+-- it is looked whether nothing is at the path of a file, unless memory ran out for the path
+abbrev pub IsPartAbsent : List ℕ → List AtHost → Result Unit Failure → Type 0
+IsPartAbsent path = OrMemory (IsAbsent path)
+
+-- in order it is looked whether nothing is at the paths of this many files, from this place on
+abbrev pub AreAbsent : List ℕ → (place count : ℕ) → List AtHost → Result Unit Failure → Type 0
+AreAbsent folder place zero log result = (log ≡ []) × (result ≡ Ok tt)
+AreAbsent folder place (suc n) log result =
+    Then (IsPartAbsent (part_path folder place)) (λ done. AreAbsent folder (place + 1) n) log result
 
 -- texts are written in order, each into the file of its place, from this place on
 abbrev pub AreWritten : List ℕ → ℕ → List (List ℕ) → List AtHost → Result Unit Failure → Type 0
@@ -55,6 +78,8 @@ ArePartTexts s (Ok texts) = HasGroups s (length texts.items) × AreGroupsFrom s 
 ArePartTexts s (Err failure) = HasNoPlan s failure
     ⊎ ((group : ℕ) × (IsMemory failure ⊎ IsSettingsOf s (Some group) (Err failure)))
 
--- The settings of several stations: labels are replaced before the first file is written.
+-- The settings of several stations. No file is replaced: it is looked whether each is absent before
+-- anything is written, and labels are replaced before the first file is made.
 abbrev pub AreParts : Source → List ℕ → List AtHost → Result Unit Failure → Type 0
-AreParts s folder = Then (Quietly (ArePartTexts s)) (λ texts. Then (AreLabels s []) (λ done. AreWritten folder 0 (map string_bytes texts.items)))
+AreParts s folder = Then (Quietly (ArePartTexts s)) (λ texts. Then (AreAbsent folder 0 (length texts.items)) (λ absent.
+    Then (AreLabels s []) (λ done. AreWritten folder 0 (map string_bytes texts.items))))

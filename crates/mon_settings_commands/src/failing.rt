@@ -3,6 +3,7 @@
 ghost use Rattle.std.specs.Prelude.{◌≡◌, codes};
 ghost use Rattle.mon_faults.specs.Fault.{innermost_of};
 ghost use Rattle.mon_survey.specs.Fault.{name_of, number_of};
+ghost use Rattle.mon_settings_commands.specs.Parts.{IsTaken};
 
 use mon_app::AppFault;
 use mon_console::{Failure, Fault};
@@ -32,4 +33,14 @@ pub(crate) fn together_failure(alloc: Global) -> Failure
         "--append goes with neither --split nor --module: names are shown as in the settings",
     );
     Failure::said(Fault::App(AppFault::BadText), more)
+}
+
+/// Why a file of settings is not written: something is at its path.
+pub(crate) fn taken_failure(alloc: Global, path: &str) -> Failure
+    ensures { IsTaken path.now result }
+{
+    Failure::said(
+        Fault::App(AppFault::FileFault),
+        format!(in alloc; "{path}: a file is there, and is not replaced"),
+    )
 }

@@ -6,6 +6,7 @@ mod asking;
 mod existing;
 mod failing;
 mod labelling;
+mod noting;
 mod parts;
 mod settings;
 mod words;

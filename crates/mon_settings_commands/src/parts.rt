@@ -1,25 +1,26 @@
 //! The settings of several stations, a file each.
 
-ghost use Rattle.std.specs.Prelude.{◌≡◌, ◌<◌, ◌≤◌, ◌⊎◌, ◌^◌, ◌∷◌, ◌++◌, [], Err, IfErr, IfOk, Ok, OnOk, Some, String, false, map, string_bytes};
+ghost use Rattle.std.specs.Prelude.{◌≡◌, ◌<◌, ◌≤◌, ◌⊎◌, ◌^◌, ◌∷◌, ◌++◌, [], Err, IfErr, IfOk, Ok, OnOk, Some, String, false, length, map, string_bytes};
 ghost use Rattle.std.specs.Global.{Global as TheGlobal};
 ghost use Rattle.mon_console.specs.Failure.{IsMemory};
 ghost use Rattle.mon_host.specs.Log.{GoesOnBy};
-ghost use Rattle.mon_settings_commands.specs.Parts.{AreParts, ArePartTexts, AreWritten, HasGroups, HasNoCounter, HasNoPlan, IsNamedWritten, IsPartWritten, part_path};
+ghost use Rattle.mon_settings_commands.specs.Parts.{AreAbsent, AreParts, ArePartTexts, AreWritten, HasGroups, HasNoCounter, HasNoPlan, IsAbsent, IsNamedWritten, IsPartAbsent, IsPartWritten, part_path};
 ghost use Rattle.mon_settings_commands.specs.Settings.{IsSettingsOf};
 ghost use Rattle.mon_settings_commands.specs.Source.{IsOfSurvey, source_in};
 
-use crate::failing::survey_failure;
+use crate::failing::{survey_failure, taken_failure};
 use crate::labelling::write_labels;
 use crate::settings::{Ground, settings_of};
 use mon_console::{Failure, print, write_file};
 use mon_host::Host;
 use mon_survey::{SurveyFault, plan};
-use std::alloc::Global;
+use std::alloc::{AllocError, Global};
 
 /// The most files that settings are split into.
 const MOST_PARTS: u32 = 65_536;
 
 /// Writes the settings of a station for each group into a folder, and prints the names of the files.
+/// Nothing is written if one of the files is there.
 pub(crate) fn write_parts<H: Host>(
     alloc: Global,
     host: &mut H,
@@ -30,8 +31,51 @@ pub(crate) fn write_parts<H: Host>(
         (H.log host.old) (H.log host.new) }
 {
     let texts = texts_of(alloc, ground)?;
+    require_absent(alloc, host, folder, texts.as_slice())?;
     write_labels(alloc, host, ground, "")?;
     write_texts(alloc, host, folder, texts.as_slice())
+}
+
+/// Requires that nothing is at the path of the file of any of these texts.
+fn require_absent<H: Host>(
+    alloc: Global,
+    host: &mut H,
+    folder: &str,
+    texts: &[String],
+) -> Result<(), Failure>
+    ensures { GoesOnBy (λ log. AreAbsent folder.now 0 (length texts.now) log result)
+        (H.log host.old) (H.log host.new) }
+{
+    for place in 0..texts.len() {
+        require_part_absent(alloc, host, folder, place)?;
+    }
+    Ok(())
+}
+
+/// Requires that nothing is at the path of the file of a place.
+fn require_part_absent<H: Host>(
+    alloc: Global,
+    host: &mut H,
+    folder: &str,
+    place: usize,
+) -> Result<(), Failure>
+    requires { place < 2 ^ 63 }
+    ensures { GoesOnBy (λ log. IsPartAbsent (part_path folder.now place) log result)
+        (H.log host.old) (H.log host.new) }
+{
+    let path = part_path(alloc, folder, place)?;
+    require_nothing_at(alloc, host, path.as_str())
+}
+
+/// Requires that nothing is at a path.
+fn require_nothing_at<H: Host>(alloc: Global, host: &mut H, path: &str) -> Result<(), Failure>
+    ensures { GoesOnBy (λ log. IsAbsent path.now log result) (H.log host.old) (H.log host.new) }
+{
+    match host.is_there(path) {
+        Ok(false) => Ok(()),
+        Ok(true) => Err(taken_failure(alloc, path)),
+        Err(reason) => Err(Failure::stream(alloc, path, reason)),
+    }
 }
 
 /// Writes a file for each of these texts, in order, and prints its name.
@@ -125,9 +169,17 @@ fn write_part<H: Host>(
     ensures { GoesOnBy (λ log. IsPartWritten (part_path folder.now place) text.now log result)
         (H.log host.old) (H.log host.new) }
 {
-    let number = place + 1;
-    let path = format!(in alloc; "{folder}/station-{number}.toml")?;
+    let path = part_path(alloc, folder, place)?;
     write_named(alloc, host, path.as_str(), text)
+}
+
+/// Returns the path of the file of a place, in a folder.
+fn part_path(alloc: Global, folder: &str, place: usize) -> Result<String, AllocError>
+    requires { place < 2 ^ 63 }
+    ensures { IfOk result (λ path. string_bytes path ≡ part_path folder.now place) }
+{
+    let number = place + 1;
+    format!(in alloc; "{folder}/station-{number}.toml")
 }
 
 /// Writes a file, and prints its name.

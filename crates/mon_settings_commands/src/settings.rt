@@ -4,9 +4,9 @@
 ghost use Rattle.std.specs.Prelude.{◌≡◌, ◌<◌, ◌≤◌, [], IfErr, IfOk, OnOk, string_bytes};
 ghost use Rattle.mon_app.specs.Network.{agents_by};
 ghost use Rattle.mon_host.specs.Log.{GoesOnBy};
-ghost use Rattle.mon_settings_commands.specs.Appended.{IsAlone, IsAppendedOf, IsLonger};
+ghost use Rattle.mon_settings_commands.specs.Appended.{IsAlone, IsAppendedOf, IsLonger, IsPutLonger};
 ghost use Rattle.mon_settings_commands.specs.Asked.{IsAsked};
-ghost use Rattle.mon_settings_commands.specs.Command.{AreLongerSettings, AreNewSettings, AreNewTexts, AreSettings};
+ghost use Rattle.mon_settings_commands.specs.Command.{AreLongerSettings, AreNewSettings, AreNewTexts, ArePutTexts, AreSettings};
 ghost use Rattle.mon_settings_commands.specs.Settings.{IsSettingsOf, IsWhole, up_of};
 ghost use Rattle.mon_settings_commands.specs.Source.{source_in};
 ghost use Rattle.mon_settings_commands.specs.Texts.{AreTexts, IsOfOptions};
@@ -15,6 +15,7 @@ use crate::asking::{Survey, ask_agent};
 use crate::existing::{Existing, existing_in};
 use crate::failing::{survey_failure, together_failure};
 use crate::labelling::{old_labels, write_labels};
+use crate::noting::note_speeds;
 use crate::parts::write_parts;
 use crate::words::{
     given_or, kinds_of, percent_of, put_address, put_file, put_peers, require_peers,
@@ -118,9 +119,19 @@ fn print_new<N: Opens, H: Host>(
     write_new(alloc, host, &ground)
 }
 
-/// Prints the settings of a station, or writes those of several into a folder.
+/// Prints or writes new settings, and says for how many interfaces there is no threshold.
 fn write_new<H: Host>(alloc: Global, host: &mut H, ground: &Ground<'_, '_>) -> Result<(), Failure>
     ensures { GoesOnBy (λ log. AreNewTexts (source_in ground.now) log result)
+        (H.log host.old) (H.log host.new) }
+{
+    put_texts(alloc, host, ground)?;
+    note_speeds(host, ground);
+    Ok(())
+}
+
+/// Prints the settings of a station, or writes those of several into a folder.
+fn put_texts<H: Host>(alloc: Global, host: &mut H, ground: &Ground<'_, '_>) -> Result<(), Failure>
+    ensures { GoesOnBy (λ log. ArePutTexts (source_in ground.now) log result)
         (H.log host.old) (H.log host.new) }
 {
     match ground.words.split {
@@ -181,7 +192,8 @@ fn print_appended<N: Opens, H: Host>(
     print_longer(alloc, host, &ground, &existing, old.as_str())
 }
 
-/// Prints settings with the agent's targets at their end, and writes labels after the old ones.
+/// Prints settings with the agent's targets at their end, and says for how many of its interfaces
+/// there is no threshold.
 fn print_longer<H: Host>(
     alloc: Global,
     host: &mut H,
@@ -190,6 +202,22 @@ fn print_longer<H: Host>(
     old: &str,
 ) -> Result<(), Failure>
     ensures { GoesOnBy (λ log. IsLonger (source_in ground.now) existing.now old.now log result)
+        (H.log host.old) (H.log host.new) }
+{
+    put_longer(alloc, host, ground, existing, old)?;
+    note_speeds(host, ground);
+    Ok(())
+}
+
+/// Prints settings with the agent's targets at their end, and writes labels after the old ones.
+fn put_longer<H: Host>(
+    alloc: Global,
+    host: &mut H,
+    ground: &Ground<'_, '_>,
+    existing: &Existing,
+    old: &str,
+) -> Result<(), Failure>
+    ensures { GoesOnBy (λ log. IsPutLonger (source_in ground.now) existing.now old.now log result)
         (H.log host.old) (H.log host.new) }
 {
     let text = appended(alloc, ground, existing)?;

@@ -73,9 +73,9 @@ module _ (s : State) (settled : IsSettled s) (c : Claim) where
       };
     }
 
-  pub told_claim : (n : Option ℕ) (told : Told) (noted : Noted) → told.taken ≡ claim_pairs n c.samples → told.sends.items ≡ map (to_peer c.station) (confirms s c.kind c) → told.noted ≡ Some noted → told.given_up ≡ None → noted ≡ noted_so
+  pub told_claim : (n : Option ℕ) (told : Told) (noted : Noted) → told.taken ≡ claim_pairs n c.samples → told.sends.items ≡ map (to_peer c.station) (confirms s c.kind c) → told.noted ≡ Some noted → told.given_up ≡ None → told.answered ≡ None → noted ≡ noted_so
       → AllByRecursion IsClaim (confirms s c.kind c) → IsTold s (FromPeer (Ok (said_as c n))) told
-  told_claim n told noted taken sends is given_up same claims = record { taken = taken; sent = sends; noted = is ∙ ap Some same; given_up = given_up; claims = claims }
+  told_claim n told noted taken sends is given_up answered same claims = record { taken = taken; sent = sends; noted = is ∙ ap Some same; given_up = given_up; answered = answered; claims = claims }
 
   -- ---- refused
   not_none : (k : ℕ) → Some k ≢ None

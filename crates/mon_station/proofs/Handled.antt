@@ -26,7 +26,7 @@ use Rattle.mon_station.specs.ReadEvent.{ReadEvent, StartPoll, Timeout, FromAgent
 use Rattle.mon_station.specs.State.{State, IsHandled, setting_of}
 use Rattle.mon_station.specs.Step.{IsSettled, left_polls}
 use Rattle.mon_station.specs.Told.{IsAnswered, IsTold, given_up_by, resends, to_target}
-use Rattle.mon_station.specs.Verdict.{Setting, IsLawfulFault, fault_in, polls_after, response_pairs, share_fault, slot_of}
+use Rattle.mon_station.specs.Verdict.{Setting, IsLawfulFault, fault_in, polls_after, response_pairs, response_stamp, share_fault, slot_of, stamp_in}
 use Rattle.mon_station.proofs.Faults.{ends_as, response_lawful, response_memory, start_lawful}
 use Rattle.mon_poller.specs.declared.fault.ResponseFault.TheVariants as response
 use Rattle.mon_station.proofs.Quiet.{IsQuiet, quiet_after, quiet_fault}
@@ -68,24 +68,24 @@ module _ (s : State) (settled : IsSettled s) where
   quiet_start t = record { nothing = refl; serial = refl; known = λ y. refl; marks = λ k. refl }
 
   pub started : (t id : ℕ) (n : Poller) (told : Told) (out : Outgoing) → start_verdict s.poller.targets s.poller.polls t ≡ Ok id → n ≡ with_polls s.poller (with_poll t s.poller.polls)
-      → told.taken ≡ [] → told.sends.items ≡ out ∷ [] → told.noted ≡ None → told.given_up ≡ None → out ≡ to_target t (poll_octets (target_at s.poller.targets t) (s.poller.polls.started + 1))
+      → told.taken ≡ [] → told.sends.items ≡ out ∷ [] → told.noted ≡ None → told.given_up ≡ None → told.answered ≡ None → out ≡ to_target t (poll_octets (target_at s.poller.targets t) (s.poller.polls.started + 1))
       → IsHandled (StartPoll t) None s (with_poller s n) × IsTold s (StartPoll t) told
-  started t id n told out ok is taken sends noted given_up sent = (
+  started t id n told out ok is taken sends noted given_up answered sent = (
     subst (λ (p : Poller). IsHandled (StartPoll t) None s (with_poller s p)) (sym is)
         (record { lawful = ap (fault_in station.Poll) ok; after = quiet_after s settled (StartPoll t) None (quiet_start t) (with_poll t s.poller.polls) refl }),
-    record { taken = taken; sent = sends ∙ ap (λ (o : Outgoing). o ∷ []) sent; noted = noted; given_up = given_up; claims = tt },
+    record { taken = taken; sent = sends ∙ ap (λ (o : Outgoing). o ∷ []) sent; noted = noted; given_up = given_up; answered = answered; claims = tt },
   )
 
   quiet_timeout : (id : ℕ) → IsQuiet s (Timeout id) None
   quiet_timeout id = record { nothing = refl; serial = refl; known = λ y. refl; marks = λ k. refl }
 
   pub timed_out : (id : ℕ) (n : Poller) (told : Told) (is : TimedOut) → n ≡ with_polls s.poller (timed (tries_of s.poller.targets) id s.poller.polls)
-      → told.taken ≡ [] → told.sends.items ≡ resends is → told.noted ≡ None → told.given_up ≡ given_up_by is → is ≡ timeout_verdict s.poller.targets s.poller.polls id
+      → told.taken ≡ [] → told.sends.items ≡ resends is → told.noted ≡ None → told.given_up ≡ given_up_by is → told.answered ≡ None → is ≡ timeout_verdict s.poller.targets s.poller.polls id
       → IsHandled (Timeout id) None s (with_poller s n) × IsTold s (Timeout id) told
-  timed_out id n told verdict is taken sends noted given_up same = (
+  timed_out id n told verdict is taken sends noted given_up answered same = (
     subst (λ (p : Poller). IsHandled (Timeout id) None s (with_poller s p)) (sym is)
         (record { lawful = refl; after = quiet_after s settled (Timeout id) None (quiet_timeout id) (timed (tries_of s.poller.targets) id s.poller.polls) refl }),
-    record { taken = taken; sent = sends ∙ ap resends same; noted = noted; given_up = given_up ∙ ap given_up_by same; claims = tt },
+    record { taken = taken; sent = sends ∙ ap resends same; noted = noted; given_up = given_up ∙ ap given_up_by same; answered = answered; claims = tt },
   )
 
   -- ---- responses
@@ -104,9 +104,9 @@ module _ (s : State) (settled : IsSettled s) where
   pub response_taken : (a : Addr) (r : Option Message) (o : Offered) (n : Poller) (b : Board) (told : Told) (pairs : List (ℕ × ℕ))
       → response_verdict s.poller.targets s.poller.polls.open_polls a r ≡ Ok o → n ≡ with_polls s.poller (after_response true r s.poller.polls) → pairs ≡ o.pairs
       → b.watch ≡ s.board.watch → ((i : ℕ) → window_of b i ≡ joined s.board.watch (window_of s.board) pairs i) → KeepsMarks s.board b
-      → told.taken ≡ o.pairs → told.sends.items ≡ [] → told.noted ≡ None → told.given_up ≡ None
+      → told.taken ≡ o.pairs → told.sends.items ≡ [] → told.noted ≡ None → told.given_up ≡ None → told.answered ≡ Some (stamp_in o)
       → IsHandled (FromAgent a r) None s (record { board = b; poller = n; peers = s.peers; incarnation = s.incarnation; serial = s.serial }) × IsTold s (FromAgent a r) told
-  response_taken a r o n b told pairs ok is same watch windows marks taken sends noted given_up =
+  response_taken a r o n b told pairs ok is same watch windows marks taken sends noted given_up answered =
       let offered : o.pairs ≡ response_pairs (response_verdict s.poller.targets s.poller.polls.open_polls a r) = sym (ap response_pairs ok) in (
         record {
           lawful = ap (fault_in station.Response) ok;
@@ -120,17 +120,17 @@ module _ (s : State) (settled : IsSettled s) where
             marks = λ k i x j. marks k j i x;
           };
         },
-        record { taken = taken ∙ offered; sent = sends; noted = noted; given_up = given_up; claims = tt },
+        record { taken = taken ∙ offered; sent = sends; noted = noted; given_up = given_up; answered = answered ∙ sym (ap response_stamp ok); claims = tt },
       )
 
   -- ---- saves
   quiet_save : IsQuiet s Save None
   quiet_save = record { nothing = refl; serial = refl; known = λ y. refl; marks = λ k. refl }
 
-  pub saved : (told : Told) → told.taken ≡ [] → told.sends.items ≡ [] → told.noted ≡ None → told.given_up ≡ None → IsHandled Save None s s × IsTold s Save told
-  saved told taken sends noted given_up = (
+  pub saved : (told : Told) → told.taken ≡ [] → told.sends.items ≡ [] → told.noted ≡ None → told.given_up ≡ None → told.answered ≡ None → IsHandled Save None s s × IsTold s Save told
+  saved told taken sends noted given_up answered = (
     record { lawful = refl; after = quiet_after s settled Save None quiet_save s.poller.polls refl },
-    record { taken = taken; sent = sends; noted = noted; given_up = given_up; claims = tt },
+    record { taken = taken; sent = sends; noted = noted; given_up = given_up; answered = answered; claims = tt },
   )
 
   pub save_refused : (f : KeeperFault) (g : StationFault) → g ≡ keeper_refusal f → IsHandled Save (Some g) s s

@@ -1,8 +1,8 @@
 -- A save at a keeper that is reopened first.
 use Rattle.std.specs.Prelude.{IfErr, OnErr}
-use Rattle.std.proofs.Common.{Result, Ok, Err, ℕ, ◌≡◌, ◌<◌, ◌≤◌, ◌+◌, ◌-◌, ◌^◌, ◌⊎◌, inl, inr, ⊎_elim, true, false, List, length, refl, sym, ◌∙◌, ap, subst, arith, Option, Some}
+use Rattle.std.proofs.Common.{Result, Ok, Err, ℕ, ◌≡◌, ◌≤◌, ◌+◌, ◌-◌, ◌^◌, inl, inr, ⊎_elim, true, false, List, length, refl, sym, ◌∙◌, ap, subst, arith, Option, Some}
 use Rattle.std.proofs.lemmas.Bool.{cases_Bool}
-use Rattle.mon_disk.specs.Disk.{Leaves, LeavesSince}
+use Rattle.mon_disk.specs.Disk.{Leaves}
 use Rattle.mon_disk.specs.Fault.{HasDiskCause, is_of_save}
 use Rattle.mon_disk.specs.File.{found}
 use Rattle.mon_disk.specs.History.{FindsAgain, FindsRunning}
@@ -17,7 +17,7 @@ use Rattle.mon_disk.specs.declared.file.TheConstants.{SLOT_SIZE}
 use Rattle.mon_disk.specs.declared.keeper.Keeper.{Keeper}
 use Rattle.mon_disk.proofs.Promised.{as_found, chained, itself, weaker}
 use Rattle.mon_station.specs.Mended.{IsMendedFault, IsMendedSave}
-use Rattle.mon_station.specs.Saved.{OrLast, may_meet}
+use Rattle.mon_station.specs.Saved.{OrLast}
 use Rattle.mon_station.proofs.Kept.{disk_cause}
 
 -- an opening finds again what a keeper that mends itself goes back to

@@ -63,9 +63,9 @@ instance_is watch i w lt is = get_or-map (λ (x : Watched). x.instance) watch.in
 
 -- a share that was handled
 pub shared : (s : State) → IsSettled s → (y k serial : ℕ) (told : Told) → Some k ≡ peer_slot s.peers.peers y → serial ≡ serial_past s.serial (portions_to s k)
-    → told.taken ≡ [] → told.sends.items ≡ map (to_peer y) (offers_from s s.serial (portions_to s k)) → told.noted ≡ None → told.given_up ≡ None → AllByRecursion IsClaim (offers_from s s.serial (portions_to s k))
+    → told.taken ≡ [] → told.sends.items ≡ map (to_peer y) (offers_from s s.serial (portions_to s k)) → told.noted ≡ None → told.given_up ≡ None → told.answered ≡ None → AllByRecursion IsClaim (offers_from s s.serial (portions_to s k))
     → IsHandled (Share y) None s (record { board = s.board; poller = s.poller; peers = s.peers; incarnation = s.incarnation; serial = serial }) × IsTold s (Share y) told
-shared s settled y k serial told slot next taken sends noted given_up claims =
+shared s settled y k serial told slot next taken sends noted given_up answered claims =
     let same : portions_to s k ≡ shared_with s y = ap (shared_in s) slot in (
       record {
         lawful = ap share_fault (sym slot);
@@ -84,6 +84,7 @@ shared s settled y k serial told slot next taken sends noted given_up claims =
         sent = sends ∙ ap (λ ps. map (to_peer y) (offers_from s s.serial ps)) same;
         noted = noted;
         given_up = given_up;
+        answered = answered;
         claims = subst (λ ps. AllByRecursion IsClaim (offers_from s s.serial ps)) same claims;
       },
     )

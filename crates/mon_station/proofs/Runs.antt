@@ -1,11 +1,9 @@
 -- A run, one call after another.
 use Rattle.std.proofs.Common.{ℕ, ◌≡◌, Bool, true, List, [], ◌∷◌, ◌++◌, false, Option, Some, None, Result, Ok, Err, refl, sym, ap, subst, ◌∙◌, append_assoc, ◌+◌, ◌≤◌, ◌⊎◌, length, length-append, zero-add, arith, ◌<◌, ◌^◌, ◌-◌, suc, add-one, inl, inr, ⊎_elim}
-use Rattle.std.specs.Prelude.{IfNone, IfSome, IsTrue, ◌||◌}
-use Rattle.std.specs.FinMap as map
+use Rattle.std.specs.Prelude.{◌||◌}
 use Rattle.mon_disk.specs.declared.disk.Disk.{Ghosts}
 use Rattle.mon_disk.specs.declared.fault.KeeperFault.TheVariants as keeper
 use Rattle.mon_disk.specs.Disk.{Leaves, LeavesSince}
-use Rattle.mon_disk.specs.Fault.{HasDiskCause}
 use Rattle.mon_disk.specs.File.{found}
 use Rattle.mon_disk.specs.declared.file.TheConstants.{SLOT_SIZE}
 use Rattle.mon_disk.specs.Keeper.{FindsAs, FindsBody, IsAs, found_generation}
@@ -402,15 +400,15 @@ is_last (station.Keeper keeper.Reopen) e = let no : false ≡ true = e in cc
 
 module _ {X : Type 0} (G : Ghosts X) (before after : State) (event : OwnedEvent) (old new : X) (last0 last1 : Option (List ℕ)) (still : G.is_honest old → G.is_honest new) where
   pub turned_told : (told : Told) (handed0 handed1 : Option (List Outgoing)) (answer : Answer) → ((e : ReadEvent) → ReadsAs before.board.watch event e → IsAnswered before after e (Ok told))
-      → (e : ReadEvent) × ReadsAs before.board.watch event e → handed1 ≡ extended handed0 told.sends.items → answer ≡ shown None told.taken told.given_up → G.faults old ≤ G.faults new
+      → (e : ReadEvent) × ReadsAs before.board.watch event e → handed1 ≡ extended handed0 told.sends.items → answer ≡ shown None told.taken told.given_up told.answered → G.faults old ≤ G.faults new
       → (G.is_honest old → Leaves (OrLast (G.may_leave new) last1) (λ c. FindsAfter before event None (FindsAs (OrLast (G.may_leave old) last0) c) c))
       → (G.is_honest old → LeavesSince G.moment G.left_since old new (λ c. FindsAs (OrLast (G.may_leave old) last0) c ⊎ FindsDuring before event (FindsAs (OrLast (G.may_leave old) last0) c) c))
       → Turned {G = G} (record { state = before; view = tt {0}; handed = handed0; disk = old; last = last0 }) (record { state = after; view = tt {0}; handed = handed1; disk = new; last = last1 }) event answer
   turned_told told handed0 handed1 answer h read handed is count file amid = record {
-    turn = record { event = event; reading = Some read.0; answer = None; taken = told.taken; given_up = told.given_up; sent = told.sends.items; after = after };
+    turn = record { event = event; reading = Some read.0; answer = None; taken = told.taken; given_up = told.given_up; answered = told.answered; sent = told.sends.items; after = after };
     event_is = refl;
     is = record {
-      each = λ e reads. let r = h e reads in record { handled = r.0; taken = r.1.taken; given_up = r.1.given_up; sent = r.1.sent };
+      each = λ e reads. let r = h e reads in record { handled = r.0; taken = r.1.taken; given_up = r.1.given_up; answered = r.1.answered; sent = r.1.sent };
       known = read.1;
       memory = λ e. absurd (no_fault e);
       fault = tt;
@@ -426,7 +424,7 @@ module _ {X : Type 0} (G : Ghosts X) (before after : State) (event : OwnedEvent)
   }
 
   pub turned_fault : (fault : StationFault) (handed : Option (List Outgoing)) (answer : Answer) → ((e : ReadEvent) → ReadsAs before.board.watch event e → IsAnswered before after e (Err fault))
-      → ((fault ≡ station.OutOfMemory → ⊥) → (e : ReadEvent) × ReadsAs before.board.watch event e) → (fault ≡ station.OutOfMemory → after ≡ before) → answer ≡ shown (Some fault) [] None
+      → ((fault ≡ station.OutOfMemory → ⊥) → (e : ReadEvent) × ReadsAs before.board.watch event e) → (fault ≡ station.OutOfMemory → after ≡ before) → answer ≡ shown (Some fault) [] None None
       → (event ≡ Save → IsSaveFault fault) → IsCausedBy (G.faults old) (G.faults new) fault → (fault ≡ station.Keeper keeper.NoMoreGenerations → G.is_honest old → found_generation (found SLOT_SIZE (G.seen old)) ≡ 2 ^ 64 - 1)
       → (G.is_honest old → Leaves (OrLast (G.may_leave new) last1) (λ c. FindsAfter before event (Some fault) (FindsAs (OrLast (G.may_leave old) last0) c) c))
       → (G.is_honest old → LeavesSince G.moment G.left_since old new (λ c. FindsAs (OrLast (G.may_leave old) last0) c ⊎ FindsDuring before event (FindsAs (OrLast (G.may_leave old) last0) c) c))
@@ -435,12 +433,12 @@ module _ {X : Type 0} (G : Ghosts X) (before after : State) (event : OwnedEvent)
       let known = known_fault before event fault read in
       let causes = cause_counted (G.faults old) (G.faults new) fault cause in
       record {
-        turn = record { event = event; reading = known.0; answer = Some fault; taken = []; given_up = None; sent = []; after = after };
+        turn = record { event = event; reading = known.0; answer = Some fault; taken = []; given_up = None; answered = None; sent = []; after = after };
         event_is = refl;
         is = record {
-          each = λ e reads. record { handled = h e reads; taken = refl; given_up = refl; sent = refl };
+          each = λ e reads. record { handled = h e reads; taken = refl; given_up = refl; answered = refl; sent = refl };
           known = known.1;
-          memory = λ e. record { after = stays (some_fault e); taken = refl; given_up = refl; sent = refl };
+          memory = λ e. record { after = stays (some_fault e); taken = refl; given_up = refl; answered = refl; sent = refl };
           fault = kept_fault event fault kept;
         };
         state = refl;
@@ -532,7 +530,7 @@ is_save Save is = refl
 -- ---- counts
 pub faults_more : (answers : List Answer) (answer : Answer) → faults_in (answers ++ answer ∷ []) ≡ faults_in answers + faults_in (answer ∷ [])
 faults_more [] answer = sym (zero-add (faults_in (answer ∷ [])))
-faults_more (Handled n ∷ answers) answer = faults_more answers answer
+faults_more (Handled n answered ∷ answers) answer = faults_more answers answer
 faults_more (GaveUp n ∷ answers) answer = faults_more answers answer
 faults_more (Memory ∷ answers) answer = omega (arith, faults_more answers answer)
 faults_more (Refused f ∷ answers) answer = omega (arith, faults_more answers answer)
@@ -540,7 +538,7 @@ faults_more (Keeper n ∷ answers) answer = omega (arith, faults_more answers an
 
 pub faults_few : (answers : List Answer) → faults_in answers ≤ length answers
 faults_few [] = omega arith
-faults_few (Handled n ∷ answers) = omega (arith, faults_few answers)
+faults_few (Handled n answered ∷ answers) = omega (arith, faults_few answers)
 faults_few (GaveUp n ∷ answers) = omega (arith, faults_few answers)
 faults_few (Memory ∷ answers) = omega (arith, faults_few answers)
 faults_few (Refused f ∷ answers) = omega (arith, faults_few answers)
@@ -552,7 +550,7 @@ calls_few [] = omega arith
 calls_few (c ∷ calls) = one_more c.gave (calls_few calls)
   where
     one_more : (gave : Gave) → length (answers_of (turns_of calls)) + failed_of calls ≤ length calls → length (answers_of (turn_in gave ++ turns_of calls)) + (failed_of calls + failed_in gave) ≤ suc (length calls)
-    one_more (ran.Event t) few = omega (arith, few, length-append (answers_of (turns_of calls)) (shown t.answer t.taken t.given_up ∷ []))
+    one_more (ran.Event t) few = omega (arith, few, length-append (answers_of (turns_of calls)) (shown t.answer t.taken t.given_up t.answered ∷ []))
     one_more ran.End few = omega (arith, few)
     one_more (ran.Fault f) few = omega (arith, few)
 

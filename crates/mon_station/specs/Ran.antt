@@ -1,6 +1,5 @@
 -- What a run of a station did, call by call.
-use Rattle.std.specs.Prelude.{ℕ, zero, suc, ◌≡◌, ◌≤◌, ◌<◌, ◌+◌, ◌-◌, ◌^◌, ◌⊎◌, ◌||◌, Bool, true, false, IsTrue, List, [], ◌∷◌, ◌++◌, length, Option, Some, None, Result, Ok, Err}
-use Rattle.std.specs.FinMap as map
+use Rattle.std.specs.Prelude.{ℕ, zero, suc, ◌≡◌, ◌≤◌, ◌<◌, ◌+◌, ◌-◌, ◌^◌, ◌⊎◌, ◌||◌, Bool, true, false, List, [], ◌∷◌, ◌++◌, length, Option, Some, None, Result, Ok, Err}
 use Rattle.mon_board.specs.Watch.{Watch}
 use Rattle.mon_disk.specs.declared.disk.Disk.{Ghosts}
 use Rattle.mon_disk.specs.declared.fault.KeeperFault.TheVariants as keeper
@@ -13,6 +12,7 @@ use Rattle.mon_udp.specs.Counts.{next_count}
 use Rattle.mon_udp.specs.Told.{extended}
 use Rattle.mon_poller.specs.Polls.{Open}
 use Rattle.mon_station.specs.declared.event.Outgoing.{Outgoing}
+use Rattle.mon_station.specs.declared.event.TargetStamp.{TargetStamp}
 use Rattle.mon_station.specs.declared.fault.StationFault.{StationFault}
 use Rattle.mon_station.specs.declared.fault.StationFault.TheVariants as fault
 use Rattle.mon_station.specs.declared.running.Answer.{Answer}
@@ -25,26 +25,27 @@ use Rattle.mon_station.specs.Saved.{FindsState, IsSaveFault}
 use Rattle.mon_station.specs.Seen.{Seen, met}
 use Rattle.mon_station.specs.State.{State, IsHandled, setting_of}
 use Rattle.mon_station.specs.Taken.{Entry, Answered}
-use Rattle.mon_station.specs.Told.{gave_up_in, sends}
+use Rattle.mon_station.specs.Told.{answered_in, gave_up_in, sends}
 use Rattle.mon_station.specs.Verdict.{added}
 
 -- ---- answers
--- an answer as a run shows it, where these samples were offered and this target gave up
-abbrev pub shown : Option StationFault → List (ℕ × ℕ) → Option ℕ → Answer
-shown None taken None = Handled (length taken)
-shown None taken (Some target) = GaveUp target
-shown (Some fault.OutOfMemory) taken given_up = Memory
-shown (Some (fault.Keeper f)) taken given_up = Keeper (keeping.number_of f)
-shown (Some (fault.Poll f)) taken given_up = Refused (fault.Poll f)
-shown (Some (fault.Response f)) taken given_up = Refused (fault.Response f)
-shown (Some (fault.Exchange f)) taken given_up = Refused (fault.Exchange f)
-shown (Some (fault.Image f)) taken given_up = Refused (fault.Image f)
-shown (Some fault.NoMoreIncarnations) taken given_up = Refused fault.NoMoreIncarnations
+-- an answer as a run shows it, where these samples were offered, this target gave up and this one's
+-- poll was answered
+abbrev pub shown : Option StationFault → List (ℕ × ℕ) → Option ℕ → Option TargetStamp → Answer
+shown None taken None answered = Handled (length taken) answered
+shown None taken (Some target) answered = GaveUp target
+shown (Some fault.OutOfMemory) taken given_up answered = Memory
+shown (Some (fault.Keeper f)) taken given_up answered = Keeper (keeping.number_of f)
+shown (Some (fault.Poll f)) taken given_up answered = Refused (fault.Poll f)
+shown (Some (fault.Response f)) taken given_up answered = Refused (fault.Response f)
+shown (Some (fault.Exchange f)) taken given_up answered = Refused (fault.Exchange f)
+shown (Some (fault.Image f)) taken given_up answered = Refused (fault.Image f)
+shown (Some fault.NoMoreIncarnations) taken given_up answered = Refused fault.NoMoreIncarnations
 
 -- how many answers are faults
 abbrev pub faults_in : List Answer → ℕ
 faults_in [] = 0
-faults_in (Handled n ∷ answers) = faults_in answers
+faults_in (Handled n answered ∷ answers) = faults_in answers
 faults_in (GaveUp target ∷ answers) = faults_in answers
 faults_in (Memory ∷ answers) = faults_in answers + 1
 faults_in (Refused f ∷ answers) = faults_in answers + 1
@@ -52,14 +53,15 @@ faults_in (Keeper number ∷ answers) = faults_in answers + 1
 
 -- ---- turns, the newest first
 -- One event: how it reads, if that is known; its answer; the samples that it offered, by the
--- numbers of their instances; the target that gave up; what the outbox was given; and the state
--- that was left.
+-- numbers of their instances; the target that gave up; the target whose poll was answered, and the
+-- stamp; what the outbox was given; and the state that was left.
 pub record Turn : Type 0 where
   pub event : OwnedEvent
   pub reading : Option ReadEvent
   pub answer : Option StationFault
   pub taken : List (ℕ × ℕ)
   pub given_up : Option ℕ
+  pub answered : Option TargetStamp
   pub sent : List Outgoing
   pub after : State
 
@@ -76,7 +78,7 @@ events_of (t ∷ turns) = events_of turns ++ t.event ∷ []
 -- what they answered, in order
 abbrev pub answers_of : List Turn → List Answer
 answers_of [] = []
-answers_of (t ∷ turns) = answers_of turns ++ shown t.answer t.taken t.given_up ∷ []
+answers_of (t ∷ turns) = answers_of turns ++ shown t.answer t.taken t.given_up t.answered ∷ []
 
 -- what they handed to the outbox, in order
 abbrev pub sent_of : List Turn → List Outgoing
@@ -97,12 +99,18 @@ abbrev pub given_up_of : State → ReadEvent → Option StationFault → Option 
 given_up_of s e None = gave_up_in s e
 given_up_of s e (Some f) = None
 
--- an event that reads so was answered lawfully; its samples were taken, the target that gave up is
--- known, and what it sends was given to the outbox
+-- the target whose poll an event with this answer answered, and the stamp
+abbrev pub answered_of : State → ReadEvent → Option StationFault → Option TargetStamp
+answered_of s e None = answered_in s e
+answered_of s e (Some f) = None
+
+-- an event that reads so was answered lawfully; its samples were taken, the target that gave up and
+-- the one whose poll was answered are known, and what it sends was given to the outbox
 pub record IsAnswer (before : State) (e : ReadEvent) (t : Turn) : Type 0 where
   pub handled : IsHandled e t.answer before t.after
   pub taken : t.taken ≡ taken_of before e t.answer
   pub given_up : t.given_up ≡ given_up_of before e t.answer
+  pub answered : t.answered ≡ answered_of before e t.answer
   pub sent : t.sent ≡ sent_by before e t.answer
 
 -- an event with this answer reads so; only where memory ran out may that not be known
@@ -110,11 +118,12 @@ abbrev pub IsKnown : Watch → OwnedEvent → Option StationFault → Option Rea
 IsKnown watch event answer (Some e) = ReadsAs watch event e
 IsKnown watch event answer None = answer ≡ Some fault.OutOfMemory
 
--- nothing was taken or sent, no target gave up, and the state stayed
+-- nothing was taken or sent, no target gave up or answered, and the state stayed
 pub record IsNothing (before : State) (t : Turn) : Type 0 where
   pub after : t.after ≡ before
   pub taken : t.taken ≡ []
   pub given_up : t.given_up ≡ None
+  pub answered : t.answered ≡ None
   pub sent : t.sent ≡ []
 
 -- a save has only faults of a save
@@ -177,7 +186,7 @@ view_after first (c ∷ calls) = c.view
 
 -- what became of the event that a call gave, if it gave one
 abbrev pub answer_in : Gave → Option Answer
-answer_in (Event t) = Some (shown t.answer t.taken t.given_up)
+answer_in (Event t) = Some (shown t.answer t.taken t.given_up t.answered)
 answer_in End = None
 answer_in (Fault f) = None
 

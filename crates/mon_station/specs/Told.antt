@@ -15,14 +15,15 @@ use Rattle.mon_exchange.specs.Portions.{serial_after}
 use Rattle.mon_poller.specs.declared.poller.TimedOut.{TimedOut}
 use Rattle.mon_poller.specs.declared.poller.TimedOut.TheVariants.{Again, GivenUp, NotOpen}
 use Rattle.mon_poller.specs.Target.{poll_octets, target_at}
-use Rattle.mon_poller.specs.Verdict.{timeout_verdict}
+use Rattle.mon_poller.specs.Verdict.{response_verdict, timeout_verdict}
 use Rattle.mon_station.specs.declared.event.Outgoing.{Outgoing}
+use Rattle.mon_station.specs.declared.event.TargetStamp.{TargetStamp}
 use Rattle.mon_station.specs.declared.event.Told.{Told}
 use Rattle.mon_station.specs.declared.event.To.TheVariants as to
 use Rattle.mon_station.specs.declared.fault.StationFault.{StationFault}
 use Rattle.mon_station.specs.ReadEvent.{ReadEvent, StartPoll, Timeout, FromAgent, FromPeer, Share, Save}
 use Rattle.mon_station.specs.State.{State, IsHandled, known_of, setting_of, shared_with}
-use Rattle.mon_station.specs.Verdict.{offers}
+use Rattle.mon_station.specs.Verdict.{offers, response_stamp}
 
 -- ---- claims
 -- the instance of this number in a watch
@@ -102,12 +103,19 @@ abbrev pub gave_up_in : State → ReadEvent → Option ℕ
 gave_up_in s (Timeout id) = given_up_by (timeout_verdict s.poller.targets s.poller.polls id)
 gave_up_in s e = None
 
+-- the target whose poll a response answers, and the stamp that the response has: the open poll with
+-- its request-id
+abbrev pub answered_in : State → ReadEvent → Option TargetStamp
+answered_in s (FromAgent from read) = response_stamp (response_verdict s.poller.targets s.poller.polls.open_polls from read)
+answered_in s e = None
+
 -- what is reported of an event that was handled
 pub record IsTold (s : State) (e : ReadEvent) (told : Told) : Type 0 where
   pub taken : told.taken ≡ offers (setting_of s) s.poller.polls e
   pub sent : told.sends.items ≡ sends s e
   pub noted : told.noted ≡ noted_in s e
   pub given_up : told.given_up ≡ gave_up_in s e
+  pub answered : told.answered ≡ answered_in s e
   -- what goes to peers spells claims
   pub claims : AllByRecursion IsClaim (claims_sent s e)
 

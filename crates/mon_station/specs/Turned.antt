@@ -1,5 +1,5 @@
 -- What one call of a run did, and what it counts.
-use Rattle.std.specs.Prelude.{ℕ, ◌≡◌, ◌≤◌, ◌+◌, Bool, List, [], ◌∷◌, ◌++◌, Option, Result, vec_capacity}
+use Rattle.std.specs.Prelude.{◌≡◌, ◌≤◌, ◌+◌, Bool, List, [], ◌∷◌, ◌++◌, Option, Result, vec_capacity}
 use Rattle.mon_disk.specs.declared.disk.Disk.{Ghosts}
 use Rattle.mon_disk.specs.Disk.{Leaves, LeavesSince}
 use Rattle.mon_poller.specs.Polls.{Open}
@@ -18,7 +18,7 @@ pub record Turned {V X : Type 0} {G : Ghosts X} (before after : Seen V G) (event
   pub is : IsTurn before.state turn
   pub state : after.state ≡ turn.after
   pub handed : after.handed ≡ extended before.handed turn.sent
-  pub shown_is : answer ≡ shown turn.answer turn.taken turn.given_up
+  pub shown_is : answer ≡ shown turn.answer turn.taken turn.given_up turn.answered
   pub honest : G.is_honest before.disk → G.is_honest after.disk
   pub file : G.is_honest before.disk → Leaves (met after) (FindsLast before.state (met before) (turn ∷ []))
   pub any_moment : G.is_honest before.disk → LeavesSince G.moment G.left_since before.disk after.disk (FindsAmid before.state (met before) (turn ∷ []))

@@ -10,6 +10,7 @@ use Rattle.mon_poller.specs.declared.target.Target.{Target}
 use Rattle.mon_poller.specs.Fault.{response_number}
 use Rattle.mon_poller.specs.Polls.{Polls, with_poll, timed}
 use Rattle.mon_poller.specs.Verdict.{start_verdict, response_verdict, after_response, tries_of}
+use Rattle.mon_station.specs.declared.event.TargetStamp.{TargetStamp}
 use Rattle.mon_station.specs.declared.fault.StationFault.{StationFault}
 use Rattle.mon_station.specs.declared.fault.StationFault.TheVariants as fault
 use Rattle.mon_station.specs.ReadEvent.{ReadEvent, StartPoll, Timeout, FromAgent, FromPeer, Share, Save}
@@ -99,6 +100,15 @@ polls_after w Save answer p = p
 abbrev pub response_pairs : Result Offered ResponseFault → List (ℕ × ℕ)
 response_pairs (Ok o) = o.pairs
 response_pairs (Err f) = []
+
+-- whose poll an accepted response answered, and its stamp
+abbrev pub stamp_in : Offered → TargetStamp
+stamp_in o = record { target = o.target; boots = o.boots; time = o.time }
+
+-- whose poll a response with this answer answered: a refused one answered none
+abbrev pub response_stamp : Result Offered ResponseFault → Option TargetStamp
+response_stamp (Ok o) = Some (stamp_in o)
+response_stamp (Err f) = None
 
 -- what a claim of the instance of this number offers
 abbrev pub claim_pairs : Option ℕ → List ℕ → List (ℕ × ℕ)

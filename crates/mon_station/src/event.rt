@@ -66,6 +66,17 @@ pub struct Outgoing {
     pub octets: Octets,
 }
 
+/// Whose poll a response answered, and when the response was made.
+#[derive(Clone, Copy, Debug, PartialEq, Eq)]
+pub struct TargetStamp {
+    /// The number of the target whose poll it answered.
+    pub target: u16,
+    /// The agent's snmpEngineBoots (RFC 3411 section 5), below 2^31.
+    pub boots: u32,
+    /// The agent's snmpEngineTime, in seconds, below 2^31.
+    pub time: u32,
+}
+
 /// What a station reports of an event that it did not refuse.
 #[derive(Drop)]
 pub struct Told {
@@ -77,4 +88,6 @@ pub struct Told {
     pub noted: Option<Noted>,
     /// The target that gave up, at a timeout after its last try.
     pub given_up: Option<u16>,
+    /// The target whose poll was answered, and the stamp, if a response was taken.
+    pub answered: Option<TargetStamp>,
 }

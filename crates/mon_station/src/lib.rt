@@ -15,7 +15,7 @@ mod saved;
 mod sharing;
 mod station;
 
-pub use event::{Event, LentEvent, Outgoing, OwnedEvent, To, Told};
+pub use event::{Event, LentEvent, Outgoing, OwnedEvent, TargetStamp, To, Told};
 pub use fault::{Innermost, StationFault};
 pub use running::{Answer, Outbox, OutboxFault, Run, Source, SourceFault};
 pub use saved::{board_in, saved_board};

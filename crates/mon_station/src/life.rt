@@ -1,6 +1,6 @@
 //! One life of a station: what it does about an event that is no save and no share.
 
-ghost use Rattle.std.specs.Prelude.{◌≡◌, ◌≤◌, ◌<◌, ◌^◌, ◌∷◌, [], ◌+◌, ℕ, All, IfOk, IfErr, IsOk, None, OnErr, OnOk, drop, length, map, vec_capacity};
+ghost use Rattle.std.specs.Prelude.{◌≡◌, ◌≤◌, ◌<◌, ◌^◌, ◌∷◌, [], ◌+◌, ℕ, All, IfOk, IfErr, IsOk, None, OnErr, OnOk, Some, drop, length, map, vec_capacity};
 ghost use Rattle.mon_board.specs.Windows.{paired};
 ghost use Rattle.mon_exchange.specs.Claim.{IsClaim};
 ghost use Rattle.mon_board.specs.Instance.{instances_of};
@@ -8,16 +8,16 @@ ghost use Rattle.mon_poller.specs.Target.{AreTargets};
 ghost use Rattle.mon_saved.specs.Image.{SpellsImage};
 ghost use Rattle.mon_saved.specs.Written.{image_of};
 ghost use Rattle.mon_poller.specs.Verdict.{IsSentAgain, timeout_verdict};
-ghost use Rattle.mon_station.specs.Verdict.{claim_pairs};
+ghost use Rattle.mon_station.specs.Verdict.{claim_pairs, stamp_in};
 
-use crate::event::{Outgoing, To, Told};
+use crate::event::{Outgoing, TargetStamp, To, Told};
 use crate::fault::StationFault;
 use mon_ber::Octets;
 use mon_board::{Board, Pairs};
 use mon_disk::HEAD_ROOM;
 use mon_exchange::{Claim, ClaimKind, ClaimRef, Peers, read_claim, write_claim};
 use mon_fields::put_octets;
-use mon_poller::{Poller, TimedOut};
+use mon_poller::{Offered, Poller, TimedOut};
 use mon_sample::Sample;
 use mon_saved::{image_size, write_within};
 use mon_udp::Addr;
@@ -150,6 +150,7 @@ impl Life {
         ensures sends { result.sends.items ≡ resends timed_out }
         ensures noted { result.noted ≡ None }
         ensures given_up { result.given_up ≡ given_up_by timed_out }
+        ensures answered { result.answered ≡ None }
     {
         match timed_out {
             TimedOut::Again { target, octets } => {
@@ -164,6 +165,7 @@ impl Life {
                 sends: room,
                 noted: None,
                 given_up: Some(target),
+                answered: None,
             },
             TimedOut::NotOpen => told_none(alloc),
         }
@@ -187,7 +189,7 @@ impl Life {
         match self.poller.response(alloc, from, octets) {
             Ok(offered) => {
                 self.board.take_pairs(offered.pairs.as_slice());
-                Ok(tell_taken(alloc, offered.pairs))
+                Ok(tell_taken(alloc, offered))
             }
             Err(fault) => Err(StationFault::from(fault)),
         }
@@ -226,6 +228,7 @@ impl Life {
                 sends,
                 noted: Some(noted),
                 given_up: None,
+                answered: None,
             }),
             Err(fault) => Err(StationFault::from(fault)),
         }
@@ -307,6 +310,7 @@ fn told_one(alloc: Global, room: Vec<Outgoing>, out: Outgoing) -> Told
     ensures sends { result.sends.items ≡ out ∷ [] }
     ensures noted { result.noted ≡ None }
     ensures given_up { result.given_up ≡ None }
+    ensures answered { result.answered ≡ None }
 {
     let mut sends = room;
     sends.push(out).unwrap();
@@ -315,21 +319,29 @@ fn told_one(alloc: Global, room: Vec<Outgoing>, out: Outgoing) -> Told
         sends,
         noted: None,
         given_up: None,
+        answered: None,
     }
 }
 
-/// These samples were taken.
-fn tell_taken(alloc: Global, taken: Pairs) -> Told
-    ensures taken { result.taken ≡ taken }
+/// The samples of a response were taken.
+fn tell_taken(alloc: Global, offered: Offered) -> Told
+    ensures taken { result.taken ≡ offered.pairs }
     ensures sends { result.sends.items ≡ [] }
     ensures noted { result.noted ≡ None }
     ensures given_up { result.given_up ≡ None }
+    ensures answered { result.answered ≡ Some (stamp_in offered) }
 {
+    let answered = TargetStamp {
+        target: offered.target,
+        boots: offered.boots,
+        time: offered.time,
+    };
     Told {
-        taken,
+        taken: offered.pairs,
         sends: Vec::new(alloc),
         noted: None,
         given_up: None,
+        answered: Some(answered),
     }
 }
 
@@ -339,6 +351,13 @@ pub(crate) fn told_none(alloc: Global) -> Told
     ensures sends { result.sends.items ≡ [] }
     ensures noted { result.noted ≡ None }
     ensures given_up { result.given_up ≡ None }
+    ensures answered { result.answered ≡ None }
 {
-    tell_taken(alloc, Pairs::new(alloc))
+    Told {
+        taken: Pairs::new(alloc),
+        sends: Vec::new(alloc),
+        noted: None,
+        given_up: None,
+        answered: None,
+    }
 }

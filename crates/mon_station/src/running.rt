@@ -7,7 +7,7 @@ ghost use Rattle.mon_station.specs.Ran.{HasFailed, IsEmpty, Ran, failures_after,
 ghost use Rattle.mon_station.specs.Turned.{Called, Turned, told_of};
 ghost use Rattle.mon_station.specs.Seen.{seen};
 
-use crate::event::{Outgoing, OwnedEvent, Told};
+use crate::event::{Outgoing, OwnedEvent, TargetStamp, Told};
 use crate::fault::StationFault;
 use crate::station::Station;
 use mon_disk::Disk;
@@ -82,8 +82,13 @@ pub trait Outbox {
 /// What became of an event.
 #[derive(Clone, Copy)]
 pub enum Answer {
-    /// It was handled, and offered this many samples.
-    Handled(u64),
+    /// It was handled.
+    Handled {
+        /// How many samples it offered.
+        samples: u64,
+        /// The target whose poll was answered, and the stamp, if it was a response.
+        answered: Option<TargetStamp>,
+    },
     /// It was a timeout, and the target of this number gave up.
     GaveUp(u16),
     /// Memory was refused.
@@ -243,7 +248,7 @@ fn count_refused(refused: u64, answer: Answer) -> u64
     ensures { result ≡ refused + faults_in (answer ∷ []) }
 {
     match answer {
-        Answer::Handled(_) | Answer::GaveUp(_) => refused,
+        Answer::Handled { .. } | Answer::GaveUp(_) => refused,
         Answer::Memory | Answer::Refused(_) | Answer::Keeper(_) => refused + 1,
     }
 }
@@ -260,17 +265,20 @@ fn hand<O: Outbox>(outbox: &mut O, sends: &[Outgoing], send_faults: &mut u64)
 
 /// Returns what a run shows of an event.
 fn answer_of(told: &Told) -> Answer
-    ensures { result ≡ ran.shown None told.now.taken told.now.given_up }
+    ensures { result ≡ ran.shown None told.now.taken told.now.given_up told.now.answered }
 {
     match told.given_up {
         Some(target) => Answer::GaveUp(target),
-        None => Answer::Handled(told.taken.as_slice().len() as u64),
+        None => Answer::Handled {
+            samples: told.taken.as_slice().len() as u64,
+            answered: told.answered,
+        },
     }
 }
 
 /// A fault as a run shows it.
 fn shown(fault: StationFault) -> Answer
-    ensures { result ≡ ran.shown (Some fault) [] None }
+    ensures { result ≡ ran.shown (Some fault) [] None None }
 {
     match fault {
         StationFault::OutOfMemory => Answer::Memory,

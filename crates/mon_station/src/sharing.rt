@@ -55,6 +55,7 @@ impl Life {
             sends,
             noted: None,
             given_up: None,
+            answered: None,
         })
     }
 

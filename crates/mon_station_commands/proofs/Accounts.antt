@@ -1,30 +1,39 @@
 -- What is said of a round, or of the time after it.
-use Rattle.std.proofs.Common.{◌≡◌, ◌∙◌, ◌≤◌, ◌++◌, ◌∷◌, Bool, List, ℕ, [], ap, false, inl, inr, map, refl, subst, sym, take, true}
-use Rattle.std.specs.List.{flat_map}
+use Rattle.std.proofs.Common.{◌≡◌, ◌∙◌, ◌≤◌, ◌/◌, ◌++◌, ◌∷◌, Bool, List, ℕ, [], ap, false, inl, inr, length, map, refl, subst, sym, take, true}
 use Rattle.std.specs.Prelude.{IfErr, IfOk, IfSome, IsErrAnd, Option, Some, None, Result, Ok, Err, is_some}
 use Rattle.std.specs.declared.alloc.AllocError.{AllocError}
+use Rattle.std.specs.List.{flat_map}
+use Rattle.std.specs.Time.{system_time_nanos}
 use Rattle.std.specs.declared.time.Instant.{Instant}
+use Rattle.std.specs.declared.time.SystemTime.{SystemTime}
 use Rattle.mon_console.specs.Failure.{IsMemory, IsPlain}
 use Rattle.mon_console.specs.declared.failure.Failure.{Failure}
 use Rattle.mon_disk.specs.Fault.{number_of}
 use Rattle.mon_disk.specs.declared.fault.KeeperFault.{KeeperFault}
 use Rattle.mon_faults.specs.Fault.{station_fault}
-use Rattle.mon_host.specs.AtHost.{AtHost, Noted, Timed}
+use Rattle.mon_host.specs.AtHost.{AtHost, Dated, Noted, Timed}
 use Rattle.mon_host.specs.Log.{GoesOnBy}
 use Rattle.mon_host.specs.Then.{Follows}
 use Rattle.mon_host.proofs.Promised.{goes_on, stays, then_fails, then_follows, weaker}
+use Rattle.mon_rounds.specs.Grid.{milliseconds_of}
 use Rattle.mon_rounds.specs.Order.{RoundEvent}
+use Rattle.mon_rounds.specs.declared.changes.Change.{Change}
+use Rattle.mon_rounds.specs.declared.freshness.Freshness.{Freshness}
 use Rattle.mon_rounds.specs.declared.freshness.Spell.{Spell}
+use Rattle.mon_rounds.specs.declared.freshness.TargetAge.{TargetAge}
 use Rattle.mon_rounds.specs.declared.reporting.RoundReport.{RoundReport}
 use Rattle.mon_rounds.specs.declared.round.Span.{Span}
+use Rattle.mon_rounds.specs.declared.round.Span.TheVariants.{Between, Round}
 use Rattle.mon_station.specs.declared.fault.StationFault.{StationFault}
 use Rattle.mon_station.specs.declared.fault.StationFault.TheVariants.{OutOfMemory}
 use Rattle.mon_station.specs.declared.running.Run.{Run}
-use Rattle.mon_station_commands.specs.Pace.{IsPassed, IsStopped, IsWait}
+use Rattle.mon_station_commands.specs.Pace.{IsDate, IsPassed, IsStopped, IsWait}
 use Rattle.mon_station_commands.specs.Quiet.{AreQuiet}
-use Rattle.mon_station_commands.specs.Spans.{AreAlarms, AreChanges, AreTroubles, IsAccount, IsAccountOf, IsNoReport, IsOfRun, IsReportOr, IsSavedAfter, IsSpan, IsSpanRun, IsTimedRun, IsUnsavedBy, is_round}
+use Rattle.mon_station_commands.specs.Spans.{AreAlarms, AreChanges, AreTroubles, AreTroublesOf, IsAccount, IsAccountOf, IsNoReport, IsOfRun, IsReportOr, IsSavedAfter, IsSpan, IsSpanRun, IsTimedRun, IsUnsavedBy, is_round, round_after}
 use Rattle.mon_station_commands.specs.Steps.{IsSaidOf, IsTried, OrMemory}
-use Rattle.mon_station_commands.specs.Telling.{AreChangesSaid, AreNoted, AreSaid, round_lines, text_lines}
+use Rattle.mon_station_commands.specs.Telling.{AreNoted, AreSaid, restart_lines, round_lines}
+use Rattle.mon_station_commands.specs.Troubles.{key_of, lines_before}
+use Rattle.mon_station_commands.specs.declared.live.Kept.{Kept}
 use Rattle.mon_station_commands.proofs.Quiets.{are_noted, are_quiet_as, are_quiet_on, are_said, is_told_more}
 use Rattle.mon_station_commands.proofs.Steps.{tried}
 use Rattle.mon_udp.specs.declared.addr.Addr.{Addr}
@@ -35,7 +44,8 @@ are_alarms alarms log (Ok done) is = are_quiet_as (map Noted alarms) log is (are
 are_alarms alarms log (Err failure) (memory, (many, is)) = are_quiet_as (map Noted (take many alarms)) log is (are_said (take many alarms))
 
 are_troubles : (whole : Bool) (round : ℕ) (log : List AtHost) (r : Result Unit Failure) → AreTroubles whole round log r → AreQuiet log
-are_troubles true round log r (said, memory) = are_noted (flat_map (text_lines round) said.0) log said.1
+are_troubles true round log (Ok done) (fresh, changes, (facts, is, said)) = are_noted (lines_before facts round (map (key_of facts) changes) (length changes)) log said
+are_troubles true round log (Err failure) (fresh, changes, (memory, (lines, said))) = are_noted lines log said
 are_troubles false round log r (is, done) = are_quiet_as [] log is refl
 
 alarms_after : (alarms : List (List ℕ)) (given : Result Unit Failure) (rest : List AtHost) (r : Result Unit Failure) → Follows (λ (said : Unit). AreAlarms alarms) given rest r → AreQuiet rest
@@ -50,7 +60,7 @@ module _ (IsReport : RoundReport → Type 0) (alarms : List (List ℕ)) (round :
   is_report : (whole : Bool) (b a : Option KeeperFault) (log : List AtHost) (r : Result Unit Failure) → IsReportOr IsReport alarms round whole b a log r → AreQuiet log
   is_report whole b a log r (inl (none, same)) = are_quiet_as [] log none.0 refl
   is_report whole b a log r (inr is) = are_quiet_as (is.begin ++ is.rest) log is.log_is
-      (are_quiet_on is.begin is.rest (are_noted (round_lines round is.report) is.begin is.noted) (are_changes alarms round whole is.rest r is.changed))
+      (are_quiet_on is.begin is.rest (are_noted (round_lines round is.report ++ flat_map (restart_lines round) is.targets) is.begin is.noted) (are_changes alarms round whole is.rest r is.changed))
 
   is_account : (whole : Bool) (b a : Option KeeperFault) (log : List AtHost) (r : Result Unit Failure) → IsAccount IsReport alarms round whole b a log r → AreQuiet log
   is_account whole b a log r (inl is) = is_report whole b a log r is
@@ -60,18 +70,18 @@ module _ (IsReport : RoundReport → Type 0) (alarms : List (List ℕ)) (round :
   is_said (Ok done) log failure (none, same) = are_quiet_as [] log none refl
   is_said (Err why) log failure (is, same) = are_quiet_as _ log is.log_is (is_told_more _ _ is.rest is.more)
 
-  is_span : (whole : Bool) (b a : Option KeeperFault) (log : List AtHost) → IsSpan IsReport alarms round whole b a log → AreQuiet log
+  is_span : (whole : Bool) (b a : Kept) (log : List AtHost) → IsSpan IsReport alarms round whole b a log → AreQuiet log
   is_span whole b a log is =
       let t = is.account in
-      are_quiet_as (Timed is.began ∷ Timed is.ended ∷ is.rest) log is.log_is
-      (are_quiet_as (t.begin ++ t.rest) is.rest t.log_is (are_quiet_on t.begin t.rest (is_account whole b a t.begin t.given t.step) (is_said t.given t.rest is.failure t.said)))
+      are_quiet_as (Timed is.began ∷ Timed is.ended ∷ Dated is.date ∷ is.rest) log is.log_is
+      (are_quiet_as (t.begin ++ t.rest) is.rest t.log_is (are_quiet_on t.begin t.rest (is_account whole b.unsaved a.unsaved t.begin t.given t.step) (is_said t.given t.rest is.failure t.said)))
 
-  as_wait : (whole : Bool) (b a : Option KeeperFault) (r : Result Unit Failure) (log : List AtHost) → IsSpanRun IsReport alarms round whole b a log r → IsWait log r
+  as_wait : (whole : Bool) (b a : Kept) (r : Result Unit Failure) (log : List AtHost) → IsSpanRun IsReport alarms round whole b a log r → IsWait log r
   as_wait whole b a (Ok done) log is = is_span whole b a log is
   as_wait whole b a (Err failure) log is = is.0
 
   -- a span is a wait
-  pub span_quiet : (whole : Bool) (b a : Option KeeperFault) (r : Result Unit Failure) (t0 t1 : Option (List AtHost))
+  pub span_quiet : (whole : Bool) (b a : Kept) (r : Result Unit Failure) (t0 t1 : Option (List AtHost))
       → GoesOnBy (λ log. IsSpanRun IsReport alarms round whole b a log r) t0 t1 → GoesOnBy (λ log. IsWait log r) t0 t1
   span_quiet whole b a r t0 t1 = weaker (λ log. IsSpanRun IsReport alarms round whole b a log r) (λ log. IsWait log r) t0 t1 (as_wait whole b a r)
 
@@ -80,24 +90,28 @@ module _ (IsReport : RoundReport → Type 0) (alarms : List (List ℕ)) (round :
   saved_between b a log r (inl (inr is)) = is.saved
   saved_between b a log r (inr (none, same)) = same
 
-  kept_in : (b a : Option KeeperFault) (r : Result Unit Failure) (log : List AtHost) → IsSpanRun IsReport alarms round false b a log r → a ≡ b
-  kept_in b a (Ok done) log is = saved_between b a is.account.begin is.account.given is.account.step
+  kept_in : (b a : Kept) (r : Result Unit Failure) (log : List AtHost) → IsSpanRun IsReport alarms round false b a log r → a ≡ b
+  kept_in b a (Ok done) log is =
+      let saved = saved_between b.unsaved a.unsaved is.account.begin is.account.given is.account.step in
+      let at : a.round_at ≡ b.round_at = is.at in
+      is.kept ∙ (λ i. let k : Kept = record b { round_at = at i; unsaved = saved i } in k)
   kept_in b a (Err failure) log is = is.1
 
   -- between two rounds nothing is saved
-  pub between_kept : (b a : Option KeeperFault) (r : Result Unit Failure) (t0 t1 : Option (List AtHost))
+  pub between_kept : (b a : Kept) (r : Result Unit Failure) (t0 t1 : Option (List AtHost))
       → GoesOnBy (λ log. IsSpanRun IsReport alarms round false b a log r) t0 t1 → a ≡ b
   between_kept b a r t0 t1 done = kept_in b a r done.more done.holds
 
   -- a report and what is said of it
-  pub reported : (report : RoundReport) (whole : Bool) (b a a2 : Option KeeperFault) (r : Result Unit Failure) (t0 t1 t2 : Option (List AtHost)) → IsReport report → a2 ≡ a
-      → GoesOnBy (AreNoted (round_lines round report)) t0 t1 → IsSavedAfter whole report b a → GoesOnBy (λ log. AreChanges alarms round whole log r) t1 t2
+  pub reported : (report : RoundReport) (targets : List TargetAge) (whole : Bool) (b a a2 : Option KeeperFault) (r : Result Unit Failure) (t0 t1 t2 : Option (List AtHost)) → IsReport report → a2 ≡ a
+      → GoesOnBy (AreNoted (round_lines round report ++ flat_map (restart_lines round) targets)) t0 t1 → IsSavedAfter whole report b a → GoesOnBy (λ log. AreChanges alarms round whole log r) t1 t2
       → GoesOnBy (λ log. IsReportOr IsReport alarms round whole b a2 log r) t0 t2
-  reported report whole b a a2 r t0 t1 t2 is same lines saved rest = record {
+  reported report targets whole b a a2 r t0 t1 t2 is same lines saved rest = record {
     more = lines.more ++ rest.more;
     holds = inr record {
       report = report;
       report_is = is;
+      targets = targets;
       begin = lines.more;
       noted = lines.holds;
       saved = subst (λ (o : Option KeeperFault). IsSavedAfter whole report b o) (sym same) saved;
@@ -126,33 +140,40 @@ module _ (IsReport : RoundReport → Type 0) (alarms : List (List ℕ)) (round :
   account_as span (Err fault) b a log r same memory is =
       inr (subst (λ (f : StationFault). IsNoReport (IsPlain (station_fault f)) log r × (a ≡ b)) memory is)
 
-  -- a span, and what is said of it
-  pub span_is : (span : Span) (ran : Result Spell StationFault) (b b1 a a2 : Option KeeperFault) (told : Result Unit Failure) (failure : Option Failure)
-      (t0 t1 t2 t3 : Option (List AtHost)) → IfOk ran (λ spell. spell.span ≡ span) → IfErr ran (λ fault. fault ≡ OutOfMemory) → b1 ≡ b → a2 ≡ a
-      → GoesOnBy (λ log. IsTimedRun log (let r : Result (Result Spell StationFault) Failure = Ok ran in r)) t0 t1
-      → GoesOnBy (λ log. IsAccountOf ran IsReport alarms round b1 a log told) t1 t2 → GoesOnBy (λ log. IsSaidOf told log failure) t2 t3
-      → GoesOnBy (λ log. IsSpan IsReport alarms round (is_round span) b a2 log) t0 t3
-  span_is span ran b b1 a a2 told failure t0 t1 t2 t3 same memory before after timed account said =
-      let step : GoesOnBy (λ log. IsAccount IsReport alarms round (is_round span) b1 a log told) t1 t2 =
-      weaker (λ log. IsAccountOf ran IsReport alarms round b1 a log told) (λ log. IsAccount IsReport alarms round (is_round span) b1 a log told) t1 t2
-      (λ log is. account_as span ran b1 a log told same memory is) account in
-      let whole = tried (IsAccount IsReport alarms round (is_round span) b1 a) told failure t1 t2 t3 step said in
+  -- a span, and what is said of it: `k1` is kept after the run, and `k2` after its account
+  pub span_is : (span : Span) (ran : Result Spell StationFault) (b k1 k2 a : Kept) (told : Result Unit Failure) (failure : Option Failure)
+      (t0 t1 t2 t3 : Option (List AtHost)) → IfOk ran (λ spell. spell.span ≡ span) → IfErr ran (λ fault. fault ≡ OutOfMemory)
+      → k1 ≡ record b { round_at = k1.round_at } → k2 ≡ record k1 { unsaved = k2.unsaved } → a ≡ k2
+      → GoesOnBy (λ log. IsTimedRun (is_round span) b.round_at k1.round_at log (let r : Result (Result Spell StationFault) Failure = Ok ran in r)) t0 t1
+      → GoesOnBy (λ log. IsAccountOf ran IsReport alarms round k1.unsaved k2.unsaved log told) t1 t2 → GoesOnBy (λ log. IsSaidOf told log failure) t2 t3
+      → GoesOnBy (λ log. IsSpan IsReport alarms round (is_round span) b a log) t0 t3
+  span_is span ran b k1 k2 a told failure t0 t1 t2 t3 same memory one two three timed account said =
+      let step : GoesOnBy (λ log. IsAccount IsReport alarms round (is_round span) k1.unsaved k2.unsaved log told) t1 t2 =
+      weaker (λ log. IsAccountOf ran IsReport alarms round k1.unsaved k2.unsaved log told) (λ log. IsAccount IsReport alarms round (is_round span) k1.unsaved k2.unsaved log told) t1 t2
+      (λ log is. account_as span ran k1.unsaved k2.unsaved log told same memory is) account in
+      let whole = tried (IsAccount IsReport alarms round (is_round span) k1.unsaved k2.unsaved) told failure t1 t2 t3 step said in
+      let at : k2.round_at ≡ k1.round_at = (λ i. (two i).round_at) in
+      let kept : k2 ≡ record b { round_at = k2.round_at; unsaved = k2.unsaved } =
+      two ∙ ((λ i. let k : Kept = record (one i) { unsaved = k2.unsaved } in k) ∙ (λ i. let k : Kept = record b { round_at = sym at i; unsaved = k2.unsaved } in k)) in
+      subst (λ (k : Kept). GoesOnBy (λ log. IsSpan IsReport alarms round (is_round span) b k log) t0 t3) (sym three)
       record {
         more = timed.more ++ whole.more;
         holds = record {
           began = timed.holds.0;
           ended = timed.holds.1;
+          date = timed.holds.2;
+          at = at ∙ timed.holds.4;
+          kept = kept;
           rest = whole.more;
           failure = failure;
-          account = subst (λ (o : Option KeeperFault). IsTried (IsAccount IsReport alarms round (is_round span) o a2) whole.more failure) before
-              (subst (λ (o : Option KeeperFault). IsTried (IsAccount IsReport alarms round (is_round span) b1 o) whole.more failure) (sym after) whole.holds);
-          log_is = ap (λ (l : List AtHost). l ++ whole.more) timed.holds.2;
+          account = subst (λ (o : Option KeeperFault). IsTried (IsAccount IsReport alarms round (is_round span) o k2.unsaved) whole.more failure) (λ i. (one i).unsaved) whole.holds;
+          log_is = ap (λ (l : List AtHost). l ++ whole.more) timed.holds.3;
         };
         on = goes_on timed.more whole.more t0 t1 t3 timed.on whole.on;
       }
 
 -- the same span, of what a run was afterwards
-pub span_of : (targets targets2 : List Addr) (events events2 : List RoundEvent) (run run2 : Run) (alarms : List (List ℕ)) (round : ℕ) (whole : Bool) (b a : Option KeeperFault)
+pub span_of : (targets targets2 : List Addr) (events events2 : List RoundEvent) (run run2 : Run) (alarms : List (List ℕ)) (round : ℕ) (whole : Bool) (b a : Kept)
     (t0 t1 : Option (List AtHost)) → targets2 ≡ targets → events2 ≡ events → run2 ≡ run
     → GoesOnBy (λ log. IsSpan (IsOfRun targets events run) alarms round whole b a log) t0 t1
     → GoesOnBy (λ log. IsSpan (IsOfRun targets2 events2 run2) alarms round whole b a log) t0 t1
@@ -162,25 +183,40 @@ span_of targets targets2 events events2 run run2 alarms round whole b a t0 t1 on
     (subst (λ (n : List Addr). GoesOnBy (λ log. IsSpan (IsOfRun n events run) alarms round whole b a log) t0 t1) (sym one) span))
 
 -- a clock failed, and nothing was run
-pub span_stops : (IsReport : RoundReport → Type 0) (alarms : List (List ℕ)) (round : ℕ) (whole : Bool) (b a : Option KeeperFault) (failure : Failure) (r : Result Unit Failure)
+pub span_stops : (IsReport : RoundReport → Type 0) (alarms : List (List ℕ)) (round : ℕ) (whole : Bool) (b a : Kept) (failure : Failure) (r : Result Unit Failure)
     (t0 t1 : Option (List AtHost)) → r ≡ Err failure → a ≡ b → GoesOnBy (λ log. IsStopped log failure) t0 t1
     → GoesOnBy (λ log. IsSpanRun IsReport alarms round whole b a log r) t0 t1
 span_stops IsReport alarms round whole b a failure r t0 t1 is same stop =
     subst (λ (e : Result Unit Failure). GoesOnBy (λ log. IsSpanRun IsReport alarms round whole b a log e) t0 t1) (sym is)
     (weaker (λ log. IsStopped log failure) (λ log. IsSpanRun IsReport alarms round whole b a log (Err failure)) t0 t1 (λ log s. (s, same)) stop)
 
--- two looks at the clock
-pub timed_twice : {T : Type 0} → (value : T) (one two : Instant) (a b : ℕ) (t0 t1 t2 : Option (List AtHost)) → GoesOnBy (λ log. IsPassed one log (Ok a)) t0 t1
-    → GoesOnBy (λ log. IsPassed two log (Ok b)) t1 t2 → GoesOnBy (λ log. IsTimedRun log (let r : Result T Failure = Ok value in r)) t0 t2
-timed_twice value one two a b t0 t1 t2 first second = record {
-  more = first.more ++ second.more;
-  holds = (first.holds.0, second.holds.0, λ i. first.holds.1 i ++ second.holds.1 i);
-  on = goes_on first.more second.more t0 t1 t2 first.on second.on;
+-- when a round ended, by the kind of a span
+pub dated : (span : Span) (ms : ℕ) (date : SystemTime) (was is : Option ℕ) → (span ≡ Round → is ≡ Some (ms / 1000)) → ((n : ℕ) → span ≡ Between n → is ≡ was)
+    → ms ≡ milliseconds_of (system_time_nanos date) → is ≡ round_after (is_round span) date was
+dated Round ms date was is whole between same = whole refl ∙ ap (λ (m : ℕ). Some (m / 1000)) same
+dated (Between n) ms date was is whole between same = between n refl
+
+-- two looks at the clock, and one at the date
+pub timed : {T : Type 0} → (value : T) (span : Span) (one two : Instant) (a b ms : ℕ) (was is : Option ℕ) (t0 t1 t2 t3 : Option (List AtHost))
+    → GoesOnBy (λ log. IsPassed one log (Ok a)) t0 t1 → GoesOnBy (λ log. IsPassed two log (Ok b)) t1 t2 → GoesOnBy (λ log. IsDate log (Ok ms)) t2 t3
+    → (span ≡ Round → is ≡ Some (ms / 1000)) → ((n : ℕ) → span ≡ Between n → is ≡ was)
+    → GoesOnBy (λ log. IsTimedRun (is_round span) was is log (let r : Result T Failure = Ok value in r)) t0 t3
+timed value span one two a b ms was is t0 t1 t2 t3 first second third whole between = record {
+  more = (first.more ++ second.more) ++ third.more;
+  holds = (
+    first.holds.0,
+    second.holds.0,
+    third.holds.0,
+    λ i. (first.holds.1 i ++ second.holds.1 i) ++ third.holds.1 i,
+    dated span ms third.holds.0 was is whole between third.holds.2,
+  );
+  on = goes_on (first.more ++ second.more) third.more t0 t2 t3 (goes_on first.more second.more t0 t1 t2 first.on second.on) third.on;
 }
 
-pub not_timed : {T : Type 0} → (failure : Failure) (r : Result T Failure) (t0 t1 : Option (List AtHost)) → r ≡ Err failure → GoesOnBy (λ log. IsStopped log failure) t0 t1
-    → GoesOnBy (λ log. IsTimedRun log r) t0 t1
-not_timed {T} failure r t0 t1 is stop = subst (λ (e : Result T Failure). GoesOnBy (λ log. IsTimedRun log e) t0 t1) (sym is) stop
+pub not_timed : {T : Type 0} → (whole : Bool) (was : Option ℕ) (failure : Failure) (r : Result T Failure) (t0 t1 : Option (List AtHost)) → r ≡ Err failure
+    → GoesOnBy (λ log. IsStopped log failure) t0 t1 → GoesOnBy (λ log. IsTimedRun whole was was log r) t0 t1
+not_timed {T} whole was failure r t0 t1 is stop = subst (λ (e : Result T Failure). GoesOnBy (λ log. IsTimedRun whole was was log e) t0 t1) (sym is)
+    (weaker (λ log. IsStopped log failure) (λ log. IsTimedRun whole was was log (let e : Result T Failure = Err failure in e)) t0 t1 (λ log s. (s, refl)) stop)
 
 -- lines of alarms
 pub alarmed : (alarms : List (List ℕ)) (done : Unit) (t0 t1 : Option (List AtHost))
@@ -207,9 +243,9 @@ unsaved_by (Some number) None same is = absurd (let never : ⊥ = cc in never)
 unsaved_by (Some number) (Some fault) same is = is
 
 -- troubles of a round
-pub troubles : (round : ℕ) (r : Result Unit Failure) (t0 t1 : Option (List AtHost)) → GoesOnBy (AreChangesSaid round) t0 t1 → OrMemory (λ done. Unit {0}) r
-    → GoesOnBy (λ log. AreTroubles true round log r) t0 t1
-troubles round r t0 t1 said memory = weaker (AreChangesSaid round) (λ log. AreTroubles true round log r) t0 t1 (λ log is. (is, memory)) said
+pub troubles : (fresh : Freshness) (round : ℕ) (changes : List Change) (r : Result Unit Failure) (t0 t1 : Option (List AtHost))
+    → GoesOnBy (λ log. AreTroublesOf fresh round changes log r) t0 t1 → GoesOnBy (λ log. AreTroubles true round log r) t0 t1
+troubles fresh round changes r t0 t1 = weaker (λ log. AreTroublesOf fresh round changes log r) (λ log. AreTroubles true round log r) t0 t1 (λ log is. (fresh, changes, is))
 
 pub no_troubles : (round : ℕ) (t : Option (List AtHost)) → GoesOnBy (λ log. AreTroubles false round log (let r : Result Unit Failure = Ok tt in r)) t t
 no_troubles round t = record { more = []; holds = (refl, refl); on = stays t }
@@ -227,12 +263,17 @@ no_changes alarms round whole failure r t0 t1 is first =
     (then_fails (AreTroubles whole round) (λ (said : Unit {0}). AreAlarms alarms) failure t0 t1 first)
 
 -- the same span with names alarms by what stayed
-pub span_shown : (IsReport : RoundReport → Type 0) (alarms other : List (List ℕ)) (round : ℕ) (whole : Bool) (b a : Option KeeperFault) (t0 t1 : Option (List AtHost)) → alarms ≡ other
+pub span_shown : (IsReport : RoundReport → Type 0) (alarms other : List (List ℕ)) (round : ℕ) (whole : Bool) (b a : Kept) (t0 t1 : Option (List AtHost)) → alarms ≡ other
     → GoesOnBy (λ log. IsSpan IsReport alarms round whole b a log) t0 t1 → GoesOnBy (λ log. IsSpan IsReport other round whole b a log) t0 t1
 span_shown IsReport alarms other round whole b a t0 t1 same = subst (λ (f : List (List ℕ)). GoesOnBy (λ log. IsSpan IsReport f round whole b a log) t0 t1) same
 
 -- a clock that failed in a span
-pub span_stopped : (IsReport : RoundReport → Type 0) (alarms : List (List ℕ)) (round : ℕ) (whole : Bool) (b a : Option KeeperFault) (failure : Failure) (t0 t1 : Option (List AtHost))
+pub span_stopped : (IsReport : RoundReport → Type 0) (alarms : List (List ℕ)) (round : ℕ) (whole : Bool) (b a : Kept) (failure : Failure) (t0 t1 : Option (List AtHost))
     → GoesOnBy (λ log. IsSpanRun IsReport alarms round whole b a log (Err failure)) t0 t1 → GoesOnBy (λ log. IsStopped log failure) t0 t1
 span_stopped IsReport alarms round whole b a failure t0 t1 =
     weaker (λ log. IsSpanRun IsReport alarms round whole b a log (Err failure)) (λ log. IsStopped log failure) t0 t1 (λ log is. is.0)
+
+-- a clock that failed in a run
+pub timed_stopped : (T : Type 0) (whole : Bool) (was is : Option ℕ) (failure : Failure) (t0 t1 : Option (List AtHost))
+    → GoesOnBy (λ log. IsTimedRun {T = T} whole was is log (Err failure)) t0 t1 → GoesOnBy (λ log. IsStopped log failure) t0 t1
+timed_stopped T whole was is failure t0 t1 = weaker (λ log. IsTimedRun {T = T} whole was is log (Err failure)) (λ log. IsStopped log failure) t0 t1 (λ log it. it.0)

@@ -26,10 +26,11 @@ use Rattle.mon_station.specs.State.{State}
 use Rattle.mon_station_commands.specs.Opening.{IsOfFile, IsOpenedOr}
 use Rattle.mon_station_commands.specs.Pace.{IsTime}
 use Rattle.mon_station_commands.specs.Places.{AreSavedIf, IsFile, IsHad, IsLookedAt, IsNoSocket, IsPlace, IsPlaceAt, IsShownOpened, IsSocket, IsSocketOr, IsUnseenOpened, IsWithout, MayBeThere}
-use Rattle.mon_station_commands.specs.Rounds.{IsRun, Kept, kept}
+use Rattle.mon_station_commands.specs.Rounds.{IsRun, nothing_kept}
 use Rattle.mon_station_commands.specs.Station.{IsRunOf, IsSeen, IsStarted, IsUnseen, IsWebSaid, IsWhole}
 use Rattle.mon_station_commands.specs.Steps.{SomeOr, only}
 use Rattle.mon_station_commands.specs.Telling.{AreNoted, IsOpening, http_line, short_lines_of}
+use Rattle.mon_station_commands.specs.declared.live.Kept.{Kept}
 use Rattle.mon_station_commands.specs.declared.live.Reports.{Reports}
 use Rattle.mon_udp.specs.declared.addr.Addr.{Addr}
 
@@ -260,14 +261,14 @@ module _ (timing : Timing) (reports : Reports) (s : StationSettings) where
       (then_follows (IsWebSaid web) (λ (v : Unit {0}). IsRunOf timing reports) (Ok tt) r t1 t2 t3 said run))
 
   -- the rounds of a station whose reports are those of its arguments
-  pub run_of : (own : Reports) (before : Option Failure) (unsaved : Option KeeperFault) (r : Result Unit Failure) (t0 t1 : Option (List AtHost)) → own.printing ≡ reports.printing
-      → own.out ≡ reports.out → before ≡ None → unsaved ≡ None
-      → GoesOnBy (λ log. IsRun timing.rounds timing.report_every own.printing (option_map string_bytes own.out) (kept before unsaved) log r) t0 t1
+  pub run_of : (own : Reports) (before : Kept) (r : Result Unit Failure) (t0 t1 : Option (List AtHost)) → own.printing ≡ reports.printing
+      → own.out ≡ reports.out → before ≡ nothing_kept
+      → GoesOnBy (λ log. IsRun timing.rounds timing.report_every own.printing (option_map string_bytes own.out) before log r) t0 t1
       → GoesOnBy (λ log. IsRunOf timing reports log r) t0 t1
-  run_of own before unsaved r t0 t1 printing out none nothing run =
-      subst (λ (p : Printing). GoesOnBy (λ log. IsRun timing.rounds timing.report_every p (option_map string_bytes reports.out) (kept None None) log r) t0 t1) printing
-      (subst (λ (o : Option (String Global)). GoesOnBy (λ log. IsRun timing.rounds timing.report_every own.printing (option_map string_bytes o) (kept None None) log r) t0 t1) out
-      (subst (λ (k : Kept). GoesOnBy (λ log. IsRun timing.rounds timing.report_every own.printing (option_map string_bytes own.out) k log r) t0 t1) (λ i. kept (none i) (nothing i)) run))
+  run_of own before r t0 t1 printing out nothing run =
+      subst (λ (p : Printing). GoesOnBy (λ log. IsRun timing.rounds timing.report_every p (option_map string_bytes reports.out) nothing_kept log r) t0 t1) printing
+      (subst (λ (o : Option (String Global)). GoesOnBy (λ log. IsRun timing.rounds timing.report_every own.printing (option_map string_bytes o) nothing_kept log r) t0 t1) out
+      (subst (λ (k : Kept). GoesOnBy (λ log. IsRun timing.rounds timing.report_every own.printing (option_map string_bytes own.out) k log r) t0 t1) nothing run))
 
   -- a station without HTTP
   module _ where

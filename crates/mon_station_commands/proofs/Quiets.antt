@@ -12,7 +12,7 @@ use Rattle.mon_host.specs.Log.{GoesOnBy}
 use Rattle.mon_host.proofs.Promised.{goes_on, stays, weaker}
 use Rattle.mon_station_commands.specs.Pace.{IsDate, IsPassed, IsStopped, IsTime, IsWait}
 use Rattle.mon_station_commands.specs.Quiet.{AreQuiet, is_quiet}
-use Rattle.mon_station_commands.specs.Telling.{AreChangesSaid, AreNoted, AreSaid, IsChangeSaid, text_lines}
+use Rattle.mon_station_commands.specs.Telling.{AreNoted, AreSaid}
 
 pub are_quiet_on : (log rest : List AtHost) → AreQuiet log → AreQuiet rest → AreQuiet (log ++ rest)
 are_quiet_on log rest one two = list_all-append is_quiet log rest ∙ (λ i. one i && two i)
@@ -41,10 +41,6 @@ pub are_said : (lines : List (List ℕ)) → AreQuiet (map Noted lines)
 are_said [] = refl
 are_said (line ∷ lines) = are_said lines
 
-is_change : (round : ℕ) (log : List AtHost) (r : Result Unit AllocError) → IsChangeSaid round log r → AreQuiet log
-is_change round log (Ok done) (text, noted) = are_noted (text_lines round text) log noted
-is_change round log (Err fault) is = are_quiet_as [] log is refl
-
 is_second : (more : Option (List ℕ)) (log : List AtHost) → IsSecond more log → AreQuiet log
 is_second (Some more) log is = are_quiet_as _ log is refl
 is_second None log (words, is) = are_quiet_as _ log is refl
@@ -69,9 +65,6 @@ module _ (before after : Option (List AtHost)) where
   pub said : (texts : List (List ℕ)) (r : Result Unit AllocError) → GoesOnBy (λ log. AreSaid texts log r) before after → GoesOnBy AreQuiet before after
   said texts r = weaker (λ log. AreSaid texts log r) AreQuiet before after (λ log is. are_quiet_as _ log is.log_is (are_said (take is.many texts)))
 
-  pub change : (round : ℕ) (r : Result Unit AllocError) → GoesOnBy (λ log. IsChangeSaid round log r) before after → GoesOnBy AreQuiet before after
-  change round r = weaker (λ log. IsChangeSaid round log r) AreQuiet before after (λ log is. is_change round log r is)
-
   pub failure : (why : Failure) → GoesOnBy (IsTold why) before after → GoesOnBy AreQuiet before after
   failure why = weaker (IsTold why) AreQuiet before after (λ log is. are_quiet_as _ log is.log_is (is_told_more _ _ is.rest is.more))
 
@@ -87,10 +80,6 @@ module _ (before after : Option (List AtHost)) where
 -- the same end by another name
 pub quiet_to : (before after other : Option (List AtHost)) → other ≡ after → GoesOnBy AreQuiet before after → GoesOnBy AreQuiet before other
 quiet_to before after other is = subst (λ (t : Option (List AtHost)). GoesOnBy AreQuiet before t) (sym is)
-
--- changes of trouble
-pub changes : (round : ℕ) (before after : Option (List AtHost)) → GoesOnBy (AreChangesSaid round) before after → GoesOnBy AreQuiet before after
-changes round before after = weaker (AreChangesSaid round) AreQuiet before after (λ log said. are_noted (flat_map (text_lines round) said.0) log said.1)
 
 -- quiet events, and then a clock that failed
 pub are_stopped_on : (log rest : List AtHost) (failure : Failure) → AreQuiet log → IsStopped rest failure → IsStopped (log ++ rest) failure

@@ -23,14 +23,14 @@ module _ (words : StationArgs) where
   abbrev Reads : List AtHost → Result (StationSettings × Printing) Failure → Type 0
   Reads = IsLabelled words.settings.now (option_map (λ l. l.now) words.labels) words.printed
 
-  abbrev Makes : Printing → Result Reports Failure → Type 0
-  Makes printing = OrMemory (AreReports words printing)
+  abbrev Makes : StationSettings → Printing → Result Reports Failure → Type 0
+  Makes s printing = OrMemory (AreReports words s.core.station printing)
 
   abbrev AfterReports : Option Addr → StationSettings → Reports → List AtHost → Result Unit Failure → Type 0
   AfterReports door s reports = IsSeenIf door words.timing reports s
 
   abbrev AfterSettings : Option Addr → StationSettings × Printing → List AtHost → Result Unit Failure → Type 0
-  AfterSettings door both = Then (Quietly (Makes both.1)) (AfterReports door both.0)
+  AfterSettings door both = Then (Quietly (Makes both.0 both.1)) (AfterReports door both.0)
 
   abbrev AfterDoor : Option Addr → List AtHost → Result Unit Failure → Type 0
   AfterDoor door = Then Reads (AfterSettings door)
@@ -55,15 +55,15 @@ module _ (words : StationArgs) where
   after_settings door both r t0 t1 t2 given read rest = after_door door r t0 t2 given (then_follows Reads (AfterSettings door) (Ok both) r t0 t1 t2 read rest)
 
   pub no_reports : (door : Option Addr) (s : StationSettings) (printing : Printing) (failure : Failure) (r : Result Unit Failure) (t0 t1 : Option (List AtHost)) → r ≡ Err failure
-      → Gives (Ok door) → GoesOnBy (λ log. Reads log (Ok (s, printing))) t0 t1 → Makes printing (Err failure) → GoesOnBy (λ log. IsRunning words log r) t0 t1
+      → Gives (Ok door) → GoesOnBy (λ log. Reads log (Ok (s, printing))) t0 t1 → Makes s printing (Err failure) → GoesOnBy (λ log. IsRunning words log r) t0 t1
   no_reports door s printing failure r t0 t1 is given read why =
       subst (λ (e : Result Unit Failure). GoesOnBy (λ log. IsRunning words log e) t0 t1) (sym is)
       (after_settings door (s, printing) (Err failure) t0 t1 t1 given read
-      (then_fails (Quietly (Makes printing)) (AfterReports door s) failure t1 t1 (quietly (Makes printing) (Err failure) t1 why)))
+      (then_fails (Quietly (Makes s printing)) (AfterReports door s) failure t1 t1 (quietly (Makes s printing) (Err failure) t1 why)))
 
   pub words_run : (door : Option Addr) (s : StationSettings) (printing : Printing) (reports : Reports) (r : Result Unit Failure) (t0 t1 t2 : Option (List AtHost))
-      → Gives (Ok door) → GoesOnBy (λ log. Reads log (Ok (s, printing))) t0 t1 → Makes printing (Ok reports)
+      → Gives (Ok door) → GoesOnBy (λ log. Reads log (Ok (s, printing))) t0 t1 → Makes s printing (Ok reports)
       → GoesOnBy (λ log. IsSeenIf door words.timing reports s log r) t1 t2 → GoesOnBy (λ log. IsRunning words log r) t0 t2
   words_run door s printing reports r t0 t1 t2 given read made run =
       after_settings door (s, printing) r t0 t1 t2 given read
-      (then_follows (Quietly (Makes printing)) (AfterReports door s) (Ok reports) r t1 t1 t2 (quietly (Makes printing) (Ok reports) t1 made) run)
+      (then_follows (Quietly (Makes s printing)) (AfterReports door s) (Ok reports) r t1 t1 t2 (quietly (Makes s printing) (Ok reports) t1 made) run)

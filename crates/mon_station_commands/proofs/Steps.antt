@@ -1,10 +1,10 @@
 -- Steps that are done one after another.
-use Rattle.std.proofs.Common.{◌≡◌, ◌∙◌, ◌++◌, List, ℕ, [], ap, refl, subst, sym}
-use Rattle.std.specs.Prelude.{IfOk, IsErrAnd, Option, Some, None, Result, Ok, Err}
+use Rattle.std.proofs.Common.{◌≡◌, ◌∙◌, ◌++◌, ◌∷◌, List, ℕ, [], ap, refl, subst, sym}
+use Rattle.std.specs.Prelude.{false, IfOk, IsErrAnd, Option, Some, None, Result, Ok, Err}
 use Rattle.std.specs.Global.{Vec}
 use Rattle.std.specs.declared.alloc.AllocError.{AllocError}
 use Rattle.mon_board.specs.declared.board.Board.{Board}
-use Rattle.mon_console.specs.Failure.{IsMemory}
+use Rattle.mon_console.specs.Failure.{IsMemory, IsTold}
 use Rattle.mon_console.specs.Files.{IsPrint, IsReplacing}
 use Rattle.mon_console.specs.Shown.{shown_by}
 use Rattle.mon_console.specs.declared.failure.Failure.{Failure}
@@ -12,12 +12,12 @@ use Rattle.mon_board.specs.Board.{window_of}
 use Rattle.mon_formats.specs.Formats.{report_in}
 use Rattle.mon_formats.specs.declared.format.Format.TheVariants.{Text}
 use Rattle.mon_console.specs.declared.printing.Printing.{Printing}
-use Rattle.mon_host.specs.AtHost.{AtHost}
+use Rattle.mon_host.specs.AtHost.{AtHost, IsNoted, Noted}
 use Rattle.mon_host.specs.Log.{GoesOnBy}
 use Rattle.mon_host.specs.Then.{Quietly, Then}
-use Rattle.mon_host.proofs.Promised.{goes_on, quietly, then_fails, then_follows}
+use Rattle.mon_host.proofs.Promised.{goes_on, quietly, then_fails, then_follows, weaker}
 use Rattle.mon_page.specs.declared.figures.Figures.{Figures}
-use Rattle.mon_station_commands.specs.Reporting.{IsFiled, IsOut, IsReport, report_by}
+use Rattle.mon_station_commands.specs.Reporting.{IsChangeOut, IsFiled, IsOut, IsReport, IsUnwritten, failed_by, report_by, unwritten_line}
 use Rattle.mon_station_commands.specs.Steps.{IsKeptOf, IsSaidOf, IsTried, OrMemory, kept_after}
 
 -- there was no memory for a value
@@ -78,12 +78,26 @@ plain Holds printing board other text format names same is = record {
       ∙ (λ i. report_in (sym format i) (shown_by (sym names i)) board.watch (window_of board) None printing.labels.items));
 }
 
--- a file for reports, and what was done to it
-pub out : (path : Option (List ℕ)) (own octets : List ℕ) (Holds : List ℕ → Type 0) (failure : Option Failure) (before after : Option (List AtHost)) → path ≡ Some own → octets ≡ own
-    → GoesOnBy (λ log. IsTried (IsFiled octets Holds) log failure) before after → GoesOnBy (λ log. IsOut path Holds log failure) before after
-out path own octets Holds failure before after is same done =
-    subst (λ (p : Option (List ℕ)). GoesOnBy (λ log. IsOut p Holds log failure) before after) (sym is)
-    (subst (λ (o : List ℕ). GoesOnBy (λ log. IsTried (IsFiled o Holds) log failure) before after) same done)
+-- a file for reports, what was done to it, and what was said of that
+pub out : (round : ℕ) (path : Option (List ℕ)) (own octets octets2 : List ℕ) (Holds : List ℕ → Type 0) (before after : Option Failure) (given : Result Unit Failure)
+    (t0 t1 t2 : Option (List AtHost)) → path ≡ Some own → octets ≡ own → octets2 ≡ own → after ≡ failed_by given
+    → GoesOnBy (λ log. IsFiled octets Holds log given) t0 t1 → GoesOnBy (IsChangeOut round octets2 before given) t1 t2
+    → GoesOnBy (λ log. IsOut round path Holds before log after) t0 t2
+out round path own octets octets2 Holds before after given t0 t1 t2 is same same2 failed filed said =
+    subst (λ (p : Option (List ℕ)). GoesOnBy (λ log. IsOut round p Holds before log after) t0 t2) (sym is)
+    record {
+      more = filed.more ++ said.more;
+      holds = record {
+        given = given;
+        begin = filed.more;
+        filed = subst (λ (o : List ℕ). IsFiled o Holds filed.more given) same filed.holds;
+        rest = said.more;
+        said = subst (λ (o : List ℕ). IsChangeOut round o before given said.more) same2 said.holds;
+        after_is = failed;
+        log_is = refl;
+      };
+      on = goes_on filed.more said.more t0 t1 t2 filed.on said.on;
+    }
 
 -- a step that was tried, and the failure that is kept
 pub kept_of : (Step : List AtHost → Result Unit Failure → Type 0) (before same after failure : Option Failure) (start end : Option (List AtHost)) → same ≡ before
@@ -93,3 +107,19 @@ kept_of Step before same after failure start end is kept done = record {
   holds = record { failure = failure; tried = done.holds; kept = kept ∙ ap (λ (b : Option Failure). kept_after b failure) is };
   on = done.on;
 }
+
+-- one line of which all is stated
+pub line_said : (line : List ℕ) (before after : Option (List AtHost)) → GoesOnBy (IsNoted (Some line)) before after → GoesOnBy (λ log. log ≡ Noted line ∷ []) before after
+line_said line before after = weaker (IsNoted (Some line)) (λ log. log ≡ Noted line ∷ []) before after (λ log is. is.2 ∙ ap (λ (o : List ℕ). Noted o ∷ []) is.1)
+
+-- the line of a file that is not written, and why
+pub unwritten_said : (round : ℕ) (path : List ℕ) (failure : Failure) (before between after : Option (List AtHost))
+    → GoesOnBy (IsNoted (Some (unwritten_line round path))) before between → GoesOnBy (IsTold failure) between after
+    → GoesOnBy (IsUnwritten false round path failure) before after
+unwritten_said round path failure before between after note told =
+    let line = line_said (unwritten_line round path) before between note in
+    record {
+      more = line.more ++ told.more;
+      holds = (told.more, told.holds, ap (λ (l : List AtHost). l ++ told.more) line.holds);
+      on = goes_on line.more told.more before between after line.on told.on;
+    }

@@ -66,8 +66,13 @@ engines_for zero engines = []
 engines_for (suc n) engines = engines_for n engines ++ (engine_at engines n ∷ [])
 
 -- The figures are those of a station with this state, of what it did and received since its start,
--- with these peers and engine ids of targets, at this time in milliseconds since its start.
-pub record AreFigures (state : State) (course : Course) (fresh : Freshness) (peers : List ℕ) (engines : List (Vec ℕ)) (now : ℕ) (reports : Reports) (f : Figures) : Type 0 where
+-- with these peers and engine ids of targets, at this time in milliseconds since its start. Its last
+-- round ended at `round_at`, in seconds since 1970.
+pub record AreFigures (state : State) (course : Course) (fresh : Freshness) (peers : List ℕ)
+    (engines : List (Vec ℕ)) (now : ℕ) (round_at : Option ℕ) (reports : Reports) (f : Figures)
+    : Type 0 where
+  pub station : f.station ≡ reports.station
+  pub at : f.round_at ≡ round_at
   pub incarnation : f.incarnation ≡ state.incarnation
   pub taken : f.taken ≡ course.taken
   pub given_up : f.given_up ≡ course.given_up

@@ -14,3 +14,4 @@ pub mod Spans
 pub mod Station
 pub mod Steps
 pub mod Telling
+pub mod Troubles

@@ -9,8 +9,9 @@ use Rattle.mon_faults.specs.Fault.{innermost_of, station_fault}
 use Rattle.mon_faults.specs.declared.fault.Fault.{Fault}
 use Rattle.mon_host.specs.Reason.{Why}
 use Rattle.mon_rounds.specs.declared.reporting.Notice.{Notice}
-use Rattle.mon_rounds.specs.declared.reporting.Notice.TheVariants.{NotSaved}
+use Rattle.mon_rounds.specs.declared.reporting.Notice.TheVariants.{NoMemory, NotSaved}
 use Rattle.mon_station.specs.Saved.{IsOpeningFault}
+use Rattle.mon_station.specs.declared.event.Event.TheVariants.{Save}
 use Rattle.mon_station.specs.declared.fault.StationFault.{StationFault}
 
 -- the fault of a station's file that another process has open
@@ -41,7 +42,9 @@ IsNoStation failure = IsMemory failure
 abbrev pub last_of : List Notice → Option Notice
 last_of notices = slice_get notices (length notices - 1)
 
--- the number of the keeper's fault that a notice gives, if it is that of a save
+-- The number of the keeper's fault that a notice gives, if it is that of a save: 1 if memory was
+-- refused for it.
 abbrev pub unsaved_in : Option Notice → Option ℕ
 unsaved_in (Some (NotSaved number)) = Some number
+unsaved_in (Some (NoMemory Save)) = Some 1
 unsaved_in _ = None

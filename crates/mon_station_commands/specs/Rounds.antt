@@ -1,10 +1,9 @@
 -- What a station does from its first round to its last one.
-use Rattle.std.specs.Prelude.{◌≡◌, ◌⊎◌, ◌≤◌, ◌-◌, ℕ, zero, suc, true, List, [], ◌++◌, Option, Result, Ok, Err}
+use Rattle.std.specs.Prelude.{◌≡◌, ◌⊎◌, ◌≤◌, ◌-◌, ℕ, zero, suc, true, List, [], ◌++◌, Option, Some, None, Result, Ok, Err}
 use Rattle.std.specs.Global.{Vec}
 use Rattle.mon_console.specs.Shown.{shown_by}
 use Rattle.mon_console.specs.declared.failure.Failure.{Failure}
 use Rattle.mon_console.specs.declared.printing.Printing.{Printing}
-use Rattle.mon_disk.specs.declared.fault.KeeperFault.{KeeperFault}
 use Rattle.mon_host.specs.AtHost.{AtHost}
 use Rattle.mon_host.specs.Then.{Follows, Quietly, Then}
 use Rattle.mon_rounds.specs.Course.{IsDue}
@@ -20,6 +19,7 @@ use Rattle.mon_station_commands.specs.Reporting.{IsOut, IsReportOf, IsReported}
 use Rattle.mon_station_commands.specs.Spans.{IsOfRun, IsSpan}
 use Rattle.mon_station_commands.specs.Steps.{IsKeptOf}
 use Rattle.mon_station_commands.specs.Telling.{changed_notes}
+use Rattle.mon_station_commands.specs.declared.live.Kept.{Kept}
 use Rattle.mon_station_commands.specs.declared.live.Reports.{Reports}
 use Rattle.mon_udp.specs.declared.addr.Addr.{Addr}
 
@@ -31,59 +31,54 @@ pub record Moment : Type 0 where
   pub peers : List ℕ
   pub engines : List (Vec ℕ)
   pub now : ℕ
+  pub round_at : Option ℕ
   pub reports : Reports
 
 -- the report of a station at a time
 abbrev pub IsReportAt : Moment → List ℕ → Type 0
-IsReportAt m = IsReportOf m.state m.course m.fresh m.peers m.engines m.now m.reports
+IsReportAt m = IsReportOf m.state m.course m.fresh m.peers m.engines m.now m.round_at m.reports
 
--- what a station keeps of what failed: of reports between two rounds, and of the last save
-pub record Kept : Type 0 where
-  pub unprinted : Option Failure
-  pub unsaved : Option KeeperFault
-
--- these two
-abbrev pub kept : Option Failure → Option KeeperFault → Kept
-kept unprinted unsaved = record { unprinted = unprinted; unsaved = unsaved }
+-- what a station keeps before its first round
+abbrev pub nothing_kept : Kept
+nothing_kept = record { round_at = None; unsaved = None; unprinted = None; unwritten = None }
 
 -- A round. Its lines are said, and its report is written to the file for reports, if there is one.
--- `before` and `after` are what is kept of the last save, `seen` is what the windows of alarms were before,
--- and `unwritten` is why the report could not be written.
-pub record IsRound (round : ℕ) (printing : Printing) (out : Option (List ℕ))
-    (before after : Option KeeperFault) (log : List AtHost) (unwritten : Option Failure)
-    : Type 0 where
+-- `before` and `after` are what is kept, and `seen` is what the windows of alarms were before.
+pub record IsRound (round : ℕ) (printing : Printing) (out : Option (List ℕ)) (before after : Kept)
+    (log : List AtHost) : Type 0 where
   pub targets : List Addr
   pub events : List RoundEvent
   pub run : Run
   pub moment : Moment
   pub format : moment.reports.printing ≡ printing
+  pub at : moment.round_at ≡ after.round_at
   pub seen : List (List ℕ)
+  pub ran : Kept
   pub begin : List AtHost
   pub said : IsSpan (IsOfRun targets events run)
-      (changed_notes (shown_by printing.names) moment.state.board seen) round true before after begin
+      (changed_notes (shown_by printing.names) moment.state.board seen) round true before ran begin
   pub rest : List AtHost
-  pub written : IsOut out (IsReportAt moment) rest unwritten
+  pub written : IsOut round out (IsReportAt moment) ran.unwritten rest after.unwritten
+  pub kept : after ≡ record ran { unwritten = after.unwritten }
   pub log_is : log ≡ begin ++ rest
 
 -- A round was run; or a clock failed, which the failure says, and no report was made.
-abbrev pub IsRoundRun : (round : ℕ) → Printing → (out : Option (List ℕ))
-    → (before after : Option KeeperFault) → List AtHost → (unwritten : Option Failure)
-    → Result Unit Failure → Type 0
-IsRoundRun round printing out before after log unwritten (Ok done) =
-    IsRound round printing out before after log unwritten
-IsRoundRun round printing out before after log unwritten (Err failure) = IsStopped log failure
+abbrev pub IsRoundRun : (round : ℕ) → Printing → (out : Option (List ℕ)) → (before after : Kept)
+    → List AtHost → Result Unit Failure → Type 0
+IsRoundRun round printing out before after log (Ok done) = IsRound round printing out before after log
+IsRoundRun round printing out before after log (Err failure) = IsStopped log failure
 
--- a report between two rounds is printed; `before` and `after` are what was kept of failures to
--- print
-pub record IsPrinted (printing : Printing) (before : Option Failure)
-    (log : List AtHost) (after : Option Failure) : Type 0 where
+-- a report between two rounds is printed, and a failure of that is kept
+pub record IsPrinted (printing : Printing) (before : Kept) (log : List AtHost) (after : Kept)
+    : Type 0 where
   pub moment : Moment
   pub format : moment.reports.printing ≡ printing
-  pub kept_is : IsKeptOf (IsReported (IsReportAt moment)) before log after
+  pub at : moment.round_at ≡ before.round_at
+  pub kept_is : IsKeptOf (IsReported (IsReportAt moment)) before.unprinted log after.unprinted
+  pub kept : after ≡ record before { unprinted = after.unprinted }
 
 -- after a round a report is printed if it is due
-abbrev pub IsBetween : (round every : ℕ) → Printing → Option Failure → List AtHost
-    → Option Failure → Type 0
+abbrev pub IsBetween : (round every : ℕ) → Printing → Kept → List AtHost → Kept → Type 0
 IsBetween round every printing before log after =
     (IsDue round every × IsPrinted printing before log after)
     ⊎ ((¬ (IsDue round every)) × (log ≡ []) × (after ≡ before))
@@ -94,17 +89,17 @@ pub record IsOneMore (Earlier : List AtHost → Kept → Type 0) (round every : 
   pub before : Kept
   pub begin : List AtHost
   pub earlier : Earlier begin before
-  pub unwritten : Option Failure
-  pub ran : List AtHost
-  pub round_is : IsRound round printing out before.unsaved after.unsaved ran unwritten
+  pub ran : Kept
+  pub run : List AtHost
+  pub round_is : IsRound round printing out before ran run
   pub told : List AtHost
-  pub between : IsBetween round every printing before.unprinted told after.unprinted
+  pub between : IsBetween round every printing ran told after
   pub rest : List AtHost
   pub quiet : AreQuiet rest
-  pub log_is : log ≡ ((begin ++ ran) ++ told) ++ rest
+  pub log_is : log ≡ ((begin ++ run) ++ told) ++ rest
 
 -- So many rounds were run, each with what is between it and the next. `start` and `after` are what is
--- kept of what failed, before and after them.
+-- kept before and after them.
 abbrev pub AreRounds : (every : ℕ) → Printing → (out : Option (List ℕ)) → (start : Kept) → ℕ
     → List AtHost → (after : Kept) → Type 0
 AreRounds every printing out start zero log after = AreQuiet log × (after ≡ start)
@@ -112,29 +107,25 @@ AreRounds every printing out start (suc n) log after =
     IsOneMore (AreRounds every printing out start n) (suc n) every printing out log after
 
 -- the last of so many rounds, if there are any
-abbrev pub IsLast : (rounds : ℕ) → Printing → (out : Option (List ℕ))
-    → (before after : Option KeeperFault) → List AtHost → (unwritten : Option Failure) → Type 0
-IsLast zero printing out before after log unwritten = (log ≡ []) × (after ≡ before)
-IsLast (suc n) printing out before after log unwritten =
-    IsRound (suc n) printing out before after log unwritten
+abbrev pub IsLast : (rounds : ℕ) → Printing → (out : Option (List ℕ)) → (before after : Kept)
+    → List AtHost → Type 0
+IsLast zero printing out before after log = (log ≡ []) × (after ≡ before)
+IsLast (suc n) printing out before after log = IsRound (suc n) printing out before after log
 
 -- the last of so many rounds, in which a clock may fail
-abbrev pub IsLastRun : (rounds : ℕ) → Printing → (out : Option (List ℕ))
-    → (before after : Option KeeperFault) → List AtHost → (unwritten : Option Failure)
-    → Result Unit Failure → Type 0
-IsLastRun rounds printing out before after log unwritten (Ok done) =
-    IsLast rounds printing out before after log unwritten
-IsLastRun rounds printing out before after log unwritten (Err failure) = IsStopped log failure
+abbrev pub IsLastRun : (rounds : ℕ) → Printing → (out : Option (List ℕ)) → (before after : Kept)
+    → List AtHost → Result Unit Failure → Type 0
+IsLastRun rounds printing out before after log (Ok done) = IsLast rounds printing out before after log
+IsLastRun rounds printing out before after log (Err failure) = IsStopped log failure
 
 -- all rounds were run: those with another one after them, and the last
 pub record AreAll (rounds every : ℕ) (printing : Printing) (out : Option (List ℕ)) (start : Kept)
-    (log : List AtHost) (after : Kept) (unwritten : Option Failure) : Type 0 where
+    (log : List AtHost) (after : Kept) : Type 0 where
   pub before : Kept
   pub begin : List AtHost
   pub earlier : AreRounds every printing out start (rounds - 1) begin before
   pub rest : List AtHost
-  pub last : IsLast rounds printing out before.unsaved after.unsaved rest unwritten
-  pub same : after.unprinted ≡ before.unprinted
+  pub last : IsLast rounds printing out before after rest
   pub log_is : log ≡ begin ++ rest
 
 -- A clock failed after some of the rounds, which the failure says.
@@ -151,29 +142,28 @@ pub record AreCutShort (rounds every : ℕ) (printing : Printing) (out : Option 
 
 -- all rounds were run, or a clock failed
 abbrev pub AreRun : (rounds every : ℕ) → Printing → (out : Option (List ℕ)) → (start : Kept)
-    → List AtHost → (after : Kept) → (unwritten : Option Failure) → Result Unit Failure → Type 0
-AreRun rounds every printing out start log after unwritten (Ok done) =
-    AreAll rounds every printing out start log after unwritten
-AreRun rounds every printing out start log after unwritten (Err failure) =
+    → List AtHost → (after : Kept) → Result Unit Failure → Type 0
+AreRun rounds every printing out start log after (Ok done) =
+    AreAll rounds every printing out start log after
+AreRun rounds every printing out start log after (Err failure) =
     AreCutShort rounds every printing out start log failure
 
 -- after the rounds one report is printed, and the run ends as what was kept has it
-abbrev pub IsFinish : Moment → Kept → (unwritten : Option Failure) → List AtHost
-    → Result Unit Failure → Type 0
-IsFinish moment after unwritten = Then (IsReported (IsReportAt moment))
-    (λ done. Quietly (IsEnded after.unsaved after.unprinted unwritten))
+abbrev pub IsFinish : Moment → Kept → List AtHost → Result Unit Failure → Type 0
+IsFinish moment after = Then (IsReported (IsReportAt moment))
+    (λ done. Quietly (IsEnded after.unsaved after.unprinted after.unwritten))
 
 -- A station's run from its first round on: so many rounds, each with its report, and at the end one
 -- report more. Nothing but these reports is printed or written, and nothing is read.
 pub record IsRun (rounds every : ℕ) (printing : Printing) (out : Option (List ℕ)) (start : Kept)
     (log : List AtHost) (result : Result Unit Failure) : Type 0 where
   pub after : Kept
-  pub unwritten : Option Failure
   pub ran : Result Unit Failure
   pub begin : List AtHost
-  pub rounds_are : AreRun rounds every printing out start begin after unwritten ran
+  pub rounds_are : AreRun rounds every printing out start begin after ran
   pub moment : Moment
   pub format : moment.reports.printing ≡ printing
+  pub at : moment.round_at ≡ after.round_at
   pub rest : List AtHost
-  pub finish : Follows (λ done. IsFinish moment after unwritten) ran rest result
+  pub finish : Follows (λ done. IsFinish moment after) ran rest result
   pub log_is : log ≡ begin ++ rest

@@ -27,9 +27,10 @@ pub record AreTexts (Holds : Figures → Type 0) (shown : List ℕ → List ℕ)
   pub page : texts.page.items ≡ formatted Html shown entries (Some figures) labels
 
 -- The texts of a station: of its board as it is, and of what it says of itself, as AreFigures has it.
-abbrev pub AreTextsOf : State → Course → Freshness → (peers : List ℕ) (engines : List (Vec ℕ)) (now : ℕ) → Reports → Texts → Type 0
-AreTextsOf state course fresh peers engines now reports =
-    AreTexts (AreFigures state course fresh peers engines now reports) (shown_by reports.printing.names)
+abbrev pub AreTextsOf : State → Course → Freshness → (peers : List ℕ) (engines : List (Vec ℕ))
+    (now : ℕ) (round_at : Option ℕ) → Reports → Texts → Type 0
+AreTextsOf state course fresh peers engines now round_at reports =
+    AreTexts (AreFigures state course fresh peers engines now round_at reports) (shown_by reports.printing.names)
     (entries_from state.board.watch.rules (window_of state.board) 0 state.board.watch.instances)
     reports.printing.labels.items
 

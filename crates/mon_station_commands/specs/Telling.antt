@@ -11,8 +11,10 @@ use Rattle.mon_console.specs.Failure.{IsMemory}
 use Rattle.mon_console.specs.declared.failure.Failure.{Failure}
 use Rattle.mon_formats.specs.Changes.{change_line}
 use Rattle.mon_host.specs.AtHost.{AtHost, Noted}
-use Rattle.mon_poller.specs.declared.fault.ResponseFault.TheVariants.{OtherEngine}
+use Rattle.mon_poller.specs.declared.fault.ResponseFault.TheVariants.{OtherEngine, Stray}
 use Rattle.mon_report.specs.Alarms.{changes_from, raised_from}
+use Rattle.mon_rounds.specs.declared.clock.Restart.{Restart}
+use Rattle.mon_rounds.specs.declared.freshness.TargetAge.{TargetAge}
 use Rattle.mon_rounds.specs.declared.reporting.Notice.{Notice}
 use Rattle.mon_rounds.specs.declared.reporting.Notice.TheVariants.{Astray, BadClaim, BadResponse, GaveUp, NoMemory, NotPolled, NotSaved, NotShared}
 use Rattle.mon_rounds.specs.declared.reporting.RoundReport.{RoundReport}
@@ -30,9 +32,11 @@ AreNoted [] log = log ≡ []
 AreNoted (text ∷ texts) log = (octets : List ℕ) × (rest : List AtHost)
     × IfSome text (λ t. octets ≡ t) × AreNoted texts rest × (log ≡ Noted octets ∷ rest)
 
--- the line of a response that was refused; none if another engine answered, which is a change
+-- the line of a response that was refused; none if another engine answered, or if it came too late,
+-- which are changes
 abbrev pub response_lines : StationFault → List (Option (List ℕ))
 response_lines (Response OtherEngine) = []
+response_lines (Response Stray) = []
 response_lines fault = None ∷ []
 
 -- the line of a save that failed; if the disk did (2), the system's words may be in it
@@ -97,21 +101,31 @@ round_lines round report = flat_map (notice_lines round) report.notices.items
     ++ stray_lines round (strays_in report.notices.items) (last_stray report.notices.items)
     ++ unreceived_lines round report.source_faults ++ unsent_lines round report.send_faults
 
+-- what is said of an agent that restarted: its boots, or until when its samples are too old
+abbrev pub restart_text : (boots : ℕ) → (until : Option ℕ) → List ℕ
+restart_text boots None = codes " restarted: boots " ++ (decimal boots ++ codes "\n")
+restart_text boots (Some time) =
+    codes " restarted without raising its boots: its samples are too old until its time is past " ++ (decimal time ++ codes "\n")
+
+-- the line of a target whose agent restarted
+abbrev pub restart_line : (round number : ℕ) → Addr → (boots : ℕ) → (until : Option ℕ) → List ℕ
+restart_line round number at boots until = codes "snmpmon: round " ++ (decimal round ++ (codes ": target "
+    ++ (decimal number ++ (codes " at " ++ (addr_text at ++ restart_text boots until)))))
+
+-- that line, if there was a restart
+abbrev pub restart_if : (round : ℕ) → TargetAge → Option Restart → List (Option (List ℕ))
+restart_if round t None = []
+restart_if round t (Some r) = Some (restart_line round (t.number + 1) t.address r.boots r.until) ∷ []
+
+-- the line of a target whose agent restarted in the last spell
+abbrev pub restart_lines : (round : ℕ) → TargetAge → List (Option (List ℕ))
+restart_lines round t = restart_if round t t.clock.restart
+
 -- the line of a text about a round; none if it is empty
 abbrev pub text_lines : ℕ → List ℕ → List (Option (List ℕ))
 text_lines round [] = []
 text_lines round (c ∷ cs) =
     Some (codes "snmpmon: round " ++ decimal round ++ codes ": " ++ (c ∷ cs) ++ codes "\n") ∷ []
-
--- a trouble that begins or ends: one line about the round, or none
-abbrev pub IsChangeSaid : ℕ → List AtHost → Result Unit AllocError → Type 0
-IsChangeSaid round log (Ok done) = (text : List ℕ) × AreNoted (text_lines round text) log
-IsChangeSaid round log (Err fault) = log ≡ []
-
--- troubles that begin or end: for each a line about the round, or none
-abbrev pub AreChangesSaid : ℕ → List AtHost → Type 0
-AreChangesSaid round log =
-    (texts : List (List ℕ)) × AreNoted (flat_map (text_lines round) texts) log
 
 -- the line of an alarm
 abbrev pub alarm_note : (List ℕ → List ℕ) → Watch → AlarmChange → List ℕ

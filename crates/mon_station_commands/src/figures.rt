@@ -15,11 +15,13 @@ pub(crate) fn make_figures<S: Receiver + Drop, O: Outbox + Drop>(
     alloc: Global,
     live: &Live<S, O>,
 ) -> Result<Figures, AllocError>
-    ensures { IfOk result (AreFigures (state_of live.now.station.life) live.now.course live.now.freshness live.now.transport.peers.items live.now.transport.engines.items live.now.ended live.now.reports) }
+    ensures { IfOk result (AreFigures (state_of live.now.station.life) live.now.course live.now.freshness live.now.transport.peers.items live.now.transport.engines.items live.now.ended live.now.kept.round_at live.now.reports) }
 {
     let fresh = &live.freshness;
     let engines = live.transport.engines.as_slice();
     Ok(Figures {
+        station: live.reports.station,
+        round_at: live.kept.round_at,
         incarnation: live.station.incarnation(),
         taken: live.course.taken(),
         given_up: live.course.given_up(),

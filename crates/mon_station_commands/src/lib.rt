@@ -10,6 +10,7 @@ mod printing;
 mod showing;
 mod station;
 mod telling;
+mod troubles;
 
 pub use opening::print_saved_report;
 pub use station::run_station;

@@ -1,35 +1,38 @@
 //! A running station: what it works with, and a round of it.
 
-ghost use Rattle.std.specs.Prelude.{◌≡◌, ◌≤◌, IfErr, IfOk, IfSome, None, OnOk, Some, is_some, length, map, string_bytes};
+ghost use Rattle.std.specs.Prelude.{◌≡◌, ◌≤◌, ◌/◌, ℕ, IfErr, IfOk, IfSome, None, OnOk, Some, is_some, length, map, string_bytes};
 ghost use Rattle.mon_console.specs.Shown.{shown_by};
 ghost use Rattle.mon_disk.specs.Fault.{number_of};
 ghost use Rattle.mon_host.specs.AtHost.{IsNoted};
 ghost use Rattle.mon_host.specs.Log.{GoesOnBy};
+ghost use Rattle.mon_rounds.specs.Changes.{changes_between, told_by, troubles_after};
 ghost use Rattle.mon_rounds.specs.Kept.{kept_in};
 ghost use Rattle.mon_rounds.specs.Orderly.{begun};
 ghost use Rattle.mon_rounds.specs.Whole.{HasRun, IsWhole, view_of};
 ghost use Rattle.mon_station_commands.specs.Opening.{IsNoStation, last_of, unsaved_in};
 ghost use Rattle.mon_station_commands.specs.Places.{IsNoSocket};
-ghost use Rattle.mon_station_commands.specs.Spans.{AreAlarms, AreChanges, AreTroubles, IsAccountOf, IsOfRun, IsReportOr, IsSavedAfter, IsSpanRun, IsTimedRun, is_round};
+ghost use Rattle.mon_station_commands.specs.Rounds.{nothing_kept};
+ghost use Rattle.mon_station_commands.specs.Spans.{AreAlarms, AreChanges, AreTroubles, AreTroublesOf, IsAccountOf, IsOfRun, IsReportOr, IsSavedAfter, IsSpanRun, IsTimedRun, is_round};
 ghost use Rattle.mon_station_commands.specs.Steps.{OrMemory, SomeOr, only};
-ghost use Rattle.mon_station_commands.specs.Telling.{AreChangesSaid, IsOpening, changed_notes, start_line};
+ghost use Rattle.mon_station_commands.specs.Telling.{IsOpening, changed_notes, start_line};
 ghost use Rattle.mon_station.specs.Seen.{seen};
 ghost use Rattle.mon_station.specs.State.{state_of};
 
 use crate::limits::greatest_tries;
 use crate::opening::{or_socket_failure, unopened};
-use crate::pace::passed;
+use crate::pace::{passed, wall_time};
 use crate::printing::said;
 use crate::showing::show_span;
-use crate::telling::{tell_alarms, tell_change, tell_notices, tell_raised};
+use crate::telling::{tell_alarms, tell_notices, tell_raised, tell_restarts};
+use crate::troubles::{Facts, tell_troubles as say_troubles};
 use mon_console::{Failure, Printing};
 use mon_core::Core;
 use mon_disk::{FileDisk, KeeperFault};
 use mon_host::Host;
 use mon_poller::Target;
 use mon_rounds::{
-    Addresses, Course, Freshness, Notice, Receiver, RoundReport, Rounds, Sends, SocketOutbox, Span,
-    Spell, Troubles, polled_targets,
+    Addresses, Course, Freshness, Notice, Receiver, RoundEvent, RoundReport, Rounds, Sends,
+    SocketOutbox, Span, Spell, Troubles, polled_targets,
 };
 use mon_settings::StationSettings;
 use mon_station::{Outbox, Run, Station, StationFault};
@@ -56,12 +59,7 @@ pub(crate) struct Live<S: Receiver + Drop, O: Outbox + Drop> {
     pub(crate) origin: Instant,
     /// When the last round, or the time after it, ended, in milliseconds since then.
     pub(crate) ended: u64,
-    /// Why the last round's save failed, if it did.
-    pub(crate) unsaved: Option<KeeperFault>,
-    /// Why a report that could not be printed between two rounds could not.
-    pub(crate) unprinted: Option<Failure>,
-    /// Why the last round's report could not be written to the file for it, if it could not.
-    pub(crate) unwritten: Option<Failure>,
+    pub(crate) kept: Kept,
 }
 
 // By hand: where one is let go, a proof has one call and not a drop of each field.
@@ -78,6 +76,42 @@ impl<S: Receiver + Drop, O: Outbox + Drop> Drop for Live<S, O> {
             file: _,
             origin: _,
             ended: _,
+            kept: _,
+        } = self;
+    }
+}
+
+/// What a station keeps of its last round, and of what failed in it or before it.
+pub(crate) struct Kept {
+    /// When the last round ended, in seconds since 1970 by the wall clock, if one did.
+    pub(crate) round_at: Option<u64>,
+    /// Why the last round's save failed, if it did.
+    pub(crate) unsaved: Option<KeeperFault>,
+    /// Why a report that could not be printed between two rounds could not.
+    pub(crate) unprinted: Option<Failure>,
+    /// Why the last round's report could not be written to the file for it, if it could not.
+    pub(crate) unwritten: Option<Failure>,
+}
+
+impl Kept {
+    /// Nothing is kept yet.
+    fn nothing() -> Self
+        ensures { result ≡ nothing_kept }
+    {
+        Kept {
+            round_at: None,
+            unsaved: None,
+            unprinted: None,
+            unwritten: None,
+        }
+    }
+}
+
+// By hand: where one is let go, a proof has one call and not a drop of each field.
+impl Drop for Kept {
+    fn drop(self) {
+        let Kept {
+            round_at: _,
             unsaved: _,
             unprinted: _,
             unwritten: _,
@@ -117,6 +151,8 @@ impl<S: Receiver + Drop, O: Outbox + Drop> Drop for Transport<S, O> {
 /// How a station's reports are printed, the file that each round's report is written to, from how many
 /// rounds without a new sample on an instance is stale, and how many seconds lie between two rounds.
 pub(crate) struct Reports {
+    /// The station's number.
+    pub(crate) station: u32,
     pub(crate) printing: Printing,
     pub(crate) out: Option<String>,
     pub(crate) stale_after: u32,
@@ -130,6 +166,7 @@ pub(crate) struct Reports {
 impl Drop for Reports {
     fn drop(self) {
         let Reports {
+            station: _,
             printing: _,
             out: _,
             stale_after: _,
@@ -233,8 +270,7 @@ pub(crate) fn start_station<H: Host, S: Receiver + Drop, O: Outbox + Drop>(
         (length transport.peers.items) (shown_by setup.reports.printing.names) log
         (only (λ live. state_of live.station.life) result)) (H.log host.old) (H.log host.new) }
     ensures reports { IfOk result (λ live. live.reports ≡ setup.reports) }
-    ensures printed { IfOk result (λ live. live.unprinted ≡ None) }
-    ensures saved { IfOk result (λ live. live.unsaved ≡ None) }
+    ensures kept { IfOk result (λ live. live.kept ≡ nothing_kept) }
 {
     let Setup { settings, reports } = setup;
     let StationSettings { core, file, .. } = settings;
@@ -252,9 +288,7 @@ pub(crate) fn start_station<H: Host, S: Receiver + Drop, O: Outbox + Drop>(
         file,
         origin,
         ended: 0,
-        unsaved: None,
-        unprinted: None,
-        unwritten: None,
+        kept: Kept::nothing(),
     };
     tell_raised(alloc, host, &live)?;
     Ok(live)
@@ -331,15 +365,14 @@ pub(crate) fn run_span<H: Host, S: Shows + Drop, O: Outbox + Drop>(
     ensures run { GoesOnBy (λ log. IsSpanRun (IsOfRun live.new.transport.rounds.round.targets
         live.new.transport.rounds.round.events live.new.run) (changed_notes (shown_by live.old.reports.printing.names)
         (state_of live.new.station.life).board (map (λ w. w.items) live.old.course.windows.items))
-        number (is_round span) live.old.unsaved live.new.unsaved log result) (H.log host.old) (H.log host.new) }
+        number (is_round span) live.old.kept live.new.kept log result) (H.log host.old) (H.log host.new) }
     ensures printing { live.new.reports.printing ≡ live.old.reports.printing }
     ensures out { live.new.reports.out ≡ live.old.reports.out }
-    ensures printed { live.new.unprinted ≡ live.old.unprinted }
 {
     let ran = run_timed(alloc, host, live, span)?;
     let told = report_run(alloc, host, live, number, ran);
     let _ = said(host, told);
-    show_span(alloc, live, span);
+    show_span(alloc, live, number, span);
     Ok(())
 }
 
@@ -350,7 +383,8 @@ fn run_timed<H: Host, S: Receiver + Drop, O: Outbox + Drop>(
     live: &mut Live<S, O>,
     span: Span,
 ) -> Result<Result<Spell, StationFault>, Failure>
-    ensures timed { GoesOnBy (λ log. IsTimedRun log result) (H.log host.old) (H.log host.new) }
+    ensures timed { GoesOnBy (λ log. IsTimedRun (is_round span) live.old.kept.round_at live.new.kept.round_at
+        log result) (H.log host.old) (H.log host.new) }
     // The station was given the events of a whole round, or what came between two, and answered them so.
     ensures ran { IfOk result (λ ran. OnOk ran (HasRun
         (IsWhole span live.old.transport.rounds.round live.new.transport.rounds.round)
@@ -364,8 +398,7 @@ fn run_timed<H: Host, S: Receiver + Drop, O: Outbox + Drop>(
     ensures fault { IfOk result (λ ran. IfErr ran (λ fault. fault ≡ StationFault.OutOfMemory)) }
     ensures printing { live.new.reports.printing ≡ live.old.reports.printing }
     ensures out { live.new.reports.out ≡ live.old.reports.out }
-    ensures printed { live.new.unprinted ≡ live.old.unprinted }
-    ensures saved { live.new.unsaved ≡ live.old.unsaved }
+    ensures kept { live.new.kept ≡ record live.old.kept { round_at = live.new.kept.round_at } }
     ensures course { live.new.course ≡ live.old.course }
 {
     let began = passed(alloc, host, live.origin)?;
@@ -377,6 +410,8 @@ fn run_timed<H: Host, S: Receiver + Drop, O: Outbox + Drop>(
         &mut live.run,
     );
     live.ended = passed(alloc, host, live.origin)?;
+    let date = wall_time(alloc, host)?;
+    live.kept.round_at = round_after(span, date, live.kept.round_at);
     let spell = Spell {
         span,
         ended: live.ended,
@@ -385,6 +420,18 @@ fn run_timed<H: Host, S: Receiver + Drop, O: Outbox + Drop>(
     match ran {
         Ok(()) => Ok(Ok(spell)),
         Err(fault) => Ok(Err(fault)),
+    }
+}
+
+/// Returns when the last round ended, in seconds since 1970, after what ended at this time in
+/// milliseconds since 1970.
+fn round_after(span: Span, date: u64, before: Option<u64>) -> Option<u64>
+    ensures whole { span ≡ Span.Round → result ≡ Some (date / 1000) }
+    ensures between { (ms : ℕ) → span ≡ Span.Between ms → result ≡ before }
+{
+    match span {
+        Span::Round => Some(date / 1000),
+        Span::Between(_) => before,
     }
 }
 
@@ -400,10 +447,10 @@ fn report_run<H: Host, S: Receiver + Drop, O: Outbox + Drop>(
     ensures account { GoesOnBy (λ log. IsAccountOf ran (IsOfRun live.old.transport.rounds.round.targets
         live.old.transport.rounds.round.events live.old.run) (changed_notes (shown_by live.old.reports.printing.names)
         (state_of live.old.station.life).board (map (λ w. w.items) live.old.course.windows.items))
-        number live.old.unsaved live.new.unsaved log result) (H.log host.old) (H.log host.new) }
+        number live.old.kept.unsaved live.new.kept.unsaved log result) (H.log host.old) (H.log host.new) }
     ensures printing { live.new.reports.printing ≡ live.old.reports.printing }
     ensures out { live.new.reports.out ≡ live.old.reports.out }
-    ensures printed { live.new.unprinted ≡ live.old.unprinted }
+    ensures kept { live.new.kept ≡ record live.old.kept { unsaved = live.new.kept.unsaved } }
     ensures round { live.new.transport.rounds.round ≡ live.old.transport.rounds.round }
     ensures ran { live.new.run ≡ live.old.run }
     ensures station { live.new.station ≡ live.old.station }
@@ -425,11 +472,11 @@ fn report_round<H: Host, S: Receiver + Drop, O: Outbox + Drop>(
     ensures account { GoesOnBy (λ log. IsReportOr (IsOfRun live.old.transport.rounds.round.targets
         live.old.transport.rounds.round.events live.old.run) (changed_notes (shown_by live.old.reports.printing.names)
         (state_of live.old.station.life).board (map (λ w. w.items) live.old.course.windows.items))
-        number (is_round spell.span) live.old.unsaved live.new.unsaved log result)
+        number (is_round spell.span) live.old.kept.unsaved live.new.kept.unsaved log result)
         (H.log host.old) (H.log host.new) }
     ensures printing { live.new.reports.printing ≡ live.old.reports.printing }
     ensures out { live.new.reports.out ≡ live.old.reports.out }
-    ensures printed { live.new.unprinted ≡ live.old.unprinted }
+    ensures kept { live.new.kept ≡ record live.old.kept { unsaved = live.new.kept.unsaved } }
     ensures round { live.new.transport.rounds.round ≡ live.old.transport.rounds.round }
     ensures ran { live.new.run ≡ live.old.run }
     ensures station { live.new.station ≡ live.old.station }
@@ -438,7 +485,8 @@ fn report_round<H: Host, S: Receiver + Drop, O: Outbox + Drop>(
     live.course.add(&report);
     live.freshness.add(spell, &report, live.station.board());
     tell_notices(host, live, number, &report);
-    live.unsaved = unsaved_after(live.unsaved, spell.span, &report);
+    tell_restarts(host, number, live.freshness.targets());
+    live.kept.unsaved = unsaved_after(live.kept.unsaved, spell.span, &report);
     tell_changes(alloc, host, live, number, spell.span)
 }
 
@@ -469,8 +517,7 @@ fn tell_changes<H: Host, S: Receiver + Drop, O: Outbox + Drop>(
         (is_round span) log result) (H.log host.old) (H.log host.new) }
     ensures printing { live.new.reports.printing ≡ live.old.reports.printing }
     ensures out { live.new.reports.out ≡ live.old.reports.out }
-    ensures printed { live.new.unprinted ≡ live.old.unprinted }
-    ensures saved { live.new.unsaved ≡ live.old.unsaved }
+    ensures kept { live.new.kept ≡ live.old.kept }
     ensures round { live.new.transport.rounds.round ≡ live.old.transport.rounds.round }
     ensures ran { live.new.run ≡ live.old.run }
     ensures station { live.new.station ≡ live.old.station }
@@ -490,8 +537,7 @@ fn tell_alarm_changes<H: Host, S: Receiver + Drop, O: Outbox + Drop>(
         (H.log host.old) (H.log host.new) }
     ensures printing { live.new.reports.printing ≡ live.old.reports.printing }
     ensures out { live.new.reports.out ≡ live.old.reports.out }
-    ensures printed { live.new.unprinted ≡ live.old.unprinted }
-    ensures saved { live.new.unsaved ≡ live.old.unsaved }
+    ensures kept { live.new.kept ≡ live.old.kept }
     ensures round { live.new.transport.rounds.round ≡ live.old.transport.rounds.round }
     ensures ran { live.new.run ≡ live.old.run }
     ensures station { live.new.station ≡ live.old.station }
@@ -519,8 +565,7 @@ fn tell_troubles<H: Host, S: Receiver + Drop, O: Outbox + Drop>(
     ensures said { GoesOnBy (λ log. AreTroubles (is_round span) number log result) (H.log host.old) (H.log host.new) }
     ensures printing { live.new.reports.printing ≡ live.old.reports.printing }
     ensures out { live.new.reports.out ≡ live.old.reports.out }
-    ensures printed { live.new.unprinted ≡ live.old.unprinted }
-    ensures saved { live.new.unsaved ≡ live.old.unsaved }
+    ensures kept { live.new.kept ≡ live.old.kept }
     ensures round { live.new.transport.rounds.round ≡ live.old.transport.rounds.round }
     ensures ran { live.new.run ≡ live.old.run }
     ensures station { live.new.station ≡ live.old.station }
@@ -539,12 +584,13 @@ fn report_troubles<H: Host, S: Receiver + Drop, O: Outbox + Drop>(
     live: &mut Live<S, O>,
     number: u32,
 ) -> Result<(), Failure>
-    ensures said { GoesOnBy (AreChangesSaid number) (H.log host.old) (H.log host.new) }
-    ensures memory { OrMemory (λ _. Unit) result }
+    ensures said { GoesOnBy (λ log. AreTroublesOf live.old.freshness number
+        (changes_between (told_by live.old.troubles)
+        (troubles_after live.old.reports.stale_after (told_by live.old.troubles) live.old.freshness))
+        log result) (H.log host.old) (H.log host.new) }
     ensures printing { live.new.reports.printing ≡ live.old.reports.printing }
     ensures out { live.new.reports.out ≡ live.old.reports.out }
-    ensures printed { live.new.unprinted ≡ live.old.unprinted }
-    ensures saved { live.new.unsaved ≡ live.old.unsaved }
+    ensures kept { live.new.kept ≡ live.old.kept }
     ensures round { live.new.transport.rounds.round ≡ live.old.transport.rounds.round }
     ensures ran { live.new.run ≡ live.old.run }
     ensures station { live.new.station ≡ live.old.station }
@@ -552,9 +598,14 @@ fn report_troubles<H: Host, S: Receiver + Drop, O: Outbox + Drop>(
 {
     let limit = live.reports.stale_after;
     let changes = live.troubles.take_changes(alloc, &live.freshness, limit)?;
-    for change in changes.as_slice() {
-        tell_change(alloc, host, live, number, *change)?;
-    }
+    let facts = Facts {
+        freshness: &live.freshness,
+        engines: live.transport.engines.as_slice(),
+        latest: live.transport.rounds.latest(),
+        board: live.station.board(),
+        printing: &live.reports.printing,
+    };
+    say_troubles(alloc, host, facts, number, changes.as_slice())?;
     Ok(())
 }
 
@@ -565,6 +616,7 @@ fn save_fault(report: &RoundReport) -> Option<KeeperFault>
 {
     match report.notices.as_slice().last() {
         Some(Notice::NotSaved(number)) => Some(keeper_fault(*number)),
+        Some(Notice::NoMemory(RoundEvent::Save)) => Some(KeeperFault::OutOfMemory),
         _ => None,
     }
 }

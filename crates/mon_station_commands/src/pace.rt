@@ -45,8 +45,7 @@ pub(crate) fn start_pace<H: Host, S: Shows + Drop, O: Outbox + Drop>(
     ensures quiet { GoesOnBy (λ log. IsWait log result) (H.log host.old) (H.log host.new) }
     ensures printing { live.new.reports.printing ≡ live.old.reports.printing }
     ensures out { live.new.reports.out ≡ live.old.reports.out }
-    ensures printed { live.new.unprinted ≡ live.old.unprinted }
-    ensures saved { live.new.unsaved ≡ live.old.unsaved }
+    ensures kept { live.new.kept ≡ live.old.kept }
 {
     let interval = u64::from(timing.interval) * 1000;
     let left = match phase(&live.transport, timing) {
@@ -110,8 +109,7 @@ pub(crate) fn wait_for_next<H: Host, S: Shows + Drop, O: Outbox + Drop>(
     ensures quiet { GoesOnBy (λ log. IsWait log result) (H.log host.old) (H.log host.new) }
     ensures printing { live.new.reports.printing ≡ live.old.reports.printing }
     ensures out { live.new.reports.out ≡ live.old.reports.out }
-    ensures printed { live.new.unprinted ≡ live.old.unprinted }
-    ensures saved { live.new.unsaved ≡ live.old.unsaved }
+    ensures kept { live.new.kept ≡ live.old.kept }
 {
     if pace.interval == 0 {
         return Ok(pace);
@@ -150,8 +148,7 @@ fn pause<H: Host, S: Shows + Drop, O: Outbox + Drop>(
     ensures quiet { GoesOnBy (λ log. IsWait log result) (H.log host.old) (H.log host.new) }
     ensures printing { live.new.reports.printing ≡ live.old.reports.printing }
     ensures out { live.new.reports.out ≡ live.old.reports.out }
-    ensures printed { live.new.unprinted ≡ live.old.unprinted }
-    ensures saved { live.new.unsaved ≡ live.old.unsaved }
+    ensures kept { live.new.kept ≡ live.old.kept }
 {
     let due = Duration::from_millis(pace.due);
     for _ in 0..MOST_RESTS {
@@ -188,7 +185,7 @@ pub(crate) fn now<H: Host>(alloc: Global, host: &mut H) -> Result<Instant, Failu
 }
 
 /// Returns the milliseconds since 1970 by the wall clock.
-fn wall_time<H: Host>(alloc: Global, host: &mut H) -> Result<u64, Failure>
+pub(crate) fn wall_time<H: Host>(alloc: Global, host: &mut H) -> Result<u64, Failure>
     ensures { GoesOnBy (λ log. IsDate log result) (H.log host.old) (H.log host.new) }
 {
     match host.date() {

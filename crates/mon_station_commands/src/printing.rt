@@ -1,13 +1,13 @@
 //! The reports of a running station.
 
-ghost use Rattle.std.specs.Prelude.{◌≡◌, [], IfOk, None, OnOk, option_map, string_bytes};
+ghost use Rattle.std.specs.Prelude.{◌≡◌, [], IfOk, None, OnOk, false, option_map, string_bytes};
 ghost use Rattle.mon_board.specs.Board.{window_of};
 ghost use Rattle.mon_host.specs.Log.{GoesOnBy};
 ghost use Rattle.mon_formats.specs.Formats.{report_in};
 ghost use Rattle.mon_formats.specs.declared.format.Format.TheVariants.{Text};
 ghost use Rattle.mon_console.specs.Shown.{shown_by};
 ghost use Rattle.mon_station.specs.State.{state_of};
-ghost use Rattle.mon_station_commands.specs.Reporting.{IsFiled, IsOut, IsReportOf, IsReported};
+ghost use Rattle.mon_station_commands.specs.Reporting.{IsAgain, IsChangeOut, IsFiled, IsOut, IsReportOf, IsReported, IsUnwritten, failed_by, is_known};
 ghost use Rattle.mon_station_commands.specs.Steps.{IsKeptOf, IsSaidOf, IsTried, kept_after};
 
 use crate::figures::make_figures;
@@ -29,15 +29,14 @@ pub(crate) fn print_between<H: Host, S: Receiver + Drop, O: Outbox + Drop>(
 )
     ensures printed { GoesOnBy (λ log. IsKeptOf (IsReported (IsReportOf (state_of live.old.station.life) live.old.course
         live.old.freshness live.old.transport.peers.items live.old.transport.engines.items
-        live.old.ended live.old.reports))
-        live.old.unprinted log live.new.unprinted) (H.log host.old) (H.log host.new) }
-    ensures saved { live.new.unsaved ≡ live.old.unsaved }
-    ensures written { live.new.unwritten ≡ live.old.unwritten }
+        live.old.ended live.old.kept.round_at live.old.reports))
+        live.old.kept.unprinted log live.new.kept.unprinted) (H.log host.old) (H.log host.new) }
+    ensures kept { live.new.kept ≡ record live.old.kept { unprinted = live.new.kept.unprinted } }
     ensures format { live.new.reports.printing ≡ live.old.reports.printing }
     ensures out { live.new.reports.out ≡ live.old.reports.out }
 {
     let failure = try_print(alloc, host, live);
-    live.unprinted = kept_after(live.unprinted.take(), failure);
+    live.kept.unprinted = kept_after(live.kept.unprinted.take(), failure);
 }
 
 /// Returns the failure that is kept: the new one, except if memory ran out, or else the one before.
@@ -64,11 +63,9 @@ fn try_print<H: Host, S: Receiver + Drop, O: Outbox + Drop>(
 ) -> Option<Failure>
     ensures tried { GoesOnBy (λ log. IsTried (IsReported (IsReportOf (state_of live.old.station.life) live.old.course
         live.old.freshness live.old.transport.peers.items live.old.transport.engines.items
-        live.old.ended live.old.reports))
+        live.old.ended live.old.kept.round_at live.old.reports))
         log result) (H.log host.old) (H.log host.new) }
-    ensures saved { live.new.unsaved ≡ live.old.unsaved }
-    ensures printed { live.new.unprinted ≡ live.old.unprinted }
-    ensures written { live.new.unwritten ≡ live.old.unwritten }
+    ensures kept { live.new.kept ≡ live.old.kept }
     ensures format { live.new.reports.printing ≡ live.old.reports.printing }
     ensures out { live.new.reports.out ≡ live.old.reports.out }
 {
@@ -98,11 +95,9 @@ pub(crate) fn print_report<H: Host, S: Receiver + Drop, O: Outbox + Drop>(
 ) -> Result<(), Failure>
     ensures report { GoesOnBy (λ log. IsReported (IsReportOf (state_of live.old.station.life) live.old.course
         live.old.freshness live.old.transport.peers.items live.old.transport.engines.items
-        live.old.ended live.old.reports)
+        live.old.ended live.old.kept.round_at live.old.reports)
         log result) (H.log host.old) (H.log host.new) }
-    ensures saved { live.new.unsaved ≡ live.old.unsaved }
-    ensures printed { live.new.unprinted ≡ live.old.unprinted }
-    ensures written { live.new.unwritten ≡ live.old.unwritten }
+    ensures kept { live.new.kept ≡ live.old.kept }
     ensures format { live.new.reports.printing ≡ live.old.reports.printing }
     ensures out { live.new.reports.out ≡ live.old.reports.out }
 {
@@ -134,7 +129,7 @@ fn report_text<S: Receiver + Drop, O: Outbox + Drop>(
 ) -> Result<Vec<u8>, AllocError>
     ensures { IfOk result (λ text. IsReportOf (state_of live.now.station.life) live.now.course
         live.now.freshness live.now.transport.peers.items live.now.transport.engines.items
-        live.now.ended live.now.reports text.items) }
+        live.now.ended live.now.kept.round_at live.now.reports text.items) }
 {
     let figures = make_figures(alloc, live)?;
     live.reports
@@ -142,45 +137,108 @@ fn report_text<S: Receiver + Drop, O: Outbox + Drop>(
         .report(alloc, live.station.board(), Some(&figures))
 }
 
-/// Writes the report to the file that the arguments name, if they name one. What goes wrong is
-/// reported and kept until a report is written, and the station goes on.
+/// Writes the report to the file that the arguments name, if they name one, after the round of this
+/// number. Why that could not be done is kept until a report is written; a failure that is new is
+/// said, and so is its end.
 pub(crate) fn write_out<H: Host, S: Receiver + Drop, O: Outbox + Drop>(
     alloc: Global,
     host: &mut H,
     live: &mut Live<S, O>,
+    round: u32,
 )
-    ensures written { GoesOnBy (λ log. IsOut (option_map string_bytes live.old.reports.out)
+    ensures written { GoesOnBy (λ log. IsOut round (option_map string_bytes live.old.reports.out)
         (IsReportOf (state_of live.old.station.life) live.old.course
         live.old.freshness live.old.transport.peers.items live.old.transport.engines.items
-        live.old.ended live.old.reports)
-        log live.new.unwritten) (H.log host.old) (H.log host.new) }
-    ensures saved { live.new.unsaved ≡ live.old.unsaved }
-    ensures printed { live.new.unprinted ≡ live.old.unprinted }
+        live.old.ended live.old.kept.round_at live.old.reports)
+        live.old.kept.unwritten log live.new.kept.unwritten) (H.log host.old) (H.log host.new) }
+    ensures kept { live.new.kept ≡ record live.old.kept { unwritten = live.new.kept.unwritten } }
     ensures format { live.new.reports.printing ≡ live.old.reports.printing }
     ensures out { live.new.reports.out ≡ live.old.reports.out }
 {
-    live.unwritten = try_write(alloc, host, live);
+    let before = live.kept.unwritten.take();
+    live.kept.unwritten = try_write(alloc, host, live, round, &before);
 }
 
 /// Writes the report to the file that the arguments name, if they name one. Returns why that could
-/// not be done, which is said.
+/// not be done, and says what changed in that.
 fn try_write<H: Host, S: Receiver + Drop, O: Outbox + Drop>(
     alloc: Global,
     host: &mut H,
     live: &Live<S, O>,
+    round: u32,
+    before: &Option<Failure>,
 ) -> Option<Failure>
-    ensures { GoesOnBy (λ log. IsOut (option_map string_bytes live.now.reports.out)
+    ensures { GoesOnBy (λ log. IsOut round (option_map string_bytes live.now.reports.out)
         (IsReportOf (state_of live.now.station.life) live.now.course
         live.now.freshness live.now.transport.peers.items live.now.transport.engines.items
-        live.now.ended live.now.reports)
-        log result) (H.log host.old) (H.log host.new) }
+        live.now.ended live.now.kept.round_at live.now.reports)
+        before.now log result) (H.log host.old) (H.log host.new) }
 {
     match &live.reports.out {
         Some(path) => {
             let done = write_file(alloc, host, live, path);
-            said(host, done)
+            tell_change(host, round, path, before, &done);
+            failed_by(done)
         }
         None => None,
+    }
+}
+
+/// Returns why something was not done, if it wasn't.
+fn failed_by(done: Result<(), Failure>) -> Option<Failure>
+    ensures { result ≡ failed_by done }
+{
+    match done {
+        Ok(()) => None,
+        Err(failure) => Some(failure),
+    }
+}
+
+/// Says of the file for reports that it is written again, or why it is not, where that is new.
+fn tell_change<H: Host>(
+    host: &mut H,
+    round: u32,
+    path: &str,
+    before: &Option<Failure>,
+    done: &Result<(), Failure>,
+)
+    ensures { GoesOnBy (IsChangeOut round path.now before.now done.now) (H.log host.old) (H.log host.new) }
+{
+    match done {
+        Ok(()) => tell_written(host, round, path, before.is_some()),
+        Err(failure) => {
+            if !is_known(before, failure) {
+                tell_unwritten(host, round, path, failure);
+            }
+        }
+    }
+}
+
+/// Says that the file for reports is written again, if it was not.
+fn tell_written<H: Host>(host: &mut H, round: u32, path: &str, failed: bool)
+    ensures { GoesOnBy (IsAgain failed round path.now) (H.log host.old) (H.log host.new) }
+{
+    if failed {
+        host.note(format_args!("snmpmon: round {round}: {path} is written again\n"));
+    }
+}
+
+/// Says that the file for reports is not written, and why.
+fn tell_unwritten<H: Host>(host: &mut H, round: u32, path: &str, failure: &Failure)
+    ensures { GoesOnBy (IsUnwritten false round path.now failure.now) (H.log host.old) (H.log host.new) }
+{
+    host.note(format_args!("snmpmon: round {round}: {path} is not written\n"));
+    failure.tell(host);
+}
+
+/// Returns `true` if a failure was said before: the one before it is for want of memory too, or
+/// neither is.
+fn is_known(before: &Option<Failure>, failure: &Failure) -> bool
+    ensures { result ≡ is_known before.now failure.now }
+{
+    match before {
+        None => false,
+        Some(before) => before.is_of_memory() == failure.is_of_memory(),
     }
 }
 
@@ -193,7 +251,7 @@ fn write_file<H: Host, S: Receiver + Drop, O: Outbox + Drop>(
 ) -> Result<(), Failure>
     ensures { GoesOnBy (λ log. IsFiled path.now (IsReportOf (state_of live.now.station.life) live.now.course
         live.now.freshness live.now.transport.peers.items live.now.transport.engines.items
-        live.now.ended live.now.reports)
+        live.now.ended live.now.kept.round_at live.now.reports)
         log result) (H.log host.old) (H.log host.new) }
 {
     let text = report_text(alloc, live)?;

@@ -1,10 +1,11 @@
 //! What a running station shows over HTTP.
 
-ghost use Rattle.std.specs.Prelude.{◌≡◌, IfOk, OnOk, Some};
+ghost use Rattle.std.specs.Prelude.{◌≡◌, IfOk, OnOk, Some, option_map};
 ghost use Rattle.mon_console.specs.Shown.{shown_by};
 ghost use Rattle.mon_formats.specs.Formats.{formatted};
 ghost use Rattle.mon_station.specs.State.{state_of};
 ghost use Rattle.mon_station_commands.specs.Showing.{AreTextsOf, IsShown};
+ghost use Rattle.mon_web.specs.Site.{with_round};
 
 use crate::figures::make_figures;
 use crate::live::Live;
@@ -26,19 +27,25 @@ const PAGE: Format = Format::Html;
 pub(crate) fn show_span<S: Shows + Drop, O: Outbox + Drop>(
     alloc: Global,
     live: &mut Live<S, O>,
+    number: u32,
     span: Span,
 )
+    // After a round the site knows which one ended when, and shows what is known after it.
+    ensures shown { span ≡ Span.Round → IsShown (AreTextsOf (state_of live.old.station.life) live.old.course live.old.freshness live.old.transport.peers.items live.old.transport.engines.items live.old.ended live.old.kept.round_at live.old.reports)
+        (option_map (with_round live.old.ended number) (S.shown live.old.transport.rounds.receiver)) (S.shown live.new.transport.rounds.receiver) }
     ensures printing { live.new.reports.printing ≡ live.old.reports.printing }
     ensures out { live.new.reports.out ≡ live.old.reports.out }
-    ensures printed { live.new.unprinted ≡ live.old.unprinted }
-    ensures saved { live.new.unsaved ≡ live.old.unsaved }
+    ensures kept { live.new.kept ≡ live.old.kept }
     ensures round { live.new.transport.rounds.round ≡ live.old.transport.rounds.round }
     ensures ran { live.new.run ≡ live.old.run }
     ensures station { live.new.station ≡ live.old.station }
 {
     if span == Span::Round {
         let ended = live.ended;
-        live.transport.rounds.receiver_mut().note_round(ended);
+        live.transport
+            .rounds
+            .receiver_mut()
+            .note_round(ended, number);
     } else if live.run.answers.is_empty() {
         return;
     }
@@ -47,12 +54,11 @@ pub(crate) fn show_span<S: Shows + Drop, O: Outbox + Drop>(
 
 /// Shows what is known, by texts in the buffers of the texts so far.
 pub(crate) fn show<S: Shows + Drop, O: Outbox + Drop>(alloc: Global, live: &mut Live<S, O>)
-    ensures shown { IsShown (AreTextsOf (state_of live.old.station.life) live.old.course live.old.freshness live.old.transport.peers.items live.old.transport.engines.items live.old.ended live.old.reports)
+    ensures shown { IsShown (AreTextsOf (state_of live.old.station.life) live.old.course live.old.freshness live.old.transport.peers.items live.old.transport.engines.items live.old.ended live.old.kept.round_at live.old.reports)
         (S.shown live.old.transport.rounds.receiver) (S.shown live.new.transport.rounds.receiver) }
     ensures printing { live.new.reports.printing ≡ live.old.reports.printing }
     ensures out { live.new.reports.out ≡ live.old.reports.out }
-    ensures printed { live.new.unprinted ≡ live.old.unprinted }
-    ensures saved { live.new.unsaved ≡ live.old.unsaved }
+    ensures kept { live.new.kept ≡ live.old.kept }
     ensures round { live.new.transport.rounds.round ≡ live.old.transport.rounds.round }
     ensures ran { live.new.run ≡ live.old.run }
     ensures station { live.new.station ≡ live.old.station }
@@ -71,7 +77,7 @@ fn make_texts<S: Receiver + Drop, O: Outbox + Drop>(
     before: Option<Texts>,
 ) -> Result<Texts, AllocError>
     // The texts are those of the board and of what the station says of itself, as they are now.
-    ensures { IfOk result (AreTextsOf (state_of live.now.station.life) live.now.course live.now.freshness live.now.transport.peers.items live.now.transport.engines.items live.now.ended live.now.reports) }
+    ensures { IfOk result (AreTextsOf (state_of live.now.station.life) live.now.course live.now.freshness live.now.transport.peers.items live.now.transport.engines.items live.now.ended live.now.kept.round_at live.now.reports) }
 {
     let figures = make_figures(alloc, live)?;
     let entries = entries_of(alloc, live.station.board())?;

@@ -9,7 +9,7 @@ ghost use Rattle.mon_station_commands.specs.Checking.{IsCheck};
 ghost use Rattle.mon_station_commands.specs.Ending.{IsEnded};
 ghost use Rattle.mon_station_commands.specs.Limits.{longest_gap};
 ghost use Rattle.mon_station_commands.specs.Places.{IsDoor, IsNoSocket, IsPlaceAt, IsShownOpened, IsUnseenOpened};
-ghost use Rattle.mon_station_commands.specs.Rounds.{AreRun, IsBetween, IsLastRun, IsRoundRun, IsRun, kept};
+ghost use Rattle.mon_station_commands.specs.Rounds.{AreRun, IsBetween, IsLastRun, IsRoundRun, IsRun};
 ghost use Rattle.mon_station_commands.specs.Station.{AreReports, IsRunning, IsSeen, IsSeenIf, IsStation, IsUnseen};
 ghost use Rattle.mon_station_commands.specs.Steps.{OrMemory, SomeOr, only};
 ghost use Rattle.mon_station_commands.specs.Telling.{http_line};
@@ -103,7 +103,7 @@ fn reports_of(
     settings: &StationSettings,
     printing: Printing,
 ) -> Result<Reports, Failure>
-    ensures { OrMemory (AreReports words.entry printing) result }
+    ensures { OrMemory (AreReports words.entry settings.now.core.station printing) result }
 {
     let instances = if printing.is_plain() {
         settings.core.watch().instances().len()
@@ -111,6 +111,7 @@ fn reports_of(
         0
     };
     Ok(Reports {
+        station: settings.core.station(),
         printing,
         out: out_of(alloc, words.out)?,
         stale_after: words.stale_after,
@@ -327,8 +328,7 @@ fn run_rounds<H: Host, S: Shows + Drop, O: Outbox + Drop>(
     timing: Timing,
 ) -> Result<(), Failure>
     ensures { GoesOnBy (λ log. IsRun timing.rounds timing.report_every live.old.reports.printing
-        (option_map string_bytes live.old.reports.out) (kept live.old.unprinted live.old.unsaved)
-        log result) (H.log host.old) (H.log host.new) }
+        (option_map string_bytes live.old.reports.out) live.old.kept log result) (H.log host.old) (H.log host.new) }
 {
     run_all(alloc, host, live, timing)?;
     print_report(alloc, host, live)?;
@@ -344,8 +344,7 @@ fn run_all<H: Host, S: Shows + Drop, O: Outbox + Drop>(
 ) -> Result<(), Failure>
     ensures run { GoesOnBy (λ log. AreRun timing.rounds timing.report_every
         live.old.reports.printing (option_map string_bytes live.old.reports.out)
-        (kept live.old.unprinted live.old.unsaved) log
-        (kept live.new.unprinted live.new.unsaved) live.new.unwritten result)
+        live.old.kept log live.new.kept result)
         (H.log host.old) (H.log host.new) }
     ensures printing { live.new.reports.printing ≡ live.old.reports.printing }
     ensures out { live.new.reports.out ≡ live.old.reports.out }
@@ -367,11 +366,10 @@ fn run_last<H: Host, S: Shows + Drop, O: Outbox + Drop>(
     rounds: u32,
 ) -> Result<(), Failure>
     ensures run { GoesOnBy (λ log. IsLastRun rounds live.old.reports.printing
-        (option_map string_bytes live.old.reports.out) live.old.unsaved live.new.unsaved log
-        live.new.unwritten result) (H.log host.old) (H.log host.new) }
+        (option_map string_bytes live.old.reports.out) live.old.kept live.new.kept log result)
+        (H.log host.old) (H.log host.new) }
     ensures printing { live.new.reports.printing ≡ live.old.reports.printing }
     ensures out { live.new.reports.out ≡ live.old.reports.out }
-    ensures printed { live.new.unprinted ≡ live.old.unprinted }
 {
     if rounds == 0 {
         return Ok(());
@@ -387,15 +385,13 @@ fn run_round<H: Host, S: Shows + Drop, O: Outbox + Drop>(
     number: u32,
 ) -> Result<(), Failure>
     ensures run { GoesOnBy (λ log. IsRoundRun number live.old.reports.printing
-        (option_map string_bytes live.old.reports.out) live.old.unsaved live.new.unsaved log
-        live.new.unwritten result)
+        (option_map string_bytes live.old.reports.out) live.old.kept live.new.kept log result)
         (H.log host.old) (H.log host.new) }
     ensures printing { live.new.reports.printing ≡ live.old.reports.printing }
     ensures out { live.new.reports.out ≡ live.old.reports.out }
-    ensures printed { live.new.unprinted ≡ live.old.unprinted }
 {
     run_span(alloc, host, live, number, Span::Round)?;
-    write_out(alloc, host, live);
+    write_out(alloc, host, live, number);
     Ok(())
 }
 
@@ -407,11 +403,10 @@ fn print_due<H: Host, S: Shows + Drop, O: Outbox + Drop>(
     number: u32,
     every: u32,
 )
-    ensures run { GoesOnBy (λ log. IsBetween number every live.old.reports.printing
-        live.old.unprinted log live.new.unprinted) (H.log host.old) (H.log host.new) }
+    ensures run { GoesOnBy (λ log. IsBetween number every live.old.reports.printing live.old.kept log
+        live.new.kept) (H.log host.old) (H.log host.new) }
     ensures printing { live.new.reports.printing ≡ live.old.reports.printing }
     ensures out { live.new.reports.out ≡ live.old.reports.out }
-    ensures saved { live.new.unsaved ≡ live.old.unsaved }
 {
     if is_due(number, every) {
         print_between(alloc, host, live);
@@ -423,20 +418,20 @@ fn ended<S: Receiver + Drop, O: Outbox + Drop>(
     alloc: Global,
     live: &mut Live<S, O>,
 ) -> Result<(), Failure>
-    ensures saved { OnOk result (live.old.unsaved ≡ None) }
-    ensures printed { OnOk result (live.old.unprinted ≡ None) }
-    ensures written { OnOk result (live.old.unwritten ≡ None) }
-    ensures fault { (fault : KeeperFault) → live.old.unsaved ≡ Some fault → IfErr result (λ failure. failure.fault ≡ Keeper fault) }
-    ensures reports { IsEnded live.old.unsaved live.old.unprinted live.old.unwritten result }
-    ensures done { live.old.unsaved ≡ None → live.old.unprinted ≡ None → live.old.unwritten ≡ None → IsOk result }
+    ensures saved { OnOk result (live.old.kept.unsaved ≡ None) }
+    ensures printed { OnOk result (live.old.kept.unprinted ≡ None) }
+    ensures written { OnOk result (live.old.kept.unwritten ≡ None) }
+    ensures fault { (fault : KeeperFault) → live.old.kept.unsaved ≡ Some fault → IfErr result (λ failure. failure.fault ≡ Keeper fault) }
+    ensures reports { IsEnded live.old.kept.unsaved live.old.kept.unprinted live.old.kept.unwritten result }
+    ensures done { live.old.kept.unsaved ≡ None → live.old.kept.unprinted ≡ None → live.old.kept.unwritten ≡ None → IsOk result }
 {
-    if let Some(fault) = live.unsaved {
+    if let Some(fault) = live.kept.unsaved {
         return Err(unsaved(alloc, &live.file, fault, live.station.disk()));
     }
-    if let Some(failure) = live.unprinted.take() {
+    if let Some(failure) = live.kept.unprinted.take() {
         return Err(failure);
     }
-    match live.unwritten.take() {
+    match live.kept.unwritten.take() {
         Some(failure) => Err(failure),
         None => Ok(()),
     }

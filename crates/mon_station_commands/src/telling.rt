@@ -6,7 +6,7 @@ ghost use Rattle.mon_console.specs.Shown.{shown_by};
 ghost use Rattle.mon_host.specs.AtHost.{IsNoted};
 ghost use Rattle.mon_host.specs.Log.{GoesOnBy};
 ghost use Rattle.mon_station.specs.State.{state_of};
-ghost use Rattle.mon_station_commands.specs.Telling.{AreNoted, AreSaid, IsChangeSaid, alarm_note, last_stray, memory_line, notice_lines, raised_notes, response_lines, round_lines, stray_lines, strays_in, text_lines, unreceived_lines, unsaved_line, unsent_lines};
+ghost use Rattle.mon_station_commands.specs.Telling.{AreNoted, AreSaid, alarm_note, last_stray, memory_line, notice_lines, raised_notes, response_lines, restart_line, restart_lines, round_lines, stray_lines, strays_in, unreceived_lines, unsaved_line, unsent_lines};
 
 use crate::live::Live;
 use mon_alarms::AlarmChange;
@@ -16,9 +16,7 @@ use mon_disk::KeeperFault;
 use mon_host::Host;
 use mon_poller::ResponseFault;
 use mon_report::raised_alarms;
-use mon_rounds::{
-    Addresses, Change, Notice, Receiver, RoundReport, TargetAge, Trouble, explain_stale,
-};
+use mon_rounds::{Addresses, Notice, Receiver, Restart, RoundReport, TargetAge};
 use mon_station::{Outbox, StationFault};
 use mon_udp::Addr;
 use std::alloc::{AllocError, Global};
@@ -92,13 +90,14 @@ fn tell_unpolled<H: Host>(host: &mut H, round: u32, number: u32, at: Addr, fault
     ));
 }
 
-/// Prints that a response was refused, except if another engine than the target's answered.
+/// Prints that a response was refused, except if another engine than the target's answered, or if it
+/// came too late: these are said as changes.
 fn tell_response<H: Host>(host: &mut H, round: u32, from: Addr, fault: StationFault)
     ensures { GoesOnBy (AreNoted (response_lines fault))
         (H.log host.old) (H.log host.new) }
 {
     match fault {
-        StationFault::Response(ResponseFault::OtherEngine) => {}
+        StationFault::Response(ResponseFault::OtherEngine | ResponseFault::Stray) => {}
         _ => host.note(format_args!("snmpmon: round {round}: from target {from}: {fault}\n")),
     }
 }
@@ -202,6 +201,45 @@ fn tell_unsent<H: Host>(host: &mut H, round: u32, count: u64)
     }
 }
 
+/// Prints of each target whose agent restarted that it did, a line each.
+pub(crate) fn tell_restarts<H: Host>(host: &mut H, round: u32, targets: &[TargetAge])
+    ensures { GoesOnBy (AreNoted (flat_map (restart_lines round) targets.now))
+        (H.log host.old) (H.log host.new) }
+{
+    for target in targets {
+        tell_restart(host, round, target);
+    }
+}
+
+/// Prints that a target's agent restarted, if it did.
+fn tell_restart<H: Host>(host: &mut H, round: u32, target: &TargetAge)
+    ensures { GoesOnBy (AreNoted (restart_lines round target.now))
+        (H.log host.old) (H.log host.new) }
+{
+    match target.clock.restart {
+        None => {}
+        Some(restart) => tell_boots(host, round, target, restart),
+    }
+}
+
+/// Prints that a target's agent restarted with this number of boots, and until when its samples are
+/// too old if it did not raise them.
+fn tell_boots<H: Host>(host: &mut H, round: u32, target: &TargetAge, restart: Restart)
+    ensures { GoesOnBy (AreNoted (Some (restart_line round (target.now.number + 1) target.now.address restart.boots restart.until) ∷ []))
+        (H.log host.old) (H.log host.new) }
+{
+    let (number, at) = (u32::from(target.number) + 1, target.address);
+    let boots = restart.boots;
+    match restart.until {
+        None => host.note(format_args!(
+            "snmpmon: round {round}: target {number} at {at} restarted: boots {boots}\n"
+        )),
+        Some(time) => host.note(format_args!(
+            "snmpmon: round {round}: target {number} at {at} restarted without raising its boots: its samples are too old until its time is past {time}\n"
+        )),
+    }
+}
+
 /// The address of a target.
 fn shown_target(addresses: &Addresses, target: u16) -> Addr
     ensures { (at : Addr) → slice_get addresses.now.targets.items target ≡ Some at → result ≡ at }
@@ -258,159 +296,4 @@ fn tell_line<H: Host>(host: &mut H, line: &str)
         (H.log host.old) (H.log host.new) }
 {
     host.note(format_args!("snmpmon: {line}\n"));
-}
-
-/// Prints a trouble of a target, a peer or an instance that begins or ends.
-pub(crate) fn tell_change<H: Host, S: Receiver + Drop, O: Outbox + Drop>(
-    alloc: Global,
-    host: &mut H,
-    live: &Live<S, O>,
-    round: u32,
-    change: Change,
-) -> Result<(), AllocError>
-    ensures { GoesOnBy (λ log. IsChangeSaid round log result) (H.log host.old) (H.log host.new) }
-{
-    let text = change_text(alloc, live, change)?;
-    tell_text(host, round, &text);
-    Ok(())
-}
-
-/// Returns what is said of a trouble that begins or ends, an empty text if nothing is.
-fn change_text<S: Receiver + Drop, O: Outbox + Drop>(
-    alloc: Global,
-    live: &Live<S, O>,
-    change: Change,
-) -> Result<String, AllocError> {
-    match change.trouble {
-        Trouble::SilentTarget => silent_target(alloc, live, change),
-        Trouble::OtherEngine => other_engine(alloc, live, change),
-        Trouble::SilentPeer => silent_peer(alloc, live, change),
-        Trouble::OffersOften => frequent_peer(alloc, live, change),
-        Trouble::StaleInstance => stale_instance(alloc, live, change),
-    }
-}
-
-/// Prints a text about a round, if it isn't empty.
-fn tell_text<H: Host>(host: &mut H, round: u32, text: &str)
-    ensures { GoesOnBy (AreNoted (text_lines round text.now))
-        (H.log host.old) (H.log host.new) }
-{
-    if !text.is_empty() {
-        host.note(format_args!("snmpmon: round {round}: {text}\n"));
-    }
-}
-
-/// Returns a target's number, from 1, and its address.
-fn place_of(target: &TargetAge) -> (u32, Addr)
-    ensures number { result.0 ≡ target.now.number + 1 }
-    ensures address { result.1 ≡ target.now.address }
-{
-    (u32::from(target.number) + 1, target.address)
-}
-
-/// Says that a target does not answer, or answers again.
-fn silent_target<S: Receiver + Drop, O: Outbox + Drop>(
-    alloc: Global,
-    live: &Live<S, O>,
-    change: Change,
-) -> Result<String, AllocError> {
-    let Some(target) = live.freshness.targets().get(change.number) else {
-        return Ok(String::new(alloc));
-    };
-    let (number, at) = place_of(target);
-    match target.refusal {
-        _ if !change.begins => format!(in alloc; "target {number} at {at} answers"),
-        None => format!(in alloc; "target {number} at {at} gave up"),
-        Some(fault) => format!(in alloc; "target {number} at {at} has no valid response: {fault}"),
-    }
-}
-
-/// Says which engine answers in place of a target's, or that its own answers again. It says nothing if
-/// no other one is known.
-fn other_engine<S: Receiver + Drop, O: Outbox + Drop>(
-    alloc: Global,
-    live: &Live<S, O>,
-    change: Change,
-) -> Result<String, AllocError> {
-    let targets = live.freshness.targets();
-    let engines = live.transport.engines.as_slice();
-    let (Some(target), Some(engine)) = (targets.get(change.number), engines.get(change.number))
-    else {
-        return Ok(String::new(alloc));
-    };
-    let (number, at) = place_of(target);
-    let own = hex::encode(alloc, engine.as_slice())?;
-    let latest = live.transport.rounds.latest();
-    match latest.other_engine(alloc, at, engine.as_slice())? {
-        _ if !change.begins => format!(in alloc; "target {number} at {at} is engine {own} again"),
-        Some(other) => {
-            let other = hex::encode(alloc, other.as_slice())?;
-            format!(in alloc; "target {number} at {at} is engine {other}, not {own}")
-        }
-        // The refused response was that of another target at this address.
-        None => Ok(String::new(alloc)),
-    }
-}
-
-/// Says that nothing comes from a peer, or that something does again.
-fn silent_peer<S: Receiver + Drop, O: Outbox + Drop>(
-    alloc: Global,
-    live: &Live<S, O>,
-    change: Change,
-) -> Result<String, AllocError> {
-    let Some(peer) = live.freshness.peers().get(change.number) else {
-        return Ok(String::new(alloc));
-    };
-    let (station, rounds) = (peer.station, peer.rounds);
-    if change.begins {
-        format!(in alloc; "nothing came from station {station} for {rounds} rounds")
-    } else {
-        format!(in alloc; "station {station} sends again")
-    }
-}
-
-/// Says that a peer offers more often than once an interval, or that it no longer does.
-fn frequent_peer<S: Receiver + Drop, O: Outbox + Drop>(
-    alloc: Global,
-    live: &Live<S, O>,
-    change: Change,
-) -> Result<String, AllocError> {
-    let Some(peer) = live.freshness.peers().get(change.number) else {
-        return Ok(String::new(alloc));
-    };
-    let station = peer.station;
-    if change.begins {
-        format!(in alloc; "station {station} offers more often than once an interval")
-    } else {
-        format!(in alloc; "station {station} offers once an interval again")
-    }
-}
-
-/// Says that an instance has no new sample, and why, or that it has one again.
-fn stale_instance<S: Receiver + Drop, O: Outbox + Drop>(
-    alloc: Global,
-    live: &Live<S, O>,
-    change: Change,
-) -> Result<String, AllocError> {
-    let Some(watched) = live.station.board().watch().instances().get(change.number) else {
-        return Ok(String::new(alloc));
-    };
-    let object = live
-        .reports
-        .printing
-        .instance_text(alloc, &watched.instance)?;
-    if !change.begins {
-        return format!(in alloc; "{object} has a new sample again");
-    }
-    let latest = live.transport.rounds.latest();
-    match explain_stale(
-        alloc,
-        latest,
-        &live.freshness,
-        live.station.board(),
-        change.number,
-    )? {
-        Some(reason) => format!(in alloc; "{object} has no new sample: {reason}"),
-        None => format!(in alloc; "{object} has no new sample, though its target answers"),
-    }
 }

@@ -217,7 +217,7 @@ fn put_counts(text: &mut String, run: &Run) -> Option<()> {
 
 fn put_answer(text: &mut String, answer: Answer) -> Option<()> {
     match answer {
-        Answer::Handled(_) => put(text, " ok;"),
+        Answer::Handled { .. } => put(text, " ok;"),
         Answer::GaveUp(target) => write!(text, " gave up {target};").ok(),
         Answer::Memory => put(text, " memory;"),
         Answer::Refused(why) => {

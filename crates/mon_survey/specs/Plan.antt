@@ -1,6 +1,6 @@
 -- Which counters of an agent a station polls.
-use Rattle.std.specs.Prelude.{ℕ, ◌*◌, ◌/◌, ◌==◌, nat_eq, nat_le, nat_lt, Bool, true, false, not, ◌&&◌, ◌||◌, List, [], ◌∷◌, length, take, drop, Option, Some, None, option_map, Result, Ok, Err, if◌then◌else◌}
-use Rattle.std.specs.List.{flat_map, list_all, starts_with}
+use Rattle.std.specs.Prelude.{ℕ, ◌*◌, ◌/◌, ◌==◌, nat_eq, nat_le, nat_lt, Bool, true, false, not, ◌&&◌, ◌||◌, List, [], ◌∷◌, length, take, drop, Option, Some, None, option_map, Result, Ok, Err, if◌then◌else◌, is_some}
+use Rattle.std.specs.List.{filter, flat_map, list_all, starts_with}
 use Rattle.std.specs.Option.{option_to_list}
 use Rattle.mon_survey.specs.declared.answers.Cell.{Cell}
 use Rattle.mon_survey.specs.declared.choice.Choice.{Choice}
@@ -8,6 +8,7 @@ use Rattle.mon_survey.specs.declared.choice.Kinds.{Kinds}
 use Rattle.mon_survey.specs.declared.column.Column.{Column}
 use Rattle.mon_survey.specs.declared.column.Column.TheVariants.{If, IfX}
 use Rattle.mon_survey.specs.declared.counter.Counter.{Counter}
+use Rattle.mon_survey.specs.declared.counter.Counter.TheVariants.{InOctets, OutOctets}
 use Rattle.mon_survey.specs.declared.counter.Kind.{Kind}
 use Rattle.mon_survey.specs.declared.counter.Kind.TheVariants.{Octets, Packets, Errors, Discards}
 use Rattle.mon_survey.specs.declared.counter.Planned.{Planned}
@@ -102,3 +103,15 @@ for_kind Discards part = None
 -- the thresholds of a counter of an interface
 abbrev pub thresholds_of : List Cell → ℕ → Counter → ℕ → Option Thresholds
 thresholds_of cells percent counter index = for_kind (kind_of counter) (speed_in cells index * percent)
+
+-- whether a counter of an interface's octets is polled, in or out
+abbrev pub polls_octets : Choice → List Cell → ℕ → Bool
+polls_octets choice cells index = is_some (planned_by choice cells index InOctets) || is_some (planned_by choice cells index OutOctets)
+
+-- whether the interface whose ifDescr a cell holds is chosen, its octets are polled, and its speed is unknown
+abbrev pub lacks_speed : Choice → List Cell → Cell → Bool
+lacks_speed choice cells c = is_descr c.column && is_chosen choice cells c.index && polls_octets choice cells c.index && (speed_in cells c.index == 0)
+
+-- how many interfaces get no alarm on their octets since their speed is unknown
+abbrev pub count_without_speed : Choice → List Cell → ℕ
+count_without_speed choice cells = length (filter (lacks_speed choice cells) cells)

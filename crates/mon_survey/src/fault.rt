@@ -38,8 +38,9 @@ pub enum SurveyFault {
     /// A name in a column of interfaces whose index is not one number.
     #[error("an interface's index is not one number")]
     BadIndex,
-    /// No interface that is chosen has a counter of these kinds.
-    #[error("no interface that is chosen has a counter of these kinds")]
+    /// No interface that is chosen and that the agent shows this community has a counter of these
+    /// kinds.
+    #[error("no interface that is chosen has a counter of these kinds, or a view hides it from this community: permit 1.3.6.1.2.1.2 and 1.3.6.1.2.1.31")]
     NoCounter,
     /// More than 256 counters, which are this many.
     #[error("{0} counters are more than the 256 of a station: choose fewer by --match, --up or --only, or have several settings by --split")]

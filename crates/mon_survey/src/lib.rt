@@ -31,5 +31,5 @@ pub use engine::engine_of;
 pub use fault::SurveyFault;
 pub use labelled::labels;
 pub use options::{Options, Peer};
-pub use planning::{Thresholds, plan, thresholds_of};
+pub use planning::{Thresholds, count_without_speed, plan, thresholds_of};
 pub use surveying::{Surveyed, settings};

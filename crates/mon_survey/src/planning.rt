@@ -3,7 +3,7 @@
 ghost use Rattle.std.specs.Prelude.{◌≡◌, ◌⊎◌, ◌≤◌, ◌<◌, ◌*◌, ◌++◌, Err, Ok, IfErr, IfOk, IfSome, OnOk, drop, take};
 ghost use Rattle.std.specs.List.{flat_map};
 ghost use Rattle.std.specs.Option.{option_to_list};
-ghost use Rattle.mon_survey.specs.Plan.{counters_from, counters_of, interface_counters, limited, planned_by, group_of, planned_of, thresholds_at, thresholds_of, width_of};
+ghost use Rattle.mon_survey.specs.Plan.{count_without_speed, counters_from, counters_of, interface_counters, lacks_speed, limited, planned_by, group_of, planned_of, polls_octets, thresholds_at, thresholds_of, width_of};
 ghost use Rattle.mon_survey.specs.Answers.{speed_in};
 
 use crate::answers::{Answers, Cell};
@@ -237,4 +237,35 @@ pub fn thresholds_of(
         Kind::Octets => thresholds_at(answers, percent, index),
         Kind::Packets | Kind::Errors | Kind::Discards => None,
     }
+}
+
+/// Returns `true` if a counter of an interface's octets is polled, in or out.
+fn polls_octets(answers: &Answers, choice: &Choice<'_>, index: u32) -> bool
+    ensures { result ≡ polls_octets choice.now answers.now index }
+{
+    planned(answers, choice, index, Counter::InOctets).is_some()
+        || planned(answers, choice, index, Counter::OutOctets).is_some()
+}
+
+/// Returns `true` if the cell is the ifDescr of an interface that is chosen, whose octets are polled
+/// and whose speed is unknown.
+fn lacks_speed(answers: &Answers, choice: &Choice<'_>, cell: &Cell) -> bool
+    ensures { result ≡ lacks_speed choice.now answers.now cell.now }
+{
+    cell.column == Column::If(2)
+        && choice.takes(answers, cell.index)
+        && polls_octets(answers, choice, cell.index)
+        && answers.speed(cell.index) == 0
+}
+
+/// Returns how many interfaces get no alarm on their octets because their speed is unknown: those
+/// that are chosen, whose octets are polled, and whose `Answers::speed` is 0.
+pub fn count_without_speed(answers: &Answers, choice: &Choice<'_>) -> usize
+    ensures { result ≡ count_without_speed choice.now answers.now }
+{
+    answers
+        .cells()
+        .iter()
+        .filter(|cell| lacks_speed(answers, choice, cell))
+        .count()
 }

@@ -3,9 +3,9 @@
 ghost use Rattle.std.specs.Prelude.{◌≡◌, ◌↔◌, ◌+◌, [], IsTrue, None, Some};
 ghost use Rattle.mon_http.specs.Response.{fits, reply_of};
 ghost use Rattle.mon_http.specs.declared.route.Route.TheVariants as Route;
-ghost use Rattle.mon_web.specs.Site.{health_reply, is_healthy, metrics_reply, page_reply, reply_for, report_reply, text_reply};
+ghost use Rattle.mon_web.specs.Site.{ended_at, health_reply, is_healthy, last_round, metrics_reply, page_reply, reply_for, report_reply, text_reply};
 
-use mon_http::{Answer, Route};
+use mon_http::{Answer, LastRound, Route};
 use std::alloc::Global;
 
 /// The texts that are shown. They are made once after each round, and copied for a request.
@@ -44,15 +44,36 @@ impl Texts {
     }
 }
 
+/// The end of a round.
+#[derive(Clone, Copy)]
+pub(crate) struct Ended {
+    /// The round's number.
+    pub round: u32,
+    /// When it ended, in milliseconds since the station's start.
+    pub at: u64,
+}
+
+impl Ended {
+    /// Returns which round it was, and how long before now it ended.
+    fn last_round(self, now: u64) -> LastRound
+        ensures { result ≡ last_round now self }
+    {
+        LastRound {
+            number: self.round,
+            seconds: now.saturating_sub(self.at) / 1000,
+        }
+    }
+}
+
 /// What is shown: the texts, and whether rounds end in time; and by which names.
 pub struct Site {
     /// The names of the host that are served, beside `localhost` and addresses.
     pub(crate) names: Vec<String>,
     /// None if there was no memory for them.
     pub(crate) texts: Option<Texts>,
-    /// When the last round ended, in milliseconds since the station's start.
-    pub(crate) ended: Option<u64>,
-    /// How long after that the station is healthy, in milliseconds.
+    /// The end of the last round, if any ended.
+    pub(crate) ended: Option<Ended>,
+    /// How long after it the station is healthy, in milliseconds.
     pub(crate) limit: u64,
 }
 
@@ -114,14 +135,15 @@ impl Site {
         self.texts.take()
     }
 
-    /// Takes note that a round ended at this time.
-    pub fn note_round(&mut self, at: u64)
-        ensures ended { self.new.ended ≡ Some at }
+    /// Takes note that the round of this number ended at this time, in milliseconds since the
+    /// station's start.
+    pub fn note_round(&mut self, at: u64, number: u32)
+        ensures ended { self.new.ended ≡ Some (ended_at at number) }
         ensures texts { self.new.texts ≡ self.old.texts }
         ensures limit { self.new.limit ≡ self.old.limit }
         ensures names { self.new.names ≡ self.old.names }
     {
-        self.ended = Some(at);
+        self.ended = Some(Ended { round: number, at });
     }
 
     /// Returns `true` if a round ended within the limit before now.
@@ -129,7 +151,7 @@ impl Site {
         ensures { result ≡ is_healthy self.now.ended self.now.limit now }
     {
         match self.ended {
-            Some(ended) => now.saturating_sub(ended) <= self.limit,
+            Some(ended) => now.saturating_sub(ended.at) <= self.limit,
             None => false,
         }
     }
@@ -178,13 +200,17 @@ impl Site {
     }
 
     fn health(&self, now: u64) -> Answer<'_>
-        ensures reply { reply_of result ≡ health_reply (is_healthy self.now.ended self.now.limit now) }
+        ensures reply { reply_of result ≡ health_reply self.now.ended self.now.limit now }
         ensures fits { IsTrue (fits Route.Health result) }
     {
+        let Some(ended) = self.ended else {
+            return Answer::Unhealthy(None);
+        };
+        let last = ended.last_round(now);
         if self.is_healthy(now) {
-            Answer::Healthy
+            Answer::Healthy(last)
         } else {
-            Answer::Unhealthy
+            Answer::Unhealthy(Some(last))
         }
     }
 }

@@ -65,11 +65,12 @@ impl Web {
         self.table.site.take_texts()
     }
 
-    /// Takes note that a round ended at this time, in milliseconds since the station's start.
-    pub fn note_round(&mut self, at: u64)
-        ensures { self.new.table.site ≡ with_round at self.old.table.site }
+    /// Takes note that the round of this number ended at this time, in milliseconds since the
+    /// station's start.
+    pub fn note_round(&mut self, at: u64, number: u32)
+        ensures { self.new.table.site ≡ with_round at number self.old.table.site }
     {
-        self.table.site.note_round(at);
+        self.table.site.note_round(at, number);
     }
 
     /// Ends a wait also if there is something to receive from this source, which does not wait.

@@ -292,7 +292,7 @@ impl<R: Dates, T: Ticks, S: Looks> Shows for WebReceiver<'_, R, T, S, Web> {
         self.web.take_texts()
     }
 
-    fn note_round(&mut self, at: u64) {
-        self.web.note_round(at);
+    fn note_round(&mut self, at: u64, number: u32) {
+        self.web.note_round(at, number);
     }
 }

@@ -30,9 +30,10 @@ pub trait Shows: Receiver {
         ensures shown { shown self.new ≡ option_map (with_texts None) (shown self.old) }
         ensures failures { Self.failures self.new ≡ Self.failures self.old };
 
-    /// Takes note that a round ended at this time, in milliseconds since the station's start.
-    fn note_round(&mut self, at: u64)
-        ensures shown { shown self.new ≡ option_map (with_round at) (shown self.old) }
+    /// Takes note that the round of this number ended at this time, in milliseconds since the
+    /// station's start.
+    fn note_round(&mut self, at: u64, number: u32)
+        ensures shown { shown self.new ≡ option_map (with_round at number) (shown self.old) }
         ensures failures { Self.failures self.new ≡ Self.failures self.old };
 }
 
@@ -53,7 +54,8 @@ impl<R: Ticks, S: Receives> Shows for SocketReceiver<'_, R, S> {
         None
     }
 
-    fn note_round(&mut self, at: u64) {
+    fn note_round(&mut self, at: u64, number: u32) {
         let _ = at;
+        let _ = number;
     }
 }

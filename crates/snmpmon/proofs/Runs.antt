@@ -1,6 +1,6 @@
 -- A command, what comes before it, and the end of the program after it.
 use Rattle.std.proofs.Common.{◌≡◌, ◌∙◌, List, ℕ, [], ◌∷◌, ◌++◌, refl, sym, ap, subst, inr, codes}
-use Rattle.std.specs.Prelude.{Bool, true, IsErrAnd, Option, Some, Result, Ok, Err}
+use Rattle.std.specs.Prelude.{Bool, true, false, IsErrAnd, Option, Some, Result, Ok, Err}
 use Rattle.mon_app.specs.Network.{Agents, Ports}
 use Rattle.mon_cli.specs.declared.meaning.Asked.{Asked}
 use Rattle.mon_console.specs.Failure.{IsMemory}
@@ -10,29 +10,29 @@ use Rattle.mon_host.proofs.Promised.{goes_on, quietly, then_fails, then_follows}
 use Rattle.mon_host.specs.AtHost.{AtHost, AtTerminal, IsNoted, Noted}
 use Rattle.mon_host.specs.Log.{GoesOn, GoesOnBy}
 use Rattle.mon_host.specs.Then.{Quietly}
-use Rattle.snmpmon.specs.Start.{Does, Hints, IsBefore, IsEnd, IsRun, IsRunFor, IsShown, IsSomeText, reads_input}
+use Rattle.snmpmon.specs.Start.{Does, Hints, IsBefore, IsEnd, IsRun, IsRunFor, IsShown, IsSomeText, is_station, reads_input}
 
-pub ends : (What : List AtHost → Result Unit Failure → Type 0) (given : Result Unit Failure) (status : ℕ)
+pub ends : (station : Bool) (What : List AtHost → Result Unit Failure → Type 0) (given : Result Unit Failure) (status : ℕ)
     (before between after : Option (List AtHost)) → GoesOnBy (λ log. What log given) before between
-    → GoesOnBy (λ log. IsEnd given log status) between after → GoesOnBy (λ log. IsRun What log status) before after
-ends What given status before between after done end = record {
+    → GoesOnBy (λ log. IsEnd station given log status) between after → GoesOnBy (λ log. IsRun station What log status) before after
+ends station What given status before between after done end = record {
   more = done.more ++ end.more;
   holds = record { given = given; begin = done.more; done = done.holds; rest = end.more; end = end.holds; log_is = refl };
   on = goes_on done.more end.more before between after done.on end.on;
 }
 
-pub runs : (agents : Agents) (ports : Ports) (asked : Asked) (reads : Bool) (given : Result Unit Failure) (status : ℕ) (start before between after : Option (List AtHost))
-    → reads ≡ reads_input asked → GoesOnBy (IsBefore reads) start before → GoesOnBy (λ log. Does agents ports asked log given) before between
-    → GoesOnBy (λ log. IsEnd given log status) between after → GoesOnBy (λ log. IsRunFor agents ports asked log status) start after
-runs agents ports asked reads given status start before between after is first done end =
-    let run = ends (Does agents ports asked) given status before between after done end in
+pub runs : (agents : Agents) (ports : Ports) (asked : Asked) (reads station : Bool) (given : Result Unit Failure) (status : ℕ) (start before between after : Option (List AtHost))
+    → reads ≡ reads_input asked → station ≡ is_station asked → GoesOnBy (IsBefore reads) start before → GoesOnBy (λ log. Does agents ports asked log given) before between
+    → GoesOnBy (λ log. IsEnd station given log status) between after → GoesOnBy (λ log. IsRunFor agents ports asked log status) start after
+runs agents ports asked reads station given status start before between after is runs first done end =
+    let run = ends station (Does agents ports asked) given status before between after done end in
     record {
       more = first.more ++ run.more;
       holds = record {
         begin = first.more;
         before = subst (λ (b : Bool). IsBefore b first.more) is first.holds;
         rest = run.more;
-        run = run.holds;
+        run = subst (λ (b : Bool). IsRun b (Does agents ports asked) run.more status) runs run.holds;
         log_is = refl;
       };
       on = goes_on first.more run.more start before after first.on run.on;

@@ -1,5 +1,5 @@
 -- A whole run of the program: from its arguments to its exit status.
-use Rattle.std.specs.Prelude.{◌≡◌, ◌⊎◌, ℕ, List, [], ◌∷◌, ◌++◌, Bool, true, false, map, Result, Ok, Err, codes, option_map}
+use Rattle.std.specs.Prelude.{◌≡◌, ◌⊎◌, ℕ, List, [], ◌∷◌, ◌++◌, Bool, true, false, if◌then◌else◌, map, Result, Ok, Err, codes, option_map}
 use Rattle.std.specs.declared.io.ErrorKind.{ErrorKind}
 use Rattle.std.specs.declared.io.ErrorKind.TheVariants as kinds
 use Rattle.clap.specs.Words.{Text, found_of, rows_of, subcommand_rows_of}
@@ -26,6 +26,8 @@ use Rattle.mon_console.specs.declared.failure.Failure.{Failure}
 use Rattle.mon_settings_commands.specs.Command.{AreSettings}
 use Rattle.mon_station_commands.specs.Saved.{IsReportCommand}
 use Rattle.mon_station_commands.specs.Station.{IsStation}
+use Rattle.mon_faults.specs.Fault.{lasts}
+use Rattle.mon_faults.specs.declared.fault.Fault.{Fault}
 use Rattle.mon_host.specs.AtHost.{AtHost, AtTerminal, Listed, Noted, Unlisted}
 use Rattle.mon_host.specs.Reason.{Why}
 use Rattle.mon_host.specs.Then.{Quietly, Then}
@@ -35,19 +37,26 @@ abbrev pub IsToldIf : Bool → Failure → List AtHost → Type 0
 IsToldIf true failure log = log ≡ []
 IsToldIf false failure log = IsTold failure log
 
--- the end of a command: status 0 and no word; or its failure is told, and status 1
-abbrev pub IsEnd : Result Unit Failure → List AtHost → ℕ → Type 0
-IsEnd (Ok done) log status = (log ≡ []) × (status ≡ 0)
-IsEnd (Err failure) log status = IsToldIf failure.is_cut failure log × (status ≡ 1)
+-- The exit status of a fault: 1, and 3 if a station has it and it lasts, since another start would
+-- only meet it again.
+abbrev pub status_of : (station : Bool) → Fault → ℕ
+status_of true fault = if lasts fault then 3 else 1
+status_of false fault = 1
+
+-- the end of a command: status 0 and no word; or its failure is told, and the status is its fault's
+abbrev pub IsEnd : (station : Bool) → Result Unit Failure → List AtHost → ℕ → Type 0
+IsEnd station (Ok done) log status = (log ≡ []) × (status ≡ 0)
+IsEnd station (Err failure) log status =
+    IsToldIf failure.is_cut failure log × (status ≡ status_of station failure.fault)
 
 -- a command is run, and then the program ends
-pub record IsRun (Does : List AtHost → Result Unit Failure → Type 0) (log : List AtHost)
-    (status : ℕ) : Type 0 where
+pub record IsRun (station : Bool) (Does : List AtHost → Result Unit Failure → Type 0)
+    (log : List AtHost) (status : ℕ) : Type 0 where
   pub given : Result Unit Failure
   pub begin : List AtHost
   pub done : Does begin given
   pub rest : List AtHost
-  pub end : IsEnd given rest status
+  pub end : IsEnd station given rest status
   pub log_is : log ≡ begin ++ rest
 
 -- the arguments are refused: one line is said, and status 2
@@ -56,7 +65,7 @@ IsRefused line log status = (log ≡ Noted line ∷ []) × (status ≡ 2)
 
 -- memory ran out before a command was run
 abbrev pub EndsForMemory : List AtHost → ℕ → Type 0
-EndsForMemory log status = (failure : Failure) × IsMemory failure × IsEnd (Err failure) log status
+EndsForMemory log status = (failure : Failure) × IsMemory failure × IsEnd false (Err failure) log status
 
 -- the arguments could not be listed: memory ran out, or they are no text
 abbrev pub IsUnlisted : ErrorKind → List AtHost → ℕ → Type 0
@@ -76,8 +85,8 @@ IsShown = Then (Quietly IsSomeText) (λ text. IsPrint text)
 -- The arguments name no command: help is printed; or memory ran out; or some line is said of them.
 abbrev pub IsUsage : UsageKind → List AtHost → ℕ → Type 0
 IsUsage usage.OutOfMemory log status = EndsForMemory log status
-IsUsage usage.DisplayHelp log status = IsRun IsShown log status
-IsUsage usage.DisplayVersion log status = IsRun IsShown log status
+IsUsage usage.DisplayHelp log status = IsRun false IsShown log status
+IsUsage usage.DisplayVersion log status = IsRun false IsShown log status
 IsUsage _ log status = (line : List ℕ) × IsRefused line log status
 
 -- what a command does
@@ -107,6 +116,11 @@ reads_input (asked.Answer words) = true
 reads_input (asked.Rehearse words) = true
 reads_input _ = false
 
+-- whether a command is a running station
+abbrev pub is_station : Asked → Bool
+is_station (asked.Station words) = true
+is_station _ = false
+
 -- what is said at a terminal
 abbrev pub at_terminal : List ℕ
 at_terminal =
@@ -127,7 +141,7 @@ pub record IsRunFor (agents : Agents) (ports : Ports) (asked : Asked) (log : Lis
   pub begin : List AtHost
   pub before : IsBefore (reads_input asked) begin
   pub rest : List AtHost
-  pub run : IsRun (Does agents ports asked) rest status
+  pub run : IsRun (is_station asked) (Does agents ports asked) rest status
   pub log_is : log ≡ begin ++ rest
 
 -- what is said of a station without rounds

@@ -1,12 +1,12 @@
 //! Which command the arguments name, and the exit status.
 
-ghost use Rattle.std.specs.Prelude.{◌≡◌, map, string_bytes};
+ghost use Rattle.std.specs.Prelude.{◌≡◌, false, map, string_bytes};
 ghost use Rattle.clap.specs.Values.{kind_of};
 ghost use Rattle.mon_app.specs.Network.{agents_by, ports_by};
 ghost use Rattle.mon_cli.specs.Asked.{IsWithin};
 ghost use Rattle.mon_host.specs.Log.{GoesOnBy};
 ghost use Rattle.mon_host.specs.Reason.{why};
-ghost use Rattle.snmpmon.specs.Start.{Does, Hints, IsBefore, IsEnd, IsRefused, IsRun, IsRunFor, IsShown, IsStart, IsStartOf, IsStartWith, IsUnlisted, IsUsage, reads_input};
+ghost use Rattle.snmpmon.specs.Start.{Does, Hints, IsBefore, IsEnd, IsRefused, IsRun, IsRunFor, IsShown, IsStart, IsStartOf, IsStartWith, IsUnlisted, IsUsage, is_station, reads_input, status_of};
 
 use clap::error::ErrorKind;
 use mon_app::{Listens, Opens};
@@ -15,7 +15,7 @@ use mon_commands::{
     bulk, get, next, print_answers, print_names, print_recorded, print_rehearsal, run_self_test,
     serve_agent, set, walk,
 };
-use mon_console::{Failure, print};
+use mon_console::{Failure, Fault, print};
 use mon_host::{Host, Reason};
 use mon_settings_commands::print_settings;
 use mon_station_commands::{print_saved_report, run_station};
@@ -63,7 +63,7 @@ fn end_unlisted<H: Host>(host: &mut H, reason: Reason) -> u8
         (H.log host.old) (H.log host.new) }
 {
     match reason.kind {
-        io::ErrorKind::OutOfMemory => end(host, Err(Failure::from(AllocError))),
+        io::ErrorKind::OutOfMemory => end(host, Err(Failure::from(AllocError)), false),
         _ => refuse(host, NO_TEXT),
     }
 }
@@ -102,7 +102,7 @@ fn end_usage<H: Host>(alloc: Global, host: &mut H, error: &clap::Error) -> u8
         (H.log host.old) (H.log host.new) }
 {
     match error.kind() {
-        ErrorKind::OutOfMemory => end(host, Err(Failure::from(AllocError))),
+        ErrorKind::OutOfMemory => end(host, Err(Failure::from(AllocError)), false),
         ErrorKind::DisplayHelp => show_to_end(alloc, host, error),
         ErrorKind::DisplayVersion => show_to_end(alloc, host, error),
         _ => {
@@ -114,10 +114,10 @@ fn end_usage<H: Host>(alloc: Global, host: &mut H, error: &clap::Error) -> u8
 
 /// Prints the help that arguments asked for, and returns the exit status.
 fn show_to_end<H: Host>(alloc: Global, host: &mut H, error: &clap::Error) -> u8
-    ensures { GoesOnBy (λ log. IsRun IsShown log result) (H.log host.old) (H.log host.new) }
+    ensures { GoesOnBy (λ log. IsRun false IsShown log result) (H.log host.old) (H.log host.new) }
 {
     let shown = show(alloc, host, error);
-    end(host, shown)
+    end(host, shown, false)
 }
 
 /// Prints the help that arguments asked for.
@@ -166,8 +166,9 @@ fn run_to_end<R: Clock + Files<File = File> + Net + AllocGlobal, N: Opens + List
         (H.log host.old) (H.log host.new) }
 {
     prepare(host, reads_input(&asked));
+    let station = is_station(&asked);
     let done = run(rt, net, host, asked);
-    end(host, done)
+    end(host, done, station)
 }
 
 /// Says how lines that are read from a terminal end, before a command that reads some.
@@ -189,6 +190,13 @@ fn reads_input(asked: &Asked<'_, '_>) -> bool
     )
 }
 
+/// Returns `true` for a station that runs, or that is to be checked.
+fn is_station(asked: &Asked<'_, '_>) -> bool
+    ensures { result ≡ is_station asked.now }
+{
+    matches!(asked, Asked::Station(_))
+}
+
 /// Says at a terminal how lines that are read from it end.
 fn hint<H: Host>(host: &mut H)
     ensures { GoesOnBy Hints (H.log host.old) (H.log host.new) }
@@ -200,8 +208,8 @@ fn hint<H: Host>(host: &mut H)
 
 /// Ends a command: says why it failed, and returns the exit status. If the reader of what was
 /// printed went away, only the status says so.
-fn end<H: Host>(host: &mut H, done: Result<(), Failure>) -> u8
-    ensures { GoesOnBy (λ log. IsEnd done log result) (H.log host.old) (H.log host.new) }
+fn end<H: Host>(host: &mut H, done: Result<(), Failure>, station: bool) -> u8
+    ensures { GoesOnBy (λ log. IsEnd station done log result) (H.log host.old) (H.log host.new) }
 {
     match done {
         Ok(()) => 0,
@@ -209,9 +217,17 @@ fn end<H: Host>(host: &mut H, done: Result<(), Failure>) -> u8
             if !failure.is_cut() {
                 failure.tell(host);
             }
-            1
+            status_of(station, failure.fault)
         }
     }
+}
+
+/// Returns the exit status of a fault: 1, and 3 if a station has it and it lasts, so that nobody
+/// starts the station again before somebody has mended it.
+fn status_of(station: bool, fault: Fault) -> u8
+    ensures { result ≡ status_of station fault }
+{
+    if station && fault.lasts() { 3 } else { 1 }
 }
 
 /// Does what the arguments ask for.

@@ -161,4 +161,29 @@ BUGS = {
         "            StationFault::Image(fault) => Fault::Image(fault),\n",
         "",
     ),
+    "lets_a_taken_port_pass": (
+        "src/fault.rt",
+        "            SocketReason::AddressInUse | SocketReason::PermissionDenied",
+        "            SocketReason::PermissionDenied",
+    ),
+    "lets_a_damaged_file_pass": (
+        "src/fault.rt",
+        "                KeeperFault::Damaged | KeeperFault::NoMoreGenerations | KeeperFault::TooLarge",
+        "                KeeperFault::NoMoreGenerations | KeeperFault::TooLarge",
+    ),
+    "holds_a_disk_that_failed_to_last": (
+        "src/fault.rt",
+        "                KeeperFault::Damaged | KeeperFault::NoMoreGenerations | KeeperFault::TooLarge",
+        "                KeeperFault::Damaged\n                    | KeeperFault::NoMoreGenerations\n                    | KeeperFault::TooLarge\n                    | KeeperFault::DiskFault",
+    ),
+    "holds_refused_memory_to_last": (
+        "src/fault.rt",
+        "    number != OUT_OF_MEMORY\n",
+        "    number >= OUT_OF_MEMORY\n",
+    ),
+    "lets_another_watch_pass": (
+        "src/fault.rt",
+        "            Fault::Image(fault) => is_no_memory(fault.number()),",
+        "            Fault::Image(_) => false,",
+    ),
 }

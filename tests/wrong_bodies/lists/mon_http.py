@@ -33,8 +33,8 @@ BUGS = {
     ),
     "head_with_a_body": (
         "src/connection.rt",
-        "    if request.with_body {\n        out.extend_from_slice(body)?;\n    }",
-        "    if request.with_body || !request.with_body {\n        out.extend_from_slice(body)?;\n    }",
+        "    if request.with_body {\n        body.put(&mut out)?;\n    }",
+        "    if request.with_body || !request.with_body {\n        body.put(&mut out)?;\n    }",
     ),
     "keeps_http_1_0_open": (
         "src/request.rt",
@@ -113,7 +113,7 @@ BUGS = {
     ),
     "unhealthy_is_200": (
         "src/answer.rt",
-        "            Answer::Unhealthy | Answer::OutOfMemory => Status::ServiceUnavailable,",
+        "            Answer::Unhealthy(_) | Answer::OutOfMemory => Status::ServiceUnavailable,",
         "            Answer::OutOfMemory => Status::ServiceUnavailable,",
     ),
     "page_without_policy": (
@@ -163,13 +163,68 @@ BUGS = {
     ),
     "no_memory_is_200": (
         "src/answer.rt",
-        "Answer::Unhealthy | Answer::OutOfMemory => Status::ServiceUnavailable,",
-        "Answer::Unhealthy => Status::ServiceUnavailable,",
+        "Answer::Unhealthy(_) | Answer::OutOfMemory => Status::ServiceUnavailable,",
+        "Answer::Unhealthy(_) => Status::ServiceUnavailable,",
     ),
     "unhealthy_says_ok": (
         "src/answer.rt",
-        '            Answer::Healthy => b"ok\\n",\n            Answer::Unhealthy => b"no round ended in time\\n",',
-        '            Answer::Healthy | Answer::Unhealthy => b"ok\\n",',
+        "            Answer::Unhealthy(last) => unhealthy_body(last),",
+        '            Answer::Unhealthy(last) => Body {\n                text: b"ok: ",\n                last,\n            },',
+    ),
+    "unhealthy_names_no_round": (
+        "src/answer.rt",
+        "            Answer::Unhealthy(last) => unhealthy_body(last),",
+        "            Answer::Unhealthy(_) => unhealthy_body(None),",
+    ),
+    "healthy_has_the_old_text": (
+        "src/answer.rt",
+        '            Answer::Healthy(last) => Body {\n                text: b"ok: ",\n                last: Some(last),',
+        '            Answer::Healthy(_) => Body {\n                text: b"ok\\n",\n                last: None,',
+    ),
+    "no_round_ended_and_one_did": (
+        "src/body.rt",
+        '        Some(last) => Body {\n            text: b"no round ended in time: ",\n            last: Some(last),',
+        '        Some(_) => Body {\n            text: b"no round ended in time\\n",\n            last: None,',
+    ),
+    "a_round_before_the_first": (
+        "src/body.rt",
+        '            text: b"no round ended in time\\n",\n            last: None,',
+        '            text: b"no round ended in time: ",\n            last: Some(LastRound {\n                number: 0,\n                seconds: 0,\n            }),',
+    ),
+    "names_the_round_before": (
+        "src/body.rt",
+        "digits.format(last.number).as_bytes()",
+        "digits.format(last.number.saturating_sub(1)).as_bytes()",
+    ),
+    "the_number_for_the_seconds": (
+        "src/body.rt",
+        "digits.format(last.seconds).as_bytes()",
+        "digits.format(last.number).as_bytes()",
+    ),
+    "a_line_without_its_end": (
+        "src/body.rt",
+        '    out.extend_from_slice(b" s ago\\n")',
+        '    out.extend_from_slice(b" s ago")',
+    ),
+    "a_length_of_the_text_alone": (
+        "src/body.rt",
+        "            Some(last) => self.text.len() + round_len(last),",
+        "            Some(_) => self.text.len(),",
+    ),
+    "a_length_of_seconds_below_ten": (
+        "src/body.rt",
+        "digits.format(last.seconds).len();",
+        "digits.format(last.seconds).len().min(1);",
+    ),
+    "a_length_of_an_octet_less": (
+        "src/body.rt",
+        "const ROUND_OCTETS: usize = 20;",
+        "const ROUND_OCTETS: usize = 19;",
+    ),
+    "a_body_of_its_round_alone": (
+        "src/body.rt",
+        "            Some(last) => put_round(out, last),\n            None => Ok(()),",
+        "            Some(last) => {\n                out.clear();\n                put_round(out, last)\n            }\n            None => Ok(()),",
     ),
     "keeps_empty_lines_before_a_request": (
         "src/connection.rt",

@@ -98,8 +98,8 @@ BUGS = {
     ),
     "age_of_the_first": (
         "src/rows.rt",
-        "            age: self.ages.get(place).copied(),",
-        "            age: self.ages.first().copied(),",
+        "        let age = self.ages.get(place).copied();",
+        "        let age = self.ages.first().copied();",
     ),
     "clear_hides_raised": (
         "src/cells.rt",
@@ -132,7 +132,7 @@ BUGS = {
         "    if interval == 1 {",
     ),
     "no_ages": (
-        "src/page.rt",
+        "src/freshness.rt",
         "        Some(figures) => figures.ages.as_slice(),",
         "        Some(_) => &[],",
     ),
@@ -255,13 +255,13 @@ BUGS = {
     ),
     "the_age_before_the_alarm": (
         "src/rows.rt",
-        "    put_class_cell(text, alarm_cell(alloc, entry)?.as_bytes())?;\n    put_age(text, age)",
-        "    put_age(text, age)?;\n    put_class_cell(text, alarm_cell(alloc, entry)?.as_bytes())",
+        "    put_class_cell(\n        text,\n        state_cell(alloc, row.instance, row.is_fresh)?.as_bytes(),\n    )?;\n    put_age(text, row.age)",
+        "    put_age(text, row.age)?;\n    put_class_cell(\n        text,\n        state_cell(alloc, row.instance, row.is_fresh)?.as_bytes(),\n    )",
     ),
     "no_rate_is_0": (
         "src/rows.rt",
-        '    let Some(rate) = entry.totals().thousandths() else {\n        return put_cell(text, b"-");',
-        '    let Some(rate) = entry.totals().thousandths() else {\n        return put_cell(text, b"0/s");',
+        '        None => put_cell(text, b"-"),\n        Some(rate) =>',
+        '        None => put_cell(text, b"0/s"),\n        Some(rate) =>',
     ),
     "a_rate_without_its_unit": (
         "src/rows.rt",
@@ -270,8 +270,8 @@ BUGS = {
     ),
     "an_unknown_age_is_0": (
         "src/rows.rt",
-        '        None => put_cell(text, b"-"),',
-        '        None => put_cell(text, b"0"),',
+        '        None => put_cell(text, b"-"),\n        Some(age) =>',
+        '        None => put_cell(text, b"0"),\n        Some(age) =>',
     ),
     "plots_without_rules": (
         "src/rows.rt",
@@ -356,9 +356,39 @@ BUGS = {
     "a_page_behind_what_the_buffer_had": ("src/page.rt", "    text.clear();\n", ""),
     "gives_the_buffer_back": ("src/page.rt", "    put_body(alloc, &mut text, names, entries, extras)?;\n    Ok(text)", "    put_body(alloc, &mut text, names, entries, extras)?;\n    text.clear();\n    Ok(text)"),
     "a_page_in_a_buffer_without_its_head": ("src/page.rt", "    text.clear();\n    put_head(&mut text, refresh_of(extras.station))?;\n", "    if text.is_empty() {\n        put_head(&mut text, refresh_of(extras.station))?;\n    }\n    text.clear();\n"),
+    # Stale instances, and which station it is.
+    "an_instance_at_the_limit_is_fresh": ("src/freshness.rt", "        Some(age) => age < limit,", "        Some(age) => age <= limit,"),
+    "every_instance_is_fresh": ("src/freshness.rt", "        Some(age) => age < limit,", "        Some(_) => true,"),
+    "an_instance_without_an_age_is_stale": ("src/freshness.rt", "        None => true,\n        Some(age) =>", "        None => false,\n        Some(age) =>"),
+    "a_stale_rate_is_kept": ("src/freshness.rt", "    if !is_fresh {\n        return None;\n    }\n", "    let _ = is_fresh;\n"),
+    "a_fresh_rate_is_lost": ("src/freshness.rt", "    if !is_fresh {\n        return None;", "    if is_fresh {\n        return None;"),
+    "no_instance_reaches_the_limit": ("src/freshness.rt", "        Some(figures) => figures.stale_after,", "        Some(_) => u32::MAX,"),
+    "the_limit_is_the_interval": ("src/freshness.rt", "        Some(figures) => figures.stale_after,", "        Some(figures) => figures.interval,"),
+    "a_stale_alarm_is_kept": ("src/cells.rt", '    if !is_fresh {\n        return Ok("stale");\n    }\n', "    let _ = is_fresh;\n"),
+    "a_stale_alarm_is_clear": ("src/cells.rt", '        return Ok("stale");', '        return Ok("clear");'),
+    "fresh_by_the_first_age": ("src/rows.rt", "is_fresh: is_fresh(self.limit, age),", "is_fresh: is_fresh(self.limit, self.ages.first().copied()),"),
+    "a_row_that_is_always_fresh": ("src/rows.rt", "is_fresh: is_fresh(self.limit, age),", "is_fresh: true,"),
+    "a_stale_value_is_lost": (
+        "src/rows.rt",
+        "    put_value(text, row.instance.samples())?;",
+        "    put_value(text, if row.is_fresh { row.instance.samples() } else { &[] })?;",
+    ),
+    "a_stale_age_is_lost": ("src/rows.rt", "    put_age(text, row.age)", "    put_age(text, if row.is_fresh { row.age } else { None })"),
+    "the_rate_of_a_stale_row": ("src/rows.rt", "fresh_rate(row.instance, row.is_fresh)", "fresh_rate(row.instance, true)"),
+    "the_alarm_of_a_stale_row": ("src/rows.rt", "state_cell(alloc, row.instance, row.is_fresh)", "state_cell(alloc, row.instance, true)"),
+    "a_page_a_round_late": ("src/page.rt", "        limit: limit_of(extras.station),", "        limit: limit_of(extras.station).saturating_add(1),"),
+    "no_round_was_in_1970": ("src/station.rt", "        None => Ok(()),\n        Some(seconds) =>", "        None => put_date(text, 0),\n        Some(seconds) =>"),
+    "a_round_without_its_date": ("src/station.rt", "        Some(seconds) => put_date(text, seconds),", "        Some(_) => Ok(()),"),
+    "a_round_a_second_late": ("src/station.rt", "HttpDate::from_unix_secs(seconds)", "HttpDate::from_unix_secs(seconds.saturating_add(1))"),
+    "the_incarnation_for_the_number": ("src/station.rt", "digits.format(figures.station)", "digits.format(figures.incarnation)"),
+    "the_number_for_the_incarnation": ("src/station.rt", "digits.format(figures.incarnation)", "digits.format(figures.station)"),
+    "a_page_without_the_stations_line": ("src/station.rt", "    put_line(text, figures)?;\n", ""),
 }
 
 PROMISES = {
+    "every_instance_is_fresh": "freshness::is_fresh",
+    "a_stale_rate_is_kept": "freshness::fresh_rate",
+    "a_stale_alarm_is_kept": "cells::state_cell",
     "leaves_less_than": "escape::put_octet",
     "name_as_it_is": "name::put_shown",
     "label_as_it_is": "name::put_label",

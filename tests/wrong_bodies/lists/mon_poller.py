@@ -112,9 +112,19 @@ BUGS = {
         "            pairs.push(0, sample)?;",
     ),
     "the_first_target_is_offered": (
-        "src/poller.rt",
-        "        Ok(pairs) => Ok(Offered { target, pairs }),",
-        "        Ok(pairs) => Ok(Offered { target: 0, pairs }),",
+        "src/offers.rt",
+        "    Ok(Offered {\n        target: number,",
+        "    Ok(Offered {\n        target: number & 0,",
+    ),
+    "offers_the_time_as_the_boots": (
+        "src/offers.rt",
+        "        boots: stamp.boots,",
+        "        boots: stamp.time,",
+    ),
+    "in_place_offers_the_boots_as_the_time": (
+        "src/in_place.rt",
+        "        boots,\n        time,\n        pairs,",
+        "        boots,\n        time: boots,\n        pairs,",
     ),
     "asks_by_get_next": (
         "src/asking.rt",
@@ -288,13 +298,13 @@ BUGS = {
     ),
     "in_place_the_poll_stays_open": (
         "src/poller.rt",
-        "        self.polls.remove(key);\n        Some(Offered {",
-        "        let _ = key;\n        Some(Offered {",
+        "        self.polls.remove(key);\n        Some(offered)",
+        "        let _ = key;\n        Some(offered)",
     ),
     "in_place_of_the_first_target": (
-        "src/poller.rt",
-        "        Some(Offered {\n            target: poll.target,",
-        "        Some(Offered {\n            target: poll.target & 0,",
+        "src/in_place.rt",
+        "    Some(Offered {\n        target: number,",
+        "    Some(Offered {\n        target: number & 0,",
     ),
     "names_of_the_first_target": (
         "src/asked.rt",

@@ -336,10 +336,10 @@ BUGS = {
         "filter(|peer| **peer < station)",
         "filter(|peer| **peer > station)",
     ),
-    "a_refused_response_is_an_answer": (
+    "a_target_that_gave_up_answered": (
         "src/reporting.rt",
-        "Answer::Handled(_) => true,\n        Answer::GaveUp(_) | Answer::Memory | Answer::Refused(_) | Answer::Keeper(_) => false,",
-        "Answer::Handled(_) | Answer::Refused(_) => true,\n        Answer::GaveUp(_) | Answer::Memory | Answer::Keeper(_) => false,",
+        "        Answer::GaveUp(_) | Answer::Memory | Answer::Refused(_) | Answer::Keeper(_) => None,\n    }\n}\n\n/// Of each of these addresses",
+        "        Answer::GaveUp(target) => Some(TargetStamp {\n            target,\n            boots: 0,\n            time: 0,\n        }),\n        Answer::Memory | Answer::Refused(_) | Answer::Keeper(_) => None,\n    }\n}\n\n/// Of each of these addresses",
     ),
     "a_save_without_memory_is_none": (
         "src/reporting.rt",
@@ -563,13 +563,28 @@ BUGS = {
     ),
     "no_target_answered": (
         "src/reporting.rt",
-        "        answered.push(has_answered(*address, events, answers))?;",
-        "        answered.push(has_answered(*address, &events[..0], answers))?;",
+        "    for answer in answers {\n        put_stamp(&mut answered, *answer)?;",
+        "    for answer in &answers[..0] {\n        put_stamp(&mut answered, *answer)?;",
+    ),
+    "all_answered_for_the_first_target": (
+        "src/reporting.rt",
+        "        answered.push(stamp)?;",
+        "        answered.push(TargetStamp {\n            target: 0,\n            ..stamp\n        })?;",
+    ),
+    "a_response_of_one_target_answers_for_all": (
+        "src/freshness.rt",
+        "    answered.iter().any(|stamp| stamp.target == number)",
+        "    answered.iter().any(|stamp| stamp.target == number || number > 0)",
+    ),
+    "a_response_answers_for_the_targets_before": (
+        "src/freshness.rt",
+        "    answered.iter().any(|stamp| stamp.target == number)",
+        "    answered.iter().any(|stamp| stamp.target >= number)",
     ),
     "what_was_refused_was_taken": (
         "src/reporting.rt",
-        "        if let Answer::Handled(samples) = answer {\n            taken = taken.saturating_add(*samples);\n        }",
-        "        match answer {\n            Answer::Handled(samples) => taken = taken.saturating_add(*samples),\n            _ => taken = taken.saturating_add(1),\n        }",
+        "        if let Answer::Handled { samples, .. } = answer {\n            taken = taken.saturating_add(*samples);\n        }",
+        "        match answer {\n            Answer::Handled { samples, .. } => taken = taken.saturating_add(*samples),\n            _ => taken = taken.saturating_add(1),\n        }",
     ),
     "a_round_is_over_at_its_end_alone": (
         "src/round.rt",
@@ -713,13 +728,13 @@ BUGS = {
     ),
     "a_lack_of_memory_renews_a_wait": (
         "src/round.rt",
-        "        Some(Answer::Handled(_)) => true,",
-        "        Some(Answer::Handled(_)) | Some(Answer::Memory) => true,",
+        "        Some(Answer::Handled { .. }) => true,",
+        "        Some(Answer::Handled { .. }) | Some(Answer::Memory) => true,",
     ),
     "only_samples_renew_a_wait": (
         "src/round.rt",
-        "        Some(Answer::Handled(_)) => true,",
-        "        Some(Answer::Handled(samples)) => samples > 0,",
+        "        Some(Answer::Handled { .. }) => true,",
+        "        Some(Answer::Handled { samples, .. }) => samples > 0,",
     ),
     "the_first_event_renews_a_wait": (
         "src/round.rt",
@@ -987,6 +1002,111 @@ BUGS = {
         "src/socket.rt",
         "            .send(out.octets.as_slice(), to)",
         "            .send(&[], to)",
+    ),
+    "a_row_of_late_rounds_never_ends": (
+        "src/late.rt",
+        "    if row.counted {\n        LateRow {\n            counted: false,",
+        "    if row.counted || row.rounds > 0 {\n        LateRow {\n            counted: false,",
+    ),
+    "a_row_begins_anew_in_each_round": (
+        "src/late.rt",
+        "        Span::Round => add_late(begin_round(row), datagrams),",
+        "        Span::Round => add_late(LateRow::new(), datagrams),",
+    ),
+    "all_late_datagrams_are_of_one_round": (
+        "src/late.rt",
+        "        Span::Round => add_late(begin_round(row), datagrams),",
+        "        Span::Round => add_late(row, datagrams),",
+    ),
+    "late_datagrams_between_rounds_do_not_count": (
+        "src/late.rt",
+        "        Span::Between(_) => add_late(row, datagrams),",
+        "        Span::Between(_) => row,",
+    ),
+    "each_late_spell_is_a_round": (
+        "src/late.rt",
+        "        rounds: if row.counted {\n            row.rounds\n",
+        "        rounds: if row.counted {\n            row.rounds.saturating_add(1)\n",
+    ),
+    "late_datagrams_of_all_addresses": (
+        "src/late.rt",
+        "        Notice::BadResponse(from, fault) => is_stray(fault) && from == address,",
+        "        Notice::BadResponse(_, fault) => is_stray(fault),",
+    ),
+    "any_refused_response_is_late": (
+        "src/late.rt",
+        "        StationFault::Response(ResponseFault::Stray) => true,",
+        "        StationFault::Response(_) => true,",
+    ),
+    "late_in_the_second_round": (
+        "src/freshness.rt",
+        "const LATE_ROUNDS: u32 = 3;",
+        "const LATE_ROUNDS: u32 = 2;",
+    ),
+    "no_target_is_late_that_answers": (
+        "src/changes.rt",
+        "        late.push(target.is_late())?;",
+        "        late.push(target.is_late() && target.rounds > 0)?;",
+    ),
+    "the_last_stamp_is_not_kept": (
+        "src/clock.rt",
+        "        last: Some(stamp),\n",
+        "        last: clock.last.or(Some(stamp)),\n",
+    ),
+    "each_response_is_a_restart": (
+        "src/clock.rt",
+        "    last.boots == stamp.boots && stamp.time < last.time",
+        "    last.boots == stamp.boots && stamp.time <= last.time.max(stamp.time)",
+    ),
+    "an_equal_time_is_a_restart": (
+        "src/clock.rt",
+        "    last.boots == stamp.boots && stamp.time < last.time",
+        "    last.boots == stamp.boots && stamp.time <= last.time",
+    ),
+    "a_fall_of_the_boots_is_a_restart": (
+        "src/clock.rt",
+        "    if last.boots < boots {",
+        "    if last.boots != boots {",
+    ),
+    "a_lesser_time_after_other_boots_is_a_restart": (
+        "src/clock.rt",
+        "    last.boots == stamp.boots && stamp.time < last.time",
+        "    stamp.time < last.time",
+    ),
+    "a_restart_is_said_again": (
+        "src/clock.rt",
+        "    let mut after = Clock {\n        restart: None,\n        ..clock\n    };",
+        "    let mut after = clock;",
+    ),
+    "a_restart_of_another_target": (
+        "src/clock.rt",
+        "    if stamp.target == number {",
+        "    if stamp.target >= number {",
+    ),
+    "too_old_until_the_last_time": (
+        "src/clock.rt",
+        "        Some(last) if last.boots == stamp.boots => greatest.max(stamp.time),",
+        "        Some(last) if last.boots == stamp.boots => stamp.time,",
+    ),
+    "too_old_until_a_time_of_other_boots": (
+        "src/clock.rt",
+        "        Some(last) if last.boots == stamp.boots => greatest.max(stamp.time),",
+        "        Some(_) => greatest.max(stamp.time),",
+    ),
+    "a_restart_with_greater_boots_is_too_old": (
+        "src/clock.rt",
+        "            until: None,",
+        "            until: Some(greatest),",
+    ),
+    "a_later_response_hides_a_restart": (
+        "src/clock.rt",
+        "        Some(restart) => Some(restart),\n        None => clock.restart,",
+        "        Some(restart) => Some(restart),\n        None => None,",
+    ),
+    "a_restart_has_the_stamp_before_it": (
+        "src/clock.rt",
+        "    let (boots, time) = (stamp.boots, stamp.time);",
+        "    let (boots, time) = (stamp.boots, last.time);",
     ),
 }
 

@@ -238,8 +238,8 @@ BUGS = {
     ),
     "writes_the_first_part_alone": (
         "src/parts.rt",
-        "    for place in 0..texts.len() {",
-        "    for place in 0..texts.len().min(1) {",
+        "    for place in 0..texts.len() {\n        write_part(",
+        "    for place in 0..texts.len().min(1) {\n        write_part(",
     ),
     "writes_one_text_to_all_parts": (
         "src/parts.rt",
@@ -458,6 +458,66 @@ BUGS = {
         "use mon_survey::{Answers,",
         "use mon_udp::Addr;\nuse mon_survey::{Answers,",
     ),
+    "says_nothing_of_one_interface": (
+        "src/noting.rt",
+        "    if count == 0 {",
+        "    if count <= 1 {",
+    ),
+    "says_of_thresholds_unasked": (
+        "src/noting.rt",
+        "    if percent == 0 {",
+        "    if percent > 100 {",
+    ),
+    "says_one_for_two": (
+        "src/noting.rt",
+        "    if count == 1 {",
+        "    if count == 2 {",
+    ),
+    "counts_the_interfaces_with_a_speed": (
+        "src/noting.rt",
+        "    note_count(host, ground.asked.percent, count);",
+        "    note_count(host, ground.asked.percent, ground.survey.answers.count() - count);",
+    ),
+    "says_of_speeds_before_it_prints": (
+        "src/settings.rt",
+        "    put_texts(alloc, host, ground)?;\n    note_speeds(host, ground);\n    Ok(())\n",
+        "    note_speeds(host, ground);\n    put_texts(alloc, host, ground)\n",
+    ),
+    "says_nothing_of_speeds_of_a_further_agent": (
+        "src/settings.rt",
+        "    put_longer(alloc, host, ground, existing, old)?;\n    note_speeds(host, ground);\n",
+        "    put_longer(alloc, host, ground, existing, old)?;\n",
+    ),
+    "replaces_a_file_that_is_there": (
+        "src/parts.rt",
+        "        Ok(true) => Err(taken_failure(alloc, path)),",
+        "        Ok(true) => Ok(()),",
+    ),
+    "replaces_a_file_that_it_cannot_see": (
+        "src/parts.rt",
+        "        Err(reason) => Err(Failure::stream(alloc, path, reason)),",
+        "        Err(_) => Ok(()),",
+    ),
+    "looks_for_the_first_file_only": (
+        "src/parts.rt",
+        "    for place in 0..texts.len() {\n        require_part_absent(",
+        "    for place in 0..texts.len().min(1) {\n        require_part_absent(",
+    ),
+    "looks_for_no_file": (
+        "src/parts.rt",
+        "    require_absent(alloc, host, folder, texts.as_slice())?;\n",
+        "",
+    ),
+    "replaces_labels_before_it_looks": (
+        "src/parts.rt",
+        "    require_absent(alloc, host, folder, texts.as_slice())?;\n    write_labels(alloc, host, ground, \"\")?;\n",
+        "    write_labels(alloc, host, ground, \"\")?;\n    require_absent(alloc, host, folder, texts.as_slice())?;\n",
+    ),
+    "a_file_that_is_there_is_a_bad_text": (
+        "src/failing.rt",
+        "        Fault::App(AppFault::FileFault),\n",
+        "        Fault::App(AppFault::BadText),\n",
+    ),
 }
 
 # Those that break a promise as a whole, each with its function: tests/bodies tries them in the gate.
@@ -465,6 +525,8 @@ PROMISES = {
     "prints_no_settings": "settings::print_whole",
     "replaces_no_labels": "labelling::write_labels_file",
     "writes_one_text_to_all_parts": "parts::write_texts",
+    "replaces_a_file_that_is_there": "parts::require_nothing_at",
+    "counts_the_interfaces_with_a_speed": "noting::note_speeds",
     "refuses_an_address_for_its_community": "settings::asked_of",
     "asks_after_the_start_again": "asking::step",
 }

@@ -119,7 +119,7 @@ BUGS = {
     "a_refused_event_ends_the_run": (
         "src/running.rt",
         "                *last = Some(answer);\n                true",
-        "                *last = Some(answer);\n                matches!(answer, Answer::Handled(_))",
+        "                *last = Some(answer);\n                matches!(answer, Answer::Handled { .. })",
     ),
     "a_failing_source_ends_the_run": (
         "src/running.rt",
@@ -128,8 +128,8 @@ BUGS = {
     ),
     "no_samples_are_told": (
         "src/running.rt",
-        "        None => Answer::Handled(told.taken.as_slice().len() as u64),",
-        "        None => Answer::Handled(0),",
+        "            samples: told.taken.as_slice().len() as u64,",
+        "            samples: 0,",
     ),
     "an_answer_is_refused_for_fine": (
         "src/running.rt",
@@ -193,8 +193,8 @@ BUGS = {
     ),
     "counts_only_other_faults": (
         "src/running.rt",
-        "        Answer::Handled(_) | Answer::GaveUp(_) => refused,",
-        "        Answer::Handled(_) | Answer::GaveUp(_) | Answer::Memory => refused,",
+        "        Answer::Handled { .. } | Answer::GaveUp(_) => refused,",
+        "        Answer::Handled { .. } | Answer::GaveUp(_) | Answer::Memory => refused,",
         "        Answer::Memory | Answer::Refused(_) | Answer::Keeper(_) => refused + 1,",
         "        Answer::Refused(_) | Answer::Keeper(_) => refused + 1,",
     ),
@@ -247,12 +247,12 @@ BUGS = {
     "tells_each_answer_as_taken": (
         "src/running.rt",
         "                *last = Some(answer);",
-        "                *last = Some(Answer::Handled(1));",
+        "                *last = Some(Answer::Handled {\n                    samples: 1,\n                    answered: None,\n                });",
     ),
     "tells_of_faults_alone": (
         "src/running.rt",
         "                *last = Some(answer);",
-        "                *last = match answer {\n                    Answer::Handled(_) => None,\n                    other => Some(other),\n                };",
+        "                *last = match answer {\n                    Answer::Handled { .. } => None,\n                    other => Some(other),\n                };",
     ),
     "asks_twice_and_drops_the_first": (
         "src/running.rt",
@@ -292,7 +292,7 @@ BUGS = {
     "passes_over_a_save": (
         "src/running.rt",
         "        match self.step(alloc, event.lend()) {",
-        "        if let OwnedEvent::Save = event {\n            return Answer::Handled(0);\n        }\n        match self.step(alloc, event.lend()) {",
+        "        if let OwnedEvent::Save = event {\n            return Answer::Handled {\n                samples: 0,\n                answered: None,\n            };\n        }\n        match self.step(alloc, event.lend()) {",
     ),
     "shows_target_0_for_each_that_gave_up": (
         "src/running.rt",
@@ -302,19 +302,19 @@ BUGS = {
     "shows_a_target_that_gave_up_as_handled": (
         "src/running.rt",
         "        Some(target) => Answer::GaveUp(target),",
-        "        Some(_) => Answer::Handled(0),",
+        "        Some(_) => Answer::Handled {\n            samples: 0,\n            answered: None,\n        },",
     ),
     "counts_a_target_that_gave_up_as_a_fault": (
         "src/running.rt",
-        "        Answer::Handled(_) | Answer::GaveUp(_) => refused,",
-        "        Answer::Handled(_) => refused,",
+        "        Answer::Handled { .. } | Answer::GaveUp(_) => refused,",
+        "        Answer::Handled { .. } => refused,",
         "        Answer::Memory | Answer::Refused(_) | Answer::Keeper(_) => refused + 1,",
         "        Answer::GaveUp(_) | Answer::Memory | Answer::Refused(_) | Answer::Keeper(_) => refused + 1,",
     ),
     "shows_want_of_memory_as_handled": (
         "src/running.rt",
         "        StationFault::OutOfMemory => Answer::Memory,",
-        "        StationFault::OutOfMemory => Answer::Handled(0),",
+        "        StationFault::OutOfMemory => Answer::Handled {\n            samples: 0,\n            answered: None,\n        },",
     ),
     "asks_one_time_fewer": (
         "src/running.rt",
@@ -344,7 +344,7 @@ BUGS = {
     "tells_that_a_poll_gave_up_that_is_not_open": (
         "src/life.rt",
         "            TimedOut::NotOpen => told_none(alloc),",
-        "            TimedOut::NotOpen => Told {\n                taken: Pairs::new(alloc),\n                sends: room,\n                noted: None,\n                given_up: Some(0),\n            },",
+        "            TimedOut::NotOpen => Told {\n                taken: Pairs::new(alloc),\n                sends: room,\n                noted: None,\n                given_up: Some(0),\n                answered: None,\n            },",
     ),
     "takes_no_room_to_send_again": (
         "src/life.rt",
@@ -495,8 +495,8 @@ BUGS = {
     ),
     "a_refused_response_is_handled": (
         "src/life.rt",
-        "                Ok(tell_taken(alloc, offered.pairs))\n            }\n            Err(fault) => Err(StationFault::from(fault)),",
-        "                Ok(tell_taken(alloc, offered.pairs))\n            }\n            Err(_) => Ok(told_none(alloc)),",
+        "                Ok(tell_taken(alloc, offered))\n            }\n            Err(fault) => Err(StationFault::from(fault)),",
+        "                Ok(tell_taken(alloc, offered))\n            }\n            Err(_) => Ok(told_none(alloc)),",
     ),
     "each_fault_of_a_claim_is_no_claim": (
         "src/life.rt",
@@ -648,6 +648,41 @@ BUGS = {
         "src/station.rt",
         "        self.keeper.set(calls);",
         "        self.keeper.set(calls.saturating_add(1));",
+    ),
+    "shows_no_target_that_answered": (
+        "src/running.rt",
+        "            answered: told.answered,",
+        "            answered: None,",
+    ),
+    "shows_who_answered_only_with_samples": (
+        "src/running.rt",
+        "            answered: told.answered,",
+        "            answered: if told.taken.as_slice().is_empty() {\n                None\n            } else {\n                told.answered\n            },",
+    ),
+    "each_response_is_of_the_first_target": (
+        "src/life.rt",
+        "        target: offered.target,\n        boots",
+        "        target: offered.target & 0,\n        boots",
+    ),
+    "a_response_is_of_the_next_target": (
+        "src/life.rt",
+        "        target: offered.target,\n        boots",
+        "        target: offered.target ^ 1,\n        boots",
+    ),
+    "reports_the_time_as_the_boots": (
+        "src/life.rt",
+        "        boots: offered.boots,",
+        "        boots: offered.time,",
+    ),
+    "a_response_has_no_target": (
+        "src/life.rt",
+        "        answered: Some(answered),",
+        "        answered: if answered.boots == 0 { Some(answered) } else { None },",
+    ),
+    "a_claim_answers_a_poll": (
+        "src/life.rt",
+        "                noted: Some(noted),\n                given_up: None,\n                answered: None,",
+        "                noted: Some(noted),\n                given_up: None,\n                answered: Some(TargetStamp {\n                    target: 0,\n                    boots: 0,\n                    time: 0,\n                }),",
     ),
 }
 

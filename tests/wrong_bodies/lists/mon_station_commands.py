@@ -82,9 +82,9 @@ BUGS = {
         "        taken: live.course.given_up(),",
     ),
     "counts_targets_in_lines_from_0": (
-        "src/telling.rt",
-        "    (u32::from(target.number) + 1, target.address)",
-        "    (u32::from(target.number), target.address)",
+        "src/troubles.rt",
+        "(u32::from(target.number) + 1, target.address)",
+        "(u32::from(target.number), target.address)",
     ),
     "each_target_is_at_the_first_address": (
         "src/telling.rt",
@@ -98,7 +98,7 @@ BUGS = {
     ),
     "ends_well_though_not_saved": (
         "src/station.rt",
-        "    if let Some(fault) = live.unsaved {\n        return Err(unsaved(alloc, &live.file, fault, live.station.disk()));\n    }\n",
+        "    if let Some(fault) = live.kept.unsaved {\n        return Err(unsaved(alloc, &live.file, fault, live.station.disk()));\n    }\n",
         "    let _ = alloc;\n",
     ),
     "serves_no_http": (
@@ -246,8 +246,8 @@ BUGS = {
     ),
     "the_last_failure_to_print_is_forgotten": (
         "src/printing.rt",
-        "    live.unprinted = kept_after(live.unprinted.take(), failure);",
-        "    live.unprinted = kept_after(None, failure);",
+        "    live.kept.unprinted = kept_after(live.kept.unprinted.take(), failure);",
+        "    live.kept.unprinted = kept_after(None, failure);",
     ),
     "each_failure_to_print_is_kept": (
         "src/printing.rt",
@@ -261,8 +261,8 @@ BUGS = {
     ),
     "an_unwritten_report_before_an_unprinted_one": (
         "src/station.rt",
-        "    if let Some(failure) = live.unprinted.take() {\n        return Err(failure);\n    }\n    match live.unwritten.take() {",
-        "    if let Some(failure) = live.unwritten.take() {\n        return Err(failure);\n    }\n    match live.unprinted.take() {",
+        "    if let Some(failure) = live.kept.unprinted.take() {\n        return Err(failure);\n    }\n    match live.kept.unwritten.take() {",
+        "    if let Some(failure) = live.kept.unwritten.take() {\n        return Err(failure);\n    }\n    match live.kept.unprinted.take() {",
     ),
     "a_notice_is_said_twice": (
         "src/telling.rt",
@@ -321,8 +321,8 @@ BUGS = {
     ),
     "forgets_an_unwritten_report": (
         "src/printing.rt",
-        "    live.unwritten = try_write(alloc, host, live);",
-        "    let _ = try_write(alloc, host, live);",
+        "    live.kept.unwritten = try_write(alloc, host, live, round, &before);",
+        "    let _ = try_write(alloc, host, live, round, &before);",
     ),
     "keeps_that_memory_ran_out": (
         "src/printing.rt",
@@ -443,6 +443,86 @@ BUGS = {
         "src/live.rt",
         "    tell_start(host, opened.station.incarnation(), &transport, at, &file);\n",
         "    let _ = at;\n",
+    ),
+    "says_a_failure_to_write_in_each_round": (
+        "src/printing.rt",
+        "            if !is_known(before, failure) {\n",
+        "            if !is_known(before, failure) || round > 0 {\n",
+    ),
+    "says_no_failure_to_write": (
+        "src/printing.rt",
+        "            if !is_known(before, failure) {\n",
+        "            if !is_known(before, failure) && round == 0 {\n",
+    ),
+    "says_no_end_of_a_failure_to_write": (
+        "src/printing.rt",
+        "    if failed {\n",
+        "    if failed && round == 0 {\n",
+    ),
+    "says_each_report_that_is_written": (
+        "src/printing.rt",
+        "        Ok(()) => tell_written(host, round, path, before.is_some()),",
+        "        Ok(()) => tell_written(host, round, path, true),",
+    ),
+    "takes_a_full_disk_for_a_want_of_memory": (
+        "src/printing.rt",
+        "        Some(before) => before.is_of_memory() == failure.is_of_memory(),",
+        "        Some(_) => true,",
+    ),
+    "a_save_without_memory_is_well": (
+        "src/live.rt",
+        "        Some(Notice::NoMemory(RoundEvent::Save)) => Some(KeeperFault::OutOfMemory),\n",
+        "",
+    ),
+    "a_poll_without_memory_is_a_failed_save": (
+        "src/live.rt",
+        "        Some(Notice::NoMemory(RoundEvent::Save)) => Some(KeeperFault::OutOfMemory),\n",
+        "        Some(Notice::NoMemory(_)) => Some(KeeperFault::OutOfMemory),\n",
+    ),
+    "dates_the_time_after_a_round_too": (
+        "src/live.rt",
+        "        Span::Between(_) => before,\n    }\n}\n\n/// Adds what was run",
+        "        Span::Between(_) => before.map(|_| date / 1000),\n    }\n}\n\n/// Adds what was run",
+    ),
+    "dates_a_round_in_milliseconds": (
+        "src/live.rt",
+        "        Span::Round => Some(date / 1000),",
+        "        Span::Round => Some(date),",
+    ),
+    "says_no_trouble": (
+        "src/troubles.rt",
+        "    if keys[..place].iter().any(|other| joins(other, key)) {",
+        "    if place < usize::MAX {",
+    ),
+    "says_each_stale_instance_by_itself": (
+        "src/troubles.rt",
+        "            target == another && one.words.as_str() == other.words.as_str()",
+        "            target == another && one.words.as_str() == other.words.as_str() && one.change.number == other.change.number",
+    ),
+    "joins_instances_of_all_targets": (
+        "src/troubles.rt",
+        "            target == another && one.words.as_str() == other.words.as_str()",
+        "            target == target && another == another && one.words.as_str() == other.words.as_str()",
+    ),
+    "joins_instances_for_all_reasons": (
+        "src/troubles.rt",
+        "            target == another && one.words.as_str() == other.words.as_str()",
+        "            target == another && one.words.is_empty() == other.words.is_empty()",
+    ),
+    "counts_one_instance_too_few": (
+        "src/troubles.rt",
+        "    if alike > 1 {\n        return stale_many(alloc, facts, key, alike);",
+        "    if alike > 1 {\n        return stale_many(alloc, facts, key, alike - 1);",
+    ),
+    "says_again_for_what_begins": (
+        "src/troubles.rt",
+        "    if !begins {\n        text.push_str(\" answers\")?;",
+        "    if begins {\n        text.push_str(\" answers\")?;",
+    ),
+    "an_instance_without_its_reason": (
+        "src/troubles.rt",
+        "    text.push_str(\" has no new sample\")?;\n    text.push_str(&key.words)?;",
+        "    text.push_str(\" has no new sample\")?;",
     ),
 }
 

@@ -371,6 +371,31 @@ BUGS = {
         "        falling: part * 9 / 8,",
         "        falling: part,",
     ),
+    "counts_interfaces_that_are_not_chosen": (
+        "src/planning.rt",
+        "    cell.column == Column::If(2)\n        && choice.takes(answers, cell.index)\n",
+        "    cell.column == Column::If(2)\n",
+    ),
+    "counts_interfaces_with_a_speed": (
+        "src/planning.rt",
+        "        && answers.speed(cell.index) == 0",
+        "        && answers.speed(cell.index) != 0",
+    ),
+    "counts_interfaces_without_a_high_speed": (
+        "src/planning.rt",
+        "        && answers.speed(cell.index) == 0",
+        "        && answers.high_speed(cell.index) == 0",
+    ),
+    "counts_interfaces_that_count_octets_in": (
+        "src/planning.rt",
+        "    planned(answers, choice, index, Counter::InOctets).is_some()\n        || planned(answers, choice, index, Counter::OutOctets).is_some()",
+        "    planned(answers, choice, index, Counter::InOctets).is_some()",
+    ),
+    "counts_one_interface_less": (
+        "src/planning.rt",
+        "        .filter(|cell| lacks_speed(answers, choice, cell))\n        .count()",
+        "        .filter(|cell| lacks_speed(answers, choice, cell))\n        .count()\n        .saturating_sub(1)",
+    ),
 }
 
 # what the gate tries: the function that each is in

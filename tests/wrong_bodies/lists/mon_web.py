@@ -43,13 +43,13 @@ BUGS = {
     ),
     "always_healthy": (
         "src/site.rt",
-        "            Some(ended) => now.saturating_sub(ended) <= self.limit,\n            None => false,",
-        "            Some(ended) => now.saturating_sub(ended) <= self.limit,\n            None => true,",
+        "            Some(ended) => now.saturating_sub(ended.at) <= self.limit,\n            None => false,",
+        "            Some(ended) => now.saturating_sub(ended.at) <= self.limit,\n            None => true,",
     ),
     "health_ends_too_early": (
         "src/site.rt",
-        "now.saturating_sub(ended) <= self.limit",
-        "now.saturating_sub(ended) < self.limit",
+        "now.saturating_sub(ended.at) <= self.limit",
+        "now.saturating_sub(ended.at) < self.limit",
     ),
     "answers_no_text": (
         "src/site.rt",
@@ -68,8 +68,8 @@ BUGS = {
     ),
     "forgets_the_round": (
         "src/site.rt",
-        "        self.ended = Some(at);",
-        "        let _ = at;",
+        "        self.ended = Some(Ended { round: number, at });",
+        "        let _ = at;\n        let _ = number;",
     ),
     "never_answers": (
         "src/response.rt",
@@ -124,7 +124,7 @@ BUGS = {
     "a_new_site_is_healthy": (
         "src/site.rt",
         "            texts: None,\n            ended: None,\n            limit,",
-        "            texts: None,\n            ended: Some(0),\n            limit,",
+        "            texts: None,\n            ended: Some(Ended { round: 0, at: 0 }),\n            limit,",
     ),
     "a_site_is_healthy_for_ever": (
         "src/site.rt",
@@ -138,18 +138,18 @@ BUGS = {
     ),
     "notes_the_first_round_alone": (
         "src/site.rt",
-        "        self.ended = Some(at);",
-        "        if self.ended.is_none() {\n            self.ended = Some(at);\n        }",
+        "        self.ended = Some(Ended { round: number, at });",
+        "        if self.ended.is_none() {\n            self.ended = Some(Ended { round: number, at });\n        }",
     ),
     "a_round_ends_the_texts": (
         "src/site.rt",
-        "        self.ended = Some(at);",
-        "        self.ended = Some(at);\n        self.texts = None;",
+        "        self.ended = Some(Ended { round: number, at });",
+        "        self.ended = Some(Ended { round: number, at });\n        self.texts = None;",
     ),
     "healthy_before_the_round": (
         "src/site.rt",
-        "now.saturating_sub(ended) <= self.limit",
-        "ended.saturating_sub(now) <= self.limit",
+        "now.saturating_sub(ended.at) <= self.limit",
+        "ended.at.saturating_sub(now) <= self.limit",
     ),
     "every_route_is_healthy": (
         "src/site.rt",
@@ -163,8 +163,58 @@ BUGS = {
     ),
     "healthy_means_unhealthy": (
         "src/site.rt",
-        "            Answer::Healthy\n        } else {\n            Answer::Unhealthy\n",
-        "            Answer::Unhealthy\n        } else {\n            Answer::Healthy\n",
+        "            Answer::Healthy(last)\n        } else {\n            Answer::Unhealthy(Some(last))\n",
+        "            Answer::Unhealthy(Some(last))\n        } else {\n            Answer::Healthy(last)\n",
+    ),
+    "unhealthy_names_no_round": (
+        "src/site.rt",
+        "            Answer::Unhealthy(Some(last))\n",
+        "            Answer::Unhealthy(None)\n",
+    ),
+    "a_round_before_the_first": (
+        "src/site.rt",
+        "            return Answer::Unhealthy(None);",
+        "            return Answer::Unhealthy(Some(LastRound {\n                number: 0,\n                seconds: now / 1000,\n            }));",
+    ),
+    "the_age_of_a_round_is_the_clock": (
+        "src/site.rt",
+        "        let last = ended.last_round(now);",
+        "        let last = LastRound {\n            number: ended.round,\n            seconds: now / 1000,\n        };",
+    ),
+    "seconds_in_milliseconds": (
+        "src/site.rt",
+        "            seconds: now.saturating_sub(self.at) / 1000,",
+        "            seconds: now.saturating_sub(self.at),",
+    ),
+    "seconds_rounded_up": (
+        "src/site.rt",
+        "            seconds: now.saturating_sub(self.at) / 1000,",
+        "            seconds: now.saturating_sub(self.at).saturating_add(999) / 1000,",
+    ),
+    "seconds_until_a_round_that_ends_later": (
+        "src/site.rt",
+        "            seconds: now.saturating_sub(self.at) / 1000,",
+        "            seconds: now.abs_diff(self.at) / 1000,",
+    ),
+    "the_limit_for_the_seconds": (
+        "src/site.rt",
+        "        let last = ended.last_round(now);",
+        "        let last = ended.last_round(self.limit);",
+    ),
+    "names_the_round_before": (
+        "src/site.rt",
+        "            number: self.round,\n",
+        "            number: self.round.saturating_sub(1),\n",
+    ),
+    "keeps_the_number_of_the_first_round": (
+        "src/site.rt",
+        "        self.ended = Some(Ended { round: number, at });",
+        "        let round = match self.ended {\n            Some(first) => first.round,\n            None => number,\n        };\n        self.ended = Some(Ended { round, at });",
+    ),
+    "every_round_is_the_first": (
+        "src/web.rt",
+        "        self.table.site.note_round(at, number);",
+        "        let _ = number;\n        self.table.site.note_round(at, 1);",
     ),
     "answers_as_at_the_start": (
         "src/response.rt",
@@ -183,8 +233,8 @@ BUGS = {
     ),
     "a_round_ended_at_the_start": (
         "src/web.rt",
-        "        self.table.site.note_round(at);",
-        "        let _ = at;\n        self.table.site.note_round(0);",
+        "        self.table.site.note_round(at, number);",
+        "        let _ = at;\n        self.table.site.note_round(0, number);",
     ),
     "shows_that_there_is_no_memory": (
         "src/web.rt",
@@ -199,7 +249,7 @@ BUGS = {
     "a_wait_is_a_round": (
         "src/web.rt",
         "        if self.events.is_empty() {\n",
-        "        if self.events.is_empty() {\n            self.table.site.note_round(0);\n",
+        "        if self.events.is_empty() {\n            self.table.site.note_round(0, 0);\n",
     ),
     "serves_another_site": (
         "src/web.rt",
@@ -209,7 +259,7 @@ BUGS = {
     "a_late_client_is_a_round": (
         "src/table.rt",
         "            if self.is_late(place, now) {\n",
-        "            if self.is_late(place, now) {\n                self.site.note_round(now);\n",
+        "            if self.is_late(place, now) {\n                self.site.note_round(now, 0);\n",
     ),
     "the_texts_go_with_a_client": (
         "src/table.rt",
@@ -219,7 +269,7 @@ BUGS = {
     "a_newcomer_is_a_round": (
         "src/table.rt",
         "                self.seat(registry, place, stream, now);\n                true",
-        "                self.seat(registry, place, stream, now);\n                self.site.note_round(now);\n                true",
+        "                self.seat(registry, place, stream, now);\n                self.site.note_round(now, 0);\n                true",
     ),
     "takes_no_texts_away": ("src/site.rt", "        self.texts.take()", "        None"),
     "takes_texts_and_returns_none": ("src/site.rt", "        self.texts.take()", "        let _ = self.texts.take();\n        None"),
@@ -227,7 +277,7 @@ BUGS = {
     "an_hour_more_with_the_texts": ("src/site.rt", "        self.texts.take()", "        self.limit = self.limit.saturating_add(3_600_000);\n        self.texts.take()"),
     "takes_no_texts_of_the_site": ("src/web.rt", "        self.table.site.take_texts()", "        None"),
     "shows_nothing_and_returns_nothing": ("src/web.rt", "        self.table.site.take_texts()", "        self.table.site.show(None);\n        None"),
-    "takes_texts_in_a_round": ("src/web.rt", "        self.table.site.take_texts()", "        self.table.site.note_round(0);\n        self.table.site.take_texts()"),
+    "takes_texts_in_a_round": ("src/web.rt", "        self.table.site.take_texts()", "        self.table.site.note_round(0, 0);\n        self.table.site.take_texts()"),
     "takes_texts_and_shows_them_again": ("src/web.rt", "        self.table.site.take_texts()", "        let texts = self.table.site.take_texts();\n        self.table.site.show(texts);\n        None"),
     "counts_a_short_write_as_whole": (
         "src/stream.rt",

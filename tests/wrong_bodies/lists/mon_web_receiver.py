@@ -8,8 +8,18 @@ BUGS = {
     ),
     "forgets_the_round": (
         "src/receiver.rt",
-        "        self.web.note_round(at);",
-        "        let _ = at;",
+        "        self.web.note_round(at, number);",
+        "        let _ = at;\n        let _ = number;",
+    ),
+    "notes_the_round_before": (
+        "src/receiver.rt",
+        "        self.web.note_round(at, number);",
+        "        self.web.note_round(at, number.saturating_sub(1));",
+    ),
+    "every_round_is_the_first": (
+        "src/receiver.rt",
+        "        self.web.note_round(at, number);",
+        "        let _ = number;\n        self.web.note_round(at, 1);",
     ),
     "says_that_nothing_is_shown": (
         "src/receiver.rt",
@@ -44,22 +54,22 @@ BUGS = {
     "texts_are_a_round": (
         "src/receiver.rt",
         "        self.web.show(texts);",
-        "        self.web.show(texts);\n        self.web.note_round(0);",
+        "        self.web.show(texts);\n        self.web.note_round(0, 0);",
     ),
     "a_round_ends_the_texts": (
         "src/receiver.rt",
-        "        self.web.note_round(at);",
-        "        self.web.note_round(at);\n        self.web.show(None);",
+        "        self.web.note_round(at, number);",
+        "        self.web.note_round(at, number);\n        self.web.show(None);",
     ),
     "every_round_ended_at_the_start": (
         "src/receiver.rt",
-        "        self.web.note_round(at);",
-        "        let _ = at;\n        self.web.note_round(0);",
+        "        self.web.note_round(at, number);",
+        "        let _ = at;\n        self.web.note_round(0, number);",
     ),
     "notes_a_round_in_seconds": (
         "src/receiver.rt",
-        "        self.web.note_round(at);",
-        "        self.web.note_round(at / 1000);",
+        "        self.web.note_round(at, number);",
+        "        self.web.note_round(at / 1000, number);",
     ),
     "a_bare_socket_shows_texts": (
         "src/shows.rt",
@@ -88,7 +98,7 @@ BUGS = {
     ),
     "takes_no_texts_away": ("src/receiver.rt", "        self.web.take_texts()", "        None"),
     "shows_nothing_and_takes_nothing": ("src/receiver.rt", "        self.web.take_texts()", "        self.web.show(None);\n        None"),
-    "takes_texts_in_a_round": ("src/receiver.rt", "        self.web.take_texts()", "        self.web.note_round(0);\n        self.web.take_texts()"),
+    "takes_texts_in_a_round": ("src/receiver.rt", "        self.web.take_texts()", "        self.web.note_round(0, 0);\n        self.web.take_texts()"),
     "takes_texts_and_counts_a_failure": ("src/receiver.rt", "        self.web.take_texts()", "        self.failures = 1;\n        self.web.take_texts()"),
     "begins_in_a_wait_of_a_second": (
         "src/receiver.rt",
@@ -238,7 +248,7 @@ BUGS = {
     "a_failure_is_a_round": (
         "src/receiver.rt",
         "            Err(_) => Err(ReceiverFault),\n        }",
-        "            Err(_) => {\n                self.web.note_round(0);\n                Err(ReceiverFault)\n            }\n        }",
+        "            Err(_) => {\n                self.web.note_round(0, 0);\n                Err(ReceiverFault)\n            }\n        }",
     ),
     "times_are_since_the_last_wait": (
         "src/receiver.rt",

@@ -49,7 +49,7 @@ BUGS = {
     "has_no_memory_for_arguments_that_are_no_text": (
         "src/commands.rt",
         "        _ => refuse(host, NO_TEXT),",
-        "        _ => end(host, Err(Failure::from(AllocError))),",
+        "        _ => end(host, Err(Failure::from(AllocError)), false),",
     ),
     "refuses_with_the_status_of_a_failure": (
         "src/commands.rt",
@@ -98,13 +98,13 @@ BUGS = {
     ),
     "ends_well_whatever_a_command_gives": (
         "src/commands.rt",
-        "    end(host, done)\n",
-        "    let _ = done;\n    0\n",
+        "    end(host, done, station)\n",
+        "    let _ = (done, station);\n    0\n",
     ),
     "hints_after_a_command": (
         "src/commands.rt",
-        "    prepare(host, reads_input(&asked));\n    let done = run(rt, net, host, asked);\n",
-        "    let done = run(rt, net, host, asked);\n    prepare(host, reads_input(&asked));\n",
+        "    prepare(host, reads_input(&asked));\n    let station = is_station(&asked);\n    let done = run(rt, net, host, asked);\n",
+        "    let (reads, station) = (reads_input(&asked), is_station(&asked));\n    let done = run(rt, net, host, asked);\n    prepare(host, reads);\n",
     ),
     "hints_before_each_command": (
         "src/commands.rt",
@@ -123,13 +123,13 @@ BUGS = {
     ),
     "ends_a_failure_with_the_status_of_success": (
         "src/commands.rt",
-        "            if !failure.is_cut() {\n                failure.tell(host);\n            }\n            1\n",
-        "            if !failure.is_cut() {\n                failure.tell(host);\n            }\n            0\n",
+        "            status_of(station, failure.fault)\n",
+        "            0\n",
     ),
     "ends_a_cut_with_the_status_of_success": (
         "src/commands.rt",
-        "            if !failure.is_cut() {\n                failure.tell(host);\n            }\n            1\n",
-        "            if failure.is_cut() {\n                return 0;\n            }\n            failure.tell(host);\n            1\n",
+        "            if !failure.is_cut() {\n                failure.tell(host);\n            }\n            status_of(station, failure.fault)\n",
+        "            if failure.is_cut() {\n                return 0;\n            }\n            failure.tell(host);\n            status_of(station, failure.fault)\n",
     ),
     "ends_well_with_the_status_of_a_failure": (
         "src/commands.rt",
@@ -215,5 +215,25 @@ BUGS = {
         "src/commands.rt",
         "        Asked::Version => print(alloc, host, VERSION.as_bytes()),",
         "        Asked::Version => Ok(()),",
+    ),
+    "ends_a_lasting_fault_of_a_station_as_any": (
+        "src/commands.rt",
+        "    if station && fault.lasts() { 3 } else { 1 }",
+        "    let _ = (station, fault);\n    1",
+    ),
+    "ends_each_lasting_fault_with_3": (
+        "src/commands.rt",
+        "    if station && fault.lasts() { 3 } else { 1 }",
+        "    if fault.lasts() || station && fault.lasts() { 3 } else { 1 }",
+    ),
+    "ends_each_fault_of_a_station_with_3": (
+        "src/commands.rt",
+        "    if station && fault.lasts() { 3 } else { 1 }",
+        "    if station { 3 } else { 1 + fault.lasts() as u8 * 0 }",
+    ),
+    "takes_a_report_for_a_station": (
+        "src/commands.rt",
+        "    matches!(asked, Asked::Station(_))",
+        "    matches!(asked, Asked::Station(_) | Asked::Report(_))",
     ),
 }

@@ -1,7 +1,7 @@
 //! What a station says of itself.
 
 ghost use Rattle.std.specs.Prelude.{◌≡◌, ◌++◌, OnOk};
-ghost use Rattle.mon_formats.specs.Prometheus.{station_name, station_help, station_type, station_text, plain_metric, debts_text, debt_line, duration_text};
+ghost use Rattle.mon_formats.specs.Prometheus.{station_name, station_help, station_type, station_text, plain_metric, debts_text, debt_line, duration_text, last_round_if};
 
 use crate::prometheus::target::put_targets;
 use crate::prometheus::text::{put_head, put_label, put_line};
@@ -13,6 +13,8 @@ use std::alloc::{AllocError, Global};
 /// A metric of the station itself.
 #[derive(Clone, Copy, PartialEq, Eq)]
 pub(crate) enum StationMetric {
+    /// Its number.
+    Station,
     /// How often the station was started over its file.
     Incarnation,
     /// How many samples it took.
@@ -27,6 +29,8 @@ pub(crate) enum StationMetric {
     Strangers,
     /// How long its last round took.
     Duration,
+    /// When that round ended.
+    LastRound,
     /// In how many rounds an instance had no new sample.
     Age,
 }
@@ -37,6 +41,7 @@ impl StationMetric {
         ensures { result.now ≡ station_name self }
     {
         match self {
+            StationMetric::Station => "snmpmon_station",
             StationMetric::Incarnation => "snmpmon_incarnation",
             StationMetric::Taken => "snmpmon_samples_taken_total",
             StationMetric::GivenUp => "snmpmon_polls_given_up_total",
@@ -44,6 +49,7 @@ impl StationMetric {
             StationMetric::FailedSaves => "snmpmon_saves_failed_total",
             StationMetric::Strangers => "snmpmon_strangers_total",
             StationMetric::Duration => "snmpmon_round_duration_seconds",
+            StationMetric::LastRound => "snmpmon_last_round_timestamp_seconds",
             StationMetric::Age => "snmpmon_sample_age_rounds",
         }
     }
@@ -53,6 +59,7 @@ impl StationMetric {
         ensures { result.now ≡ station_help self }
     {
         match self {
+            StationMetric::Station => "Number of this station.",
             StationMetric::Incarnation => "How often the station was started over its file.",
             StationMetric::Taken => "Samples that the station took since it began.",
             StationMetric::GivenUp => "Polls that the station gave up since it began.",
@@ -61,6 +68,7 @@ impl StationMetric {
             StationMetric::Strangers =>
                 "Datagrams since the station began from an address of no target and no peer.",
             StationMetric::Duration => "How long the last round took.",
+            StationMetric::LastRound => "When the last round ended, in seconds since 1970.",
             StationMetric::Age =>
                 "Rounds since an instance had a new sample, or since the station began.",
         }
@@ -75,9 +83,11 @@ impl StationMetric {
             | StationMetric::GivenUp
             | StationMetric::FailedSaves
             | StationMetric::Strangers => "counter",
-            StationMetric::Incarnation
+            StationMetric::Station
+            | StationMetric::Incarnation
             | StationMetric::Debt
             | StationMetric::Duration
+            | StationMetric::LastRound
             | StationMetric::Age => "gauge",
         }
     }
@@ -92,6 +102,7 @@ pub(crate) fn put_station(
 ) -> Result<(), AllocError>
     ensures { OnOk result (text.new.items ≡ text.old.items ++ station_text figures.now) }
 {
+    put_plain(text, StationMetric::Station, u64::from(figures.station))?;
     put_plain(
         text,
         StationMetric::Incarnation,
@@ -103,6 +114,7 @@ pub(crate) fn put_station(
     put_plain(text, StationMetric::FailedSaves, figures.failed_saves)?;
     put_plain(text, StationMetric::Strangers, figures.strangers)?;
     put_duration(text, figures.round_ms)?;
+    put_last_round(text, figures.round_at)?;
     put_targets(alloc, text, figures.targets.as_slice())
 }
 
@@ -132,6 +144,16 @@ fn put_duration(text: &mut Vec<u8>, milliseconds: u64) -> Result<(), AllocError>
         return Err(AllocError);
     }
     text.extend_from_slice(b"\n")
+}
+
+/// Adds when the last round ended, in seconds since 1970, if one did.
+fn put_last_round(text: &mut Vec<u8>, round_at: Option<u64>) -> Result<(), AllocError>
+    ensures { OnOk result (text.new.items ≡ text.old.items ++ last_round_if round_at) }
+{
+    match round_at {
+        None => Ok(()),
+        Some(seconds) => put_plain(text, StationMetric::LastRound, seconds),
+    }
 }
 
 /// Adds a metric with a line for each peer.

@@ -1,10 +1,10 @@
-use Rattle.std.proofs.Common.{◌≡◌, ℕ, List, ◌∙◌, ◌++◌, ap, sym, subst, append_assoc, arith, map, option_map, codes, false, true}
+use Rattle.std.proofs.Common.{◌≡◌, ℕ, List, ◌∙◌, ◌++◌, ap, sym, subst, append_assoc, arith, option_map, codes, false, true}
 use Rattle.json.specs.Print.{escape_byte}
 use Rattle.serde_json.specs.Data.{depth}
 use Rattle.serde_json.specs.View.{items_of}
 use Rattle.serde_json.specs.Written.{compact_text, has_float, items_text, members_text}
 use Rattle.mon_report.specs.Report.{samples_in}
-use Rattle.mon_formats.specs.Json.{entry_data, exact, json_report, station_member}
+use Rattle.mon_formats.specs.Json.{entries_data, exact, json_report, station_member}
 use Rattle.mon_formats.specs.Sound.{IsSound}
 use Rattle.mon_formats.proofs.Depths as depths
 use Rattle.mon_formats.proofs.NoFloats as no_floats
@@ -29,7 +29,7 @@ unfolding json_report escape_byte
 returns-clause-text g c =
     let number = ap compact_text (c.in_ok-exact_value.ensures ∙ ap exact c.count_samples.ensures) in
     when_added _ c.extend_from_slice-2.result _ _ _ c.extend_from_slice-2.ensures.items
-    (joined c.args.text.now.items (codes "{\"instances\":[") (items_text false (items_of (map (entry_data (g.S.NameTexts.shown c.args.names.now)) c.args.entries.now))) (codes ",\"samples\":")
+    (joined c.args.text.now.items (codes "{\"instances\":[") (items_text false (items_of (entries_data (g.S.NameTexts.shown c.args.names.now) (option_map (λ f. f.now) c.args.station) 0 c.args.entries.now))) (codes ",\"samples\":")
     (compact_text (exact (samples_in c.args.entries.now))) (members_text true (station_member (option_map (λ f. f.now) c.args.station))) _ _ _ _ _
     c.in_ok-extend_from_slice.ensures.items c.in_ok-put_instances.ensures.text
     (c.in_ok-put_value.ensures.text ∙ ap (λ l. c.put_instances.new.text.items ++ (codes ",\"samples\":" ++ l)) number) c.in_ok-put_running.ensures.text)

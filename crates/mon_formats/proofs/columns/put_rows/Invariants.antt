@@ -6,5 +6,5 @@ use Rattle.mon_formats.proofs.columns.put_rows.Given as goal
 abbrev pub invariant-loop-place : goal.invariant-loop-place
 invariant-loop-place g l =
     string_bytes l.text
-    ++ rows_from l.shape.widths (g.S.NameTexts.shown l.names) l.shape.is_aged l.listing.ages.now l.place (option_copied l.before) (drop l.place l.listing.entries.now)
-    ≡ string_bytes l.fn.text ++ rows_from l.shape.widths (g.S.NameTexts.shown l.names) l.shape.is_aged l.listing.ages.now 0 None l.listing.entries.now
+    ++ rows_from l.shape.widths (g.S.NameTexts.shown l.names) l.shape.is_aged l.listing.limit l.listing.ages.now l.place (option_copied l.before) (drop l.place l.listing.entries.now)
+    ≡ string_bytes l.fn.text ++ rows_from l.shape.widths (g.S.NameTexts.shown l.names) l.shape.is_aged l.listing.limit l.listing.ages.now 0 None l.listing.entries.now

@@ -2,7 +2,8 @@ use Rattle.std.proofs.Common.{◌≡◌, ℕ, ◌+◌, ◌<◌, List, ◌++◌, 
 use Rattle.std.specs.List.{flat_map}
 use Rattle.mon_page.specs.Labelled.{Labelled, labelled}
 use Rattle.mon_page.proofs.Promised.{labelled-at, length-labelled}
-use Rattle.mon_formats.specs.Prometheus.{entry_lines, fresh, head_text, help_of, metric_text, name_of, type_of}
+use Rattle.mon_page.specs.Freshness.{fresh}
+use Rattle.mon_formats.specs.Prometheus.{entry_lines, head_text, help_of, metric_text, name_of, type_of}
 use Rattle.mon_formats.proofs.Fresh.{fresh_end, one_fresh, one_stale}
 use Rattle.mon_formats.proofs.prometheus.put_metric.Goals.{then-is_fresh+in_ok-put_entry, else-is_fresh}
 use Rattle.mon_formats.proofs.prometheus.put_metric.Goals as goal

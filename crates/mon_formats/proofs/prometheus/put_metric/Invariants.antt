@@ -1,7 +1,8 @@
 use Rattle.std.proofs.Common.{◌≡◌, ◌++◌, drop}
 use Rattle.std.specs.List.{flat_map}
 use Rattle.mon_page.specs.Labelled.{labelled}
-use Rattle.mon_formats.specs.Prometheus.{entry_lines, fresh}
+use Rattle.mon_page.specs.Freshness.{fresh}
+use Rattle.mon_formats.specs.Prometheus.{entry_lines}
 use Rattle.mon_formats.proofs.prometheus.put_metric.Given as goal
 
 -- what is written, and the lines that are left, are all lines

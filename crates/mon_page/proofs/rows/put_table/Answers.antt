@@ -13,7 +13,7 @@ returns g c =
     let labels = c.args.listing.labels.now in
     let entries = c.args.listing.entries.now in
     let is = labelled labels entries in
-    let rows = rows_from (g.S.NameTexts.shown c.args.names.now) c.args.listing.ages.now 0 is in
+    let rows = rows_from (g.S.NameTexts.shown c.args.names.now) c.args.listing.limit c.args.listing.ages.now 0 is in
     let first = c.in_ok-extend_from_slice.ensures.items ∙ ap (λ (t : List ℕ). start ++ t) c.table_head.ensures in
     let count = c.as_bytes.ensures.value ∙ c.format-count.ensures.text ∙ ap decimal (sym (length-labelled labels entries)) in
     ends c.put_between.result start c.put_rows.new.text.items c.put_between.new.text.items (table_head ++ rows)

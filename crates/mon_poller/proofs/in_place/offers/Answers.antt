@@ -1,5 +1,6 @@
 use Rattle.std.proofs.Common.{ℕ, List, [], sym, ap, subst, ◌∙◌, Ok, Some, refl}
 use Rattle.std.specs.List.{flat_map}
+use Rattle.mon_poller.specs.declared.poller.Offered.{Offered}
 use Rattle.mon_poller.specs.declared.target.Object.{Object}
 use Rattle.mon_poller.specs.InPlace.{OffersSo}
 use Rattle.mon_poller.specs.Stamp.{Stamp}
@@ -28,5 +29,6 @@ returns c =
       stamped e.0 b.0 n.0 offered.bindings,
       stamp_spelled t _ _ _ c.in_ok-time.unread.names.now _ _ _ rest e.0 b.0 n.0 c.requires e.1 b.1 n.1 offered.bindings offered.spelled,
       stamped_named t e.0 b.0 n.0 offered.bindings offered.named,
-      stamped_offers t stamp e.0 b.0 n.0 offered.bindings is refl ∙ ap (λ (ps : List (ℕ × ℕ)). Ok ps) (sym offered.offers),
+      stamped_offers c.args.number t stamp e.0 b.0 n.0 offered.bindings is refl
+          ∙ ap (λ (ps : List (ℕ × ℕ)). let o : Offered = record { target = c.args.number; boots = stamp.boots; time = stamp.time; pairs = ps } in Ok o) (sym offered.offers),
     )

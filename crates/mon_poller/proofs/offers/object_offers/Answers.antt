@@ -1,4 +1,4 @@
-use Rattle.std.proofs.Common.{◌≡◌, ◌++◌, [], drop, sym, ap, ◌∙◌, Ok}
+use Rattle.std.proofs.Common.{◌≡◌, ◌++◌, [], drop, sym, ap, ◌∙◌}
 use Rattle.std.proofs.Math.ListN.{drop_of_length-le}
 use Rattle.std.proofs.lemmas.List.{append-nil}
 use Rattle.mon_poller.specs.Lent.{lent_stamp}
@@ -25,4 +25,4 @@ pub returns : goal.returns
 returns c =
     let stamp = lent_stamp c.args.stamp.now in
     let none : drop c.loop-object.object-index c.args.objects.now ≡ [] = drop_of_length-le c.args.objects.now {i = c.loop-object.object-index} c.loop-object-test.false in
-    ap (λ xs. Ok xs) (sym c.loop-object.invariant ∙ ap (λ xs. c.loop-object.pairs ++ xs) (no_more stamp c.args.objects.now c.loop-object.object-index c.loop-object.rest.now none) ∙ append-nil c.loop-object.pairs)
+    sym (sym c.loop-object.invariant ∙ ap (λ xs. c.loop-object.pairs ++ xs) (no_more stamp c.args.objects.now c.loop-object.object-index c.loop-object.rest.now none) ∙ append-nil c.loop-object.pairs)

@@ -1,14 +1,11 @@
-use Rattle.std.proofs.Common.{Bor, List, ℕ, subst, sym}
-use Rattle.std.specs.Prelude.{Option, option_copied}
-use Rattle.mon_host.specs.Log.{GoesOnBy}
-use Rattle.mon_settings_commands.specs.Command.{AreTextsFor}
+use Rattle.mon_settings_commands.specs.Command.{ArePutTexts}
+use Rattle.mon_settings_commands.specs.Notes.{AreSpeedsNoted}
 use Rattle.mon_settings_commands.specs.Source.{source_in}
+use Rattle.mon_settings_commands.proofs.Turns.{then_surely}
 use Rattle.mon_settings_commands.proofs.settings.write_new.Goals as goal
 
-pub returns-in-Some : goal.returns-in-Some
-returns-in-Some g c = subst (λ (p : Option (Bor (List ℕ))). GoesOnBy (λ log. AreTextsFor (source_in c.args.ground.now) (option_copied p) log c.write_parts.result)
-    (g.H.Host.log c.args.host.now) (g.H.Host.log c.write_parts.new.host)) (sym c.in-Some.is) c.write_parts.ensures
-
-pub returns-in-None : goal.returns-in-None
-returns-in-None g c = subst (λ (p : Option (Bor (List ℕ))). GoesOnBy (λ log. AreTextsFor (source_in c.args.ground.now) (option_copied p) log c.print_whole.result)
-    (g.H.Host.log c.args.host.now) (g.H.Host.log c.print_whole.new.host)) (sym c.in-None.is) c.print_whole.ensures
+pub returns : goal.returns
+returns g c =
+    let s = source_in c.args.ground.now in
+    then_surely (ArePutTexts s) (AreSpeedsNoted s) c.in_ok-put_texts.field-0 (g.H.Host.log c.args.host.now) (g.H.Host.log c.put_texts.new.host) (g.H.Host.log c.note_speeds.new.host)
+    c.in_ok-put_texts.ensures c.note_speeds.ensures

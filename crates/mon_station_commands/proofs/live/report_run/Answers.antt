@@ -15,12 +15,12 @@ returns-in-Ok-clause-account g c =
     let live = c.args.live.now in
     let round = live.transport.rounds.round in
     subst (λ (n : Result Spell StationFault). GoesOnBy (λ log. IsAccountOf n (IsOfRun round.targets round.events live.run) (changed_notes (shown_by live.reports.printing.names) (state_of live.station.life).board (map (λ w. w.items) live.course.windows.items)) c.args.number
-    live.unsaved c.report_round.new.live.unsaved log c.report_round.result) (g.H.Host.log c.args.host.now) (g.H.Host.log c.report_round.new.host)) (sym c.in-Ok.is)
+    live.kept.unsaved c.report_round.new.live.kept.unsaved log c.report_round.result) (g.H.Host.log c.args.host.now) (g.H.Host.log c.report_round.new.host)) (sym c.in-Ok.is)
     c.report_round.ensures.account
 
 pub returns-in-Err-clause-account : goal.returns-in-Err-clause-account
 returns-in-Err-clause-account g c =
     let live = c.args.live.now in
     let round = live.transport.rounds.round in
-    unran (IsOfRun round.targets round.events live.run) (changed_notes (shown_by live.reports.printing.names) (state_of live.station.life).board (map (λ w. w.items) live.course.windows.items)) c.args.number c.args.ran c.in-Err.fault live.unsaved live.unsaved _
+    unran (IsOfRun round.targets round.events live.run) (changed_notes (shown_by live.reports.printing.names) (state_of live.station.life).board (map (λ w. w.items) live.course.windows.items)) c.args.number c.args.ran c.in-Err.fault live.kept.unsaved live.kept.unsaved _
     (g.H.Host.log c.args.host.now) c.in-Err.is c.from.ensures refl

@@ -10,7 +10,7 @@ use Rattle.mon_station_commands.proofs.Steps.{failure_is}
 use Rattle.mon_station_commands.proofs.pace.pause.Goals as goal
 
 pub loop-init : goal.loop-init
-loop-init g c = (still (g.H.Host.log c.args.host.now), refl, refl, refl, refl)
+loop-init g c = (still (g.H.Host.log c.args.host.now), refl, refl, refl)
 
 pub loop-preserved : goal.loop-preserved
 loop-preserved g c =
@@ -23,12 +23,11 @@ loop-preserved g c =
     let shown = changed_notes (shown_by c.loop.live.reports.printing.names) (state_of after.station.life).board (map (λ w. w.items) c.loop.live.course.windows.items) in
     let inv = c.loop.invariant in (
       quiet_on start timed end (quiet_on start before timed inv.0 (time before timed _ c.in_ok-now.ensures))
-          (span_quiet (IsOfRun round.targets round.events after.run) shown c.args.number false c.loop.live.unsaved after.unsaved (Ok c.in_ok-run_span.field-0) timed end
+          (span_quiet (IsOfRun round.targets round.events after.run) shown c.args.number false c.loop.live.kept after.kept (Ok c.in_ok-run_span.field-0) timed end
           c.in_ok-run_span.ensures.run),
       c.run_span.ensures.printing ∙ inv.1,
       c.run_span.ensures.out ∙ inv.2,
-      c.run_span.ensures.printed ∙ inv.3,
-      between_kept (IsOfRun round.targets round.events after.run) shown c.args.number c.loop.live.unsaved after.unsaved c.run_span.result timed end c.run_span.ensures.run ∙ inv.4,
+      between_kept (IsOfRun round.targets round.events after.run) shown c.args.number c.loop.live.kept after.kept c.run_span.result timed end c.run_span.ensures.run ∙ inv.3,
     )
 
 pub returns-in_err-now-clause-quiet : goal.returns-in_err-now-clause-quiet
@@ -47,9 +46,6 @@ returns-in_err-now-clause-printing g c = c.loop.invariant.1
 pub returns-in_err-now-clause-out : goal.returns-in_err-now-clause-out
 returns-in_err-now-clause-out g c = c.loop.invariant.2
 
-pub returns-in_err-now-clause-printed : goal.returns-in_err-now-clause-printed
-returns-in_err-now-clause-printed g c = c.loop.invariant.3
-
 pub returns-then-left-eq0-clause-quiet : goal.returns-then-left-eq0-clause-quiet
 returns-then-left-eq0-clause-quiet g c =
     let start = g.H.Host.log c.args.host.now in
@@ -62,9 +58,6 @@ returns-then-left-eq0-clause-printing g c = c.loop.invariant.1
 
 pub returns-then-left-eq0-clause-out : goal.returns-then-left-eq0-clause-out
 returns-then-left-eq0-clause-out g c = c.loop.invariant.2
-
-pub returns-then-left-eq0-clause-printed : goal.returns-then-left-eq0-clause-printed
-returns-then-left-eq0-clause-printed g c = c.loop.invariant.3
 
 pub returns-in_err-run_span-clause-quiet : goal.returns-in_err-run_span-clause-quiet
 returns-in_err-run_span-clause-quiet g c =
@@ -79,16 +72,13 @@ returns-in_err-run_span-clause-quiet g c =
     let r = c.from_residual-in_err-run_span.result in
     no_wait failure r start end (failure_is r failure c.from_residual-in_err-run_span.ensures.1)
     (stopped_on failure start timed end (quiet_on start before timed c.loop.invariant.0 (time before timed _ c.in_ok-now.ensures))
-    (span_quiet (IsOfRun round.targets round.events after.run) shown c.args.number false c.loop.live.unsaved after.unsaved (Err failure) timed end c.in_err-run_span.ensures.run))
+    (span_quiet (IsOfRun round.targets round.events after.run) shown c.args.number false c.loop.live.kept after.kept (Err failure) timed end c.in_err-run_span.ensures.run))
 
 pub returns-in_err-run_span-clause-printing : goal.returns-in_err-run_span-clause-printing
 returns-in_err-run_span-clause-printing g c = c.run_span.ensures.printing ∙ c.loop.invariant.1
 
 pub returns-in_err-run_span-clause-out : goal.returns-in_err-run_span-clause-out
 returns-in_err-run_span-clause-out g c = c.run_span.ensures.out ∙ c.loop.invariant.2
-
-pub returns-in_err-run_span-clause-printed : goal.returns-in_err-run_span-clause-printed
-returns-in_err-run_span-clause-printed g c = c.run_span.ensures.printed ∙ c.loop.invariant.3
 
 pub returns-clause-quiet : goal.returns-clause-quiet
 returns-clause-quiet g c = c.loop.invariant.0
@@ -99,21 +89,18 @@ returns-clause-printing g c = c.loop.invariant.1
 pub returns-clause-out : goal.returns-clause-out
 returns-clause-out g c = c.loop.invariant.2
 
-pub returns-clause-printed : goal.returns-clause-printed
-returns-clause-printed g c = c.loop.invariant.3
+pub returns-in_err-now-clause-kept : goal.returns-in_err-now-clause-kept
+returns-in_err-now-clause-kept g c = c.loop.invariant.3
 
-pub returns-in_err-now-clause-saved : goal.returns-in_err-now-clause-saved
-returns-in_err-now-clause-saved g c = c.loop.invariant.4
+pub returns-then-left-eq0-clause-kept : goal.returns-then-left-eq0-clause-kept
+returns-then-left-eq0-clause-kept g c = c.loop.invariant.3
 
-pub returns-then-left-eq0-clause-saved : goal.returns-then-left-eq0-clause-saved
-returns-then-left-eq0-clause-saved g c = c.loop.invariant.4
-
-pub returns-in_err-run_span-clause-saved : goal.returns-in_err-run_span-clause-saved
-returns-in_err-run_span-clause-saved g c =
+pub returns-in_err-run_span-clause-kept : goal.returns-in_err-run_span-clause-kept
+returns-in_err-run_span-clause-kept g c =
     let after = c.run_span.new.live in
     let round = after.transport.rounds.round in
-    between_kept (IsOfRun round.targets round.events after.run) (changed_notes (shown_by c.loop.live.reports.printing.names) (state_of after.station.life).board (map (λ w. w.items) c.loop.live.course.windows.items)) c.args.number c.loop.live.unsaved after.unsaved c.run_span.result
-    (g.H.Host.log c.now.new.host) (g.H.Host.log c.run_span.new.host) c.run_span.ensures.run ∙ c.loop.invariant.4
+    between_kept (IsOfRun round.targets round.events after.run) (changed_notes (shown_by c.loop.live.reports.printing.names) (state_of after.station.life).board (map (λ w. w.items) c.loop.live.course.windows.items)) c.args.number c.loop.live.kept after.kept c.run_span.result
+    (g.H.Host.log c.now.new.host) (g.H.Host.log c.run_span.new.host) c.run_span.ensures.run ∙ c.loop.invariant.3
 
-pub returns-clause-saved : goal.returns-clause-saved
-returns-clause-saved g c = c.loop.invariant.4
+pub returns-clause-kept : goal.returns-clause-kept
+returns-clause-kept g c = c.loop.invariant.3

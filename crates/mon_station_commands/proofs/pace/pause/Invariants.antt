@@ -7,4 +7,4 @@ use Rattle.mon_station_commands.proofs.pace.pause.Given as goal
 abbrev pub invariant-loop : goal.invariant-loop
 invariant-loop g l = GoesOnBy AreQuiet (g.H.Host.log l.fn.host) (g.H.Host.log l.host)
     × (l.live.reports.printing ≡ l.fn.live.reports.printing) × (l.live.reports.out ≡ l.fn.live.reports.out)
-    × (l.live.unprinted ≡ l.fn.live.unprinted) × (l.live.unsaved ≡ l.fn.live.unsaved)
+    × (l.live.kept ≡ l.fn.live.kept)

@@ -1,7 +1,6 @@
 use Rattle.std.proofs.Common.{◌∙◌, inl, inr, option_map, refl, string_bytes, suc}
-use Rattle.mon_station_commands.specs.Rounds.{kept}
 use Rattle.mon_station_commands.proofs.Quiets.{still}
-use Rattle.mon_station_commands.proofs.Rounding.{all_run_as, from_zero, kept_same, none_yet, one_more, one_on, stopped, within, within_less, within_one}
+use Rattle.mon_station_commands.proofs.Rounding.{all_run_as, from_zero, none_yet, one_more, one_on, stopped, within, within_less, within_one}
 use Rattle.mon_station_commands.proofs.Steps.{failure_is}
 use Rattle.mon_station_commands.proofs.station.run_all.Goals as goal
 
@@ -11,13 +10,12 @@ loop-number-init g c =
     let live = c.args.live.now in
     let after = c.start_pace.new.live in
     let out = option_map string_bytes live.reports.out in
-    let first = kept live.unprinted live.unsaved in
+    let first = live.kept in
     let start = g.H.Host.log c.args.host.now in (
       0,
       refl,
       inr refl,
-      none_yet every live.reports.printing out first (kept after.unprinted after.unsaved) start (g.H.Host.log c.start_pace.new.host)
-          (kept_same after.unprinted live.unprinted after.unsaved live.unsaved c.start_pace.ensures.printed c.start_pace.ensures.saved) c.in_ok-pace.ensures.quiet,
+      none_yet every live.reports.printing out first after.kept start (g.H.Host.log c.start_pace.new.host) c.start_pace.ensures.kept c.in_ok-pace.ensures.quiet,
       c.start_pace.ensures.printing,
       c.start_pace.ensures.out,
     )
@@ -27,7 +25,7 @@ loop-number-preserved g c =
     let every = c.args.timing.report_every in
     let rounds = c.args.timing.rounds in
     let live = c.args.live.now in
-    let first = kept live.unprinted live.unsaved in
+    let first = live.kept in
     let start = g.H.Host.log c.args.host.now in
     let inv = c.loop-number.invariant in
     let n = inv.0 in
@@ -40,10 +38,9 @@ loop-number-preserved g c =
     let three = c.print_due.new.live in
     let four = c.wait_for_next.new.live in
     let format = c.run_round.ensures.printing ∙ inv.4 in
-    let more = one_more every live.reports.printing live.reports.out first n c.loop-number.number one.reports.printing two.reports.printing one.reports.out two.unwritten
-    one.unprinted two.unprinted three.unprinted four.unprinted one.unsaved two.unsaved four.unsaved c.in_ok-run_round.field-0 start before ran told end inv.1 inv.4 inv.5 format
-    c.run_round.ensures.printed c.wait_for_next.ensures.printed (c.wait_for_next.ensures.saved ∙ c.print_due.ensures.saved) inv.3 c.in_ok-run_round.ensures.run
-    c.print_due.ensures.run c.in_ok-pace-2.ensures.quiet in (
+    let more = one_more every live.reports.printing live.reports.out first n c.loop-number.number one.reports.printing two.reports.printing one.reports.out
+    one.kept two.kept three.kept four.kept c.in_ok-run_round.field-0 start before ran told end inv.1 inv.4 inv.5 format
+    c.wait_for_next.ensures.kept inv.3 c.in_ok-run_round.ensures.run c.print_due.ensures.run c.in_ok-pace-2.ensures.quiet in (
       suc n,
       one_on n c.loop-number.number inv.1,
       inl (within_one n c.loop-number.number rounds inv.1 c.loop-number-test.true),
@@ -67,7 +64,7 @@ returns-in_err-run_round-clause-run g c =
     let ran = g.H.Host.log c.run_round.new.host in
     let failure = c.in_err-run_round.field-0.0 in
     let r = c.from_residual-in_err-run_round.result in
-    stopped every live.reports.printing out (kept live.unprinted live.unsaved) rounds n (kept one.unprinted one.unsaved) (kept two.unprinted two.unsaved) two.unwritten failure r
+    stopped every live.reports.printing out live.kept rounds n one.kept two.kept failure r
     start before ran (failure_is r failure c.from_residual-in_err-run_round.ensures.1) (within n c.loop-number.number rounds inv.1 c.loop-number-test.true) inv.3
     c.in_err-run_round.ensures.run
 
@@ -77,7 +74,7 @@ returns-in_err-pace-2-clause-run g c =
     let rounds = c.args.timing.rounds in
     let live = c.args.live.now in
     let out = option_map string_bytes live.reports.out in
-    let first = kept live.unprinted live.unsaved in
+    let first = live.kept in
     let start = g.H.Host.log c.args.host.now in
     let inv = c.loop-number.invariant in
     let n = inv.0 in
@@ -90,12 +87,12 @@ returns-in_err-pace-2-clause-run g c =
     let three = c.print_due.new.live in
     let four = c.wait_for_next.new.live in
     let format = c.run_round.ensures.printing ∙ inv.4 in
-    let more = one_more every live.reports.printing live.reports.out first n c.loop-number.number one.reports.printing two.reports.printing one.reports.out two.unwritten
-    one.unprinted two.unprinted three.unprinted three.unprinted one.unsaved two.unsaved three.unsaved c.in_ok-run_round.field-0 start before ran told told inv.1 inv.4 inv.5 format
-    c.run_round.ensures.printed refl c.print_due.ensures.saved inv.3 c.in_ok-run_round.ensures.run c.print_due.ensures.run (still told) in
+    let more = one_more every live.reports.printing live.reports.out first n c.loop-number.number one.reports.printing two.reports.printing one.reports.out
+    one.kept two.kept three.kept three.kept c.in_ok-run_round.field-0 start before ran told told inv.1 inv.4 inv.5 format
+    refl inv.3 c.in_ok-run_round.ensures.run c.print_due.ensures.run (still told) in
     let failure = c.in_err-pace-2.field-0.0 in
     let r = c.from_residual-in_err-pace-2.result in
-    stopped every live.reports.printing out first rounds (suc n) (kept three.unprinted three.unsaved) (kept four.unprinted four.unsaved) four.unwritten failure r start told end
+    stopped every live.reports.printing out first rounds (suc n) three.kept four.kept failure r start told end
     (failure_is r failure c.from_residual-in_err-pace-2.ensures.1) (within_less n c.loop-number.number rounds inv.1 c.loop-number-test.true) more c.in_err-pace-2.ensures.quiet
 
 pub returns-clause-run : goal.returns-clause-run
@@ -110,9 +107,9 @@ returns-clause-run g c =
     let two = c.run_last.new.live in
     let before = g.H.Host.log c.loop-number.host in
     let end = g.H.Host.log c.run_last.new.host in
-    all_run_as every live.reports.printing live.reports.out (kept live.unprinted live.unsaved) rounds n c.loop-number.number one.reports.printing one.reports.out
-    (kept one.unprinted one.unsaved) (kept two.unprinted two.unsaved) two.unwritten c.run_last.result start before end inv.1 inv.2 c.loop-number-test.false inv.4 inv.5
-    c.run_last.ensures.printed inv.3 c.run_last.ensures.run
+    all_run_as every live.reports.printing live.reports.out live.kept rounds n c.loop-number.number one.reports.printing one.reports.out
+    one.kept two.kept c.run_last.result start before end inv.1 inv.2 c.loop-number-test.false inv.4 inv.5
+    inv.3 c.run_last.ensures.run
 
 pub returns-in_err-run_round-clause-printing : goal.returns-in_err-run_round-clause-printing
 returns-in_err-run_round-clause-printing g c = c.run_round.ensures.printing ∙ c.loop-number.invariant.4
@@ -136,12 +133,12 @@ pub returns-in_err-pace-clause-run : goal.returns-in_err-pace-clause-run
 returns-in_err-pace-clause-run g c =
     let live = c.args.live.now in
     let after = c.start_pace.new.live in
-    let first = kept live.unprinted live.unsaved in
+    let first = live.kept in
     let every = c.args.timing.report_every in
     let out = option_map string_bytes live.reports.out in
     let start = g.H.Host.log c.args.host.now in
     let failure = c.in_err-pace.field-0.0 in
     let r = c.from_residual.result in
-    stopped every live.reports.printing out first c.args.timing.rounds 0 first (kept after.unprinted after.unsaved) after.unwritten failure r start start
+    stopped every live.reports.printing out first c.args.timing.rounds 0 first after.kept failure r start start
     (g.H.Host.log c.start_pace.new.host) (failure_is r failure c.from_residual.ensures.1) (from_zero c.args.timing.rounds)
     (none_yet every live.reports.printing out first first start start refl (still start)) c.in_err-pace.ensures.quiet

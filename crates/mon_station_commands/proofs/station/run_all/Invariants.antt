@@ -1,11 +1,11 @@
 use Rattle.std.proofs.Common.{◌≡◌, ◌≤◌, ◌⊎◌, ℕ, suc, option_map, string_bytes}
 use Rattle.mon_host.specs.Log.{GoesOnBy}
-use Rattle.mon_station_commands.specs.Rounds.{AreRounds, kept}
+use Rattle.mon_station_commands.specs.Rounds.{AreRounds}
 use Rattle.mon_station_commands.proofs.station.run_all.Given as goal
 
 -- the rounds so far, and what reports need is as it was
 abbrev pub invariant-loop-number : goal.invariant-loop-number
 invariant-loop-number g l = (n : ℕ) × (l.number ≡ suc n) × ((suc n ≤ l.fn.timing.rounds) ⊎ (suc n ≡ 1))
-    × GoesOnBy (λ log. AreRounds l.fn.timing.report_every l.fn.live.reports.printing (option_map string_bytes l.fn.live.reports.out) (kept l.fn.live.unprinted l.fn.live.unsaved) n log (kept l.live.unprinted l.live.unsaved))
+    × GoesOnBy (λ log. AreRounds l.fn.timing.report_every l.fn.live.reports.printing (option_map string_bytes l.fn.live.reports.out) l.fn.live.kept n log l.live.kept)
     (g.H.Host.log l.fn.host) (g.H.Host.log l.host)
     × (l.live.reports.printing ≡ l.fn.live.reports.printing) × (l.live.reports.out ≡ l.fn.live.reports.out)

@@ -51,5 +51,5 @@ returns g c =
     c.in_ok-socket.ensures
     (started (shown_by reports.printing.names) s c.in_ok-socket.field-0.place.at t.number (length t.engines.items) t.peers.items (Ok (state_of live.station.life)) opened begun
     is.number is.engines is.peers c.in_ok-live.ensures.opening) c.tell_http.ensures
-    (run_of c.args.timing reports s after.reports after.unprinted after.unsaved c.run_rounds.result told end (c.show.ensures.printing ∙ (λ i. (same i).printing))
-    (c.show.ensures.out ∙ (λ i. (same i).out)) (c.show.ensures.printed ∙ c.in_ok-live.ensures.printed) (c.show.ensures.saved ∙ c.in_ok-live.ensures.saved) c.run_rounds.ensures)
+    (run_of c.args.timing reports s after.reports after.kept c.run_rounds.result told end (c.show.ensures.printing ∙ (λ i. (same i).printing))
+    (c.show.ensures.out ∙ (λ i. (same i).out)) (c.show.ensures.kept ∙ c.in_ok-live.ensures.kept) c.run_rounds.ensures)

@@ -17,7 +17,7 @@ returns c =
       taken = c.count_taken.ensures ∙ ap samples_taken answers;
       given_up = c.count_given_up-given_up.ensures ∙ ap gave_up c.as_slice.ensures.value;
       failed_saves = c.count_failed_saves-failed_saves.ensures ∙ ap unsaved c.as_slice-2.ensures.value;
-      answered = c.in_ok-answered_of.ensures ∙ (λ i. answered_of (c.targets.ensures i) (events i) (answers i));
+      answered = c.in_ok-answered_of.ensures ∙ ap answered_of answers;
       heard = c.in_ok-heard_of.ensures ∙ (λ i. heard_of (c.peer_addresses.ensures i) (events i));
     }
 

@@ -19,7 +19,7 @@ returns-in-Ok-clause-answered c = λ r reads.
     let told = c.tell_taken.ensures in
     let taken = c.take_pairs.ensures in
     response_taken (state_of c.args.self.now) c.settled.ensures.settled c.args.from r c.in-Ok.offered _ c.take_pairs.new.self c.tell_taken.result c.as_slice.result.now
-    (c.in-Ok.ensures.told r reads) (c.in-Ok.ensures.polls r reads) c.as_slice.ensures taken.watch taken.windows taken.marks told.taken told.sends told.noted told.given_up
+    (c.in-Ok.ensures.told r reads) (c.in-Ok.ensures.polls r reads) c.as_slice.ensures taken.watch taken.windows taken.marks told.taken told.sends told.noted told.given_up told.answered
 
 pub returns-in-Err-clause-answered : goal.returns-in-Err-clause-answered
 returns-in-Err-clause-answered c = λ r reads.

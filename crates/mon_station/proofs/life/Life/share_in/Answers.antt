@@ -21,7 +21,7 @@ returns-clause-answered c =
     let sent = c.in_ok-sends.ensures in
     let same = c.as_slice.ensures.value ∙ c.in_ok-portions.ensures.portions in
     shared s c.settled.ensures.settled c.args.peer c.args.slot c.in_ok-sends.serial _ c.requires.slot (sent.next ∙ ap (serial_past s.serial) same)
-    c.new.ensures (sent.sent ∙ ap (λ (ps : List Portion). map (to_peer c.args.peer) (offers_from s s.serial ps)) same) refl refl
+    c.new.ensures (sent.sent ∙ ap (λ (ps : List Portion). map (to_peer c.args.peer) (offers_from s s.serial ps)) same) refl refl refl
     (subst (λ (ps : List Portion). AllByRecursion IsClaim (offers_from s s.serial ps)) same sent.claims)
 
 pub returns-clause-few : goal.returns-clause-few

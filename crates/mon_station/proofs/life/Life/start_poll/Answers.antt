@@ -12,7 +12,7 @@ returns-in_err-room-clause-answered c = by_memory (state_of c.args.self.now) c.s
 pub returns-in-Ok-clause-answered : goal.returns-in-Ok-clause-answered
 returns-in-Ok-clause-answered c =
     let told = c.told_one.ensures in
-    started (state_of c.args.self.now) c.settled.ensures.settled c.args.target _ _ c.told_one.result _ c.in-Ok.ensures.id c.in-Ok.ensures.started told.taken told.sends told.noted told.given_up
+    started (state_of c.args.self.now) c.settled.ensures.settled c.args.target _ _ c.told_one.result _ c.in-Ok.ensures.id c.in-Ok.ensures.started told.taken told.sends told.noted told.given_up told.answered
     (ap (to_target c.args.target) (c.in-Ok.ensures.octets ∙ ap (poll_octets (target_at c.args.self.now.poller.targets c.args.target)) (started_id c.args.self.now.poller.targets c.args.self.now.poller.polls c.args.target _ c.in-Ok.ensures.id)))
 
 pub returns-in-Err-clause-answered : goal.returns-in-Err-clause-answered

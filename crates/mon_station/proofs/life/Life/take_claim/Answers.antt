@@ -16,7 +16,7 @@ returns-in-Ok-clause-answered c = λ n numbered.
     let noted = c.in-Ok.ensures in (
       accepted s c.settled.ensures.settled c.args.claim.now c.note.new.board c.note.new.self
           (λ none. no_error _ (noted.unknown_peer.1 none)) (λ unwatched. no_error _ (noted.unknown_instance.1 unwatched)) noted.watch noted.windows noted.own noted.numbers noted.known noted.marks n numbered,
-      told_claim s c.settled.ensures.settled c.args.claim.now n _ c.in-Ok.noted (c.in_ok-taken.ensures.pairs n numbered) c.in_ok-sends.ensures.sent refl refl noted.noted c.in_ok-sends.ensures.claims,
+      told_claim s c.settled.ensures.settled c.args.claim.now n _ c.in-Ok.noted (c.in_ok-taken.ensures.pairs n numbered) c.in_ok-sends.ensures.sent refl refl refl noted.noted c.in_ok-sends.ensures.claims,
     )
   where
     no_error : {A E : Type 0} {x : A} (e : E) → (let r : Result A E = Ok x in r ≡ Err e) → ⊥

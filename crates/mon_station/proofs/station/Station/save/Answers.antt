@@ -13,7 +13,7 @@ returns-in_err-image-clause-answered g c = by_memory (state_of c.args.self.now.l
 pub returns-in-Ok-clause-answered : goal.returns-in-Ok-clause-answered
 returns-in-Ok-clause-answered g c =
     let told = c.told_none.ensures in
-    saved (state_of c.args.self.now.life) c.settled.ensures.settled c.told_none.result told.taken told.sends told.noted told.given_up
+    saved (state_of c.args.self.now.life) c.settled.ensures.settled c.told_none.result told.taken told.sends told.noted told.given_up told.answered
 
 pub returns-in-Ok-clause-saved : goal.returns-in-Ok-clause-saved
 returns-in-Ok-clause-saved g c = λ honest file left.

@@ -1,0 +1,134 @@
+//! When agents restarted, by the stamps of their responses.
+
+ghost use Rattle.std.specs.Prelude.{◌≡◌, ◌==◌, ◌&&◌, nat_lt};
+ghost use Rattle.mon_rounds.specs.Clock.{clock_after, clock_by, clock_with, greatest_after, no_clock, restart_after, restart_between};
+
+use mon_station::TargetStamp;
+
+/// A restart of an agent between two responses to polls of a target, of which one was taken directly
+/// after the other.
+#[derive(Clone, Copy, Debug)]
+pub struct Restart {
+    /// The agent's snmpEngineBoots in the response after it.
+    pub boots: u32,
+    /// The agent's snmpEngineTime in that response, in seconds.
+    pub time: u32,
+    /// `None` if its boots rose. Else they are what they were, and this is the greatest time, in
+    /// seconds, of the responses before it with these boots.
+    pub until: Option<u32>,
+}
+
+/// What the responses to a target's polls that were taken say of its agent's clock.
+#[derive(Clone, Copy, Debug)]
+pub struct Clock {
+    /// The stamp of the newest one, if one was taken since the station's start.
+    pub last: Option<TargetStamp>,
+    /// The greatest time, in seconds, of the newest ones, one after another, that have the boots of
+    /// the last one; 0 if there is none.
+    pub greatest: u32,
+    /// The last restart that one of them showed in the last round, or in the last spell after it.
+    pub restart: Option<Restart>,
+}
+
+impl Clock {
+    /// Returns that of a target of which no response was taken.
+    pub(crate) fn new() -> Self
+        ensures { result ≡ no_clock }
+    {
+        Clock {
+            last: None,
+            greatest: 0,
+            restart: None,
+        }
+    }
+}
+
+/// Returns the clock of the target of this number after a round, or the time after it, in which
+/// these responses were taken.
+pub(crate) fn clock_after(clock: Clock, number: u16, answered: &[TargetStamp]) -> Clock
+    ensures { result ≡ clock_after number answered.now clock }
+{
+    let mut after = Clock {
+        restart: None,
+        ..clock
+    };
+    for stamp in answered {
+        after = clock_by(after, number, *stamp);
+    }
+    after
+}
+
+/// Returns the clock of the target of this number after a response of this stamp.
+fn clock_by(clock: Clock, number: u16, stamp: TargetStamp) -> Clock
+    ensures { result ≡ clock_by number clock stamp }
+{
+    if stamp.target == number {
+        clock_with(clock, stamp)
+    } else {
+        clock
+    }
+}
+
+/// Returns a target's clock after a response of it of this stamp.
+fn clock_with(clock: Clock, stamp: TargetStamp) -> Clock
+    ensures { result ≡ clock_with clock stamp }
+{
+    Clock {
+        last: Some(stamp),
+        greatest: greatest_after(clock.last, clock.greatest, stamp),
+        restart: restart_after(clock, stamp),
+    }
+}
+
+/// Returns the greatest time with the boots of a stamp, after the last stamp and the greatest time
+/// with its boots.
+fn greatest_after(last: Option<TargetStamp>, greatest: u32, stamp: TargetStamp) -> u32
+    ensures { result ≡ greatest_after last greatest stamp }
+{
+    match last {
+        Some(last) if last.boots == stamp.boots => greatest.max(stamp.time),
+        _ => stamp.time,
+    }
+}
+
+/// Returns the last restart after a response of this stamp.
+fn restart_after(clock: Clock, stamp: TargetStamp) -> Option<Restart>
+    ensures { result ≡ restart_after clock.last clock.greatest stamp clock.restart }
+{
+    let Some(last) = clock.last else {
+        return clock.restart;
+    };
+    match restart_between(last, clock.greatest, stamp) {
+        Some(restart) => Some(restart),
+        None => clock.restart,
+    }
+}
+
+/// Returns the restart between two responses, the second of this stamp, if there was one.
+fn restart_between(last: TargetStamp, greatest: u32, stamp: TargetStamp) -> Option<Restart>
+    ensures { result ≡ restart_between last greatest stamp }
+{
+    let (boots, time) = (stamp.boots, stamp.time);
+    if last.boots < boots {
+        return Some(Restart {
+            boots,
+            time,
+            until: None,
+        });
+    }
+    if has_fallen(last, stamp) {
+        return Some(Restart {
+            boots,
+            time,
+            until: Some(greatest),
+        });
+    }
+    None
+}
+
+/// Returns `true` if the boots stayed and the time fell.
+fn has_fallen(last: TargetStamp, stamp: TargetStamp) -> bool
+    ensures { result ≡ (last.boots == stamp.boots && nat_lt stamp.time last.time) }
+{
+    last.boots == stamp.boots && stamp.time < last.time
+}
