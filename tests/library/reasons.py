@@ -119,7 +119,7 @@ UNWRITTEN = {
     "a folder that is not there": (["--split", "nothing"], "nothing/station-1.toml", "No such file or directory (os error 2)"),
     "a folder that is a file": (["--split", "file"], "file/station-1.toml", "Not a directory (os error 20)"),
     "a folder that may not be written": (["--split", "folder"], "folder/station-1.toml", "Permission denied (os error 13)"),
-    "a file on a full disk": (["--split", "full"], "full/station-1.toml", "No space left on device (os error 28)"),
+    "a file that is there": (["--split", "full"], "full/station-1.toml", "a file is there, and is not replaced"),
     "labels into a folder that is not there": (["--labels", "nothing/x"], "nothing/x.new", "No such file or directory (os error 2)"),
     "labels on a full disk": (["--labels", "full/labels"], "full/labels.new", "No space left on device (os error 28)"),
     "labels that may not be written": (["--labels", "folder/x"], "folder/x.new", "Permission denied (os error 13)"),
