@@ -32,7 +32,7 @@ runs agents ports asked reads station given status start before between after is
         begin = first.more;
         before = subst (λ (b : Bool). IsBefore b first.more) is first.holds;
         rest = run.more;
-        run = subst (λ (b : Bool). IsRun b (Does agents ports asked) run.more status) runs run.holds;
+        run = subst (λ (b : Bool). IsRun b (Does agents ports asked) run.more status) same run.holds;
         log_is = refl;
       };
       on = goes_on first.more run.more start before after first.on run.on;
