@@ -24,7 +24,7 @@ ends station What given status before between after done end = record {
 pub runs : (agents : Agents) (ports : Ports) (asked : Asked) (reads station : Bool) (given : Result Unit Failure) (status : ℕ) (start before between after : Option (List AtHost))
     → reads ≡ reads_input asked → station ≡ is_station asked → GoesOnBy (IsBefore reads) start before → GoesOnBy (λ log. Does agents ports asked log given) before between
     → GoesOnBy (λ log. IsEnd station given log status) between after → GoesOnBy (λ log. IsRunFor agents ports asked log status) start after
-runs agents ports asked reads station given status start before between after is runs first done end =
+runs agents ports asked reads station given status start before between after is same first done end =
     let run = ends station (Does agents ports asked) given status before between after done end in
     record {
       more = first.more ++ run.more;
