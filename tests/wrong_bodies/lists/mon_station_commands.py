@@ -491,8 +491,8 @@ BUGS = {
     ),
     "says_no_trouble": (
         "src/troubles.rt",
-        "    if keys[..place].iter().any(|other| joins(other, key)) {",
-        "    if place < usize::MAX {",
+        "    if is_said_in(&keys[..place], key) {",
+        "    if place < usize::MAX || is_said_in(&keys[..place], key) {",
     ),
     "says_each_stale_instance_by_itself": (
         "src/troubles.rt",
