@@ -397,7 +397,7 @@ BUGS = {
     "the_last_save_is_forgotten": (
         "src/station.rt",
         "    run_all(alloc, host, live, timing)?;\n",
-        "    run_all(alloc, host, live, timing)?;\n    live.unsaved = None;\n",
+        "    run_all(alloc, host, live, timing)?;\n    live.kept.unsaved = None;\n",
     ),
     "a_failed_clock_ends_the_wait": (
         "src/pace.rt",
