@@ -47,6 +47,12 @@ raises (event.Raised boots time) = true
 raises (event.Cleared boots time) = false
 raises event.Lapsed = false
 
+-- the state that this leads to
+abbrev pub state_after : AlarmEvent → AlarmState
+state_after (event.Raised boots time) = Raised boots time
+state_after (event.Cleared boots time) = Clear
+state_after event.Lapsed = Clear
+
 -- what a sample does to an alarm, by whether it is raised before and after it
 abbrev pub event_between : Bool → Bool → ℕ → Option AlarmEvent
 event_between false false x = None

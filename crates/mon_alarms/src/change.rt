@@ -1,7 +1,7 @@
 //! Alarms that are raised or cleared.
 
 ghost use Rattle.std.specs.Prelude.{◌≡◌, ◌++◌, OnOk, option_to_list, true};
-ghost use Rattle.mon_alarms.specs.Changes.{changes_of, raised_now, raises, with_rule};
+ghost use Rattle.mon_alarms.specs.Changes.{changes_of, raised_now, raises, state_after, with_rule};
 ghost use Rattle.mon_alarms.specs.Observed.{state_by};
 
 use crate::alarm::{AlarmState, state};
@@ -28,6 +28,16 @@ impl AlarmEvent {
         ensures { result ≡ raises self }
     {
         matches!(self, AlarmEvent::Raised { .. })
+    }
+
+    /// Returns the state that it leads to.
+    pub(crate) fn state(self) -> AlarmState
+        ensures { result ≡ state_after self }
+    {
+        match self {
+            AlarmEvent::Raised { boots, time } => AlarmState::Raised { boots, time },
+            AlarmEvent::Cleared { .. } | AlarmEvent::Lapsed => AlarmState::Clear,
+        }
     }
 }
 
@@ -110,7 +120,7 @@ pub fn put_raised(
 }
 
 /// Adds what became of a rule's alarm, if anything did.
-fn put_event(
+pub(crate) fn put_event(
     changes: &mut Vec<AlarmChange>,
     rule: usize,
     event: Option<AlarmEvent>,

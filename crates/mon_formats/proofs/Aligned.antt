@@ -5,9 +5,8 @@ use Rattle.std.specs.List.{list_any}
 use Rattle.std.proofs.lemmas.Fmt.{length-decimal-le}
 use Rattle.std.proofs.lemmas.List.Elements.{All-cons, All-nil}
 use Rattle.mon_alarms.specs.Changes.{is_raised}
-use Rattle.mon_alarms.specs.Rule.{Rule}
-use Rattle.mon_alarms.specs.Observed.{state_by}
 use Rattle.mon_report.specs.Report.{Entry}
+use Rattle.mon_report.specs.declared.alarms.Alarm.{Alarm}
 use Rattle.mon_page.specs.Cells.{alarm_cell, fresh_rate, newest_of, rate_cell, rate_of, state_cell, value_cell}
 use Rattle.mon_formats.specs.declared.columns.Widths.{Widths}
 use Rattle.mon_formats.specs.Columns.{cells_text, row_cells, spaces, title_cells, to_left, to_right, widest, widths_of}
@@ -61,13 +60,13 @@ word-fits : (b : Bool) → length (if b then codes "RAISED" else codes "clear") 
 word-fits true = omega arith
 word-fits false = omega arith
 
-alarm-fits : (items : List ℕ) (rules : List Rule) → length (alarm_cell items rules) ≤ 6
-alarm-fits items [] = omega arith
-alarm-fits items (r ∷ rs) = word-fits (list_any (λ rule. is_raised (state_by rule items)) (r ∷ rs))
+alarm-fits : (alarms : List Alarm) → length (alarm_cell alarms) ≤ 6
+alarm-fits [] = omega arith
+alarm-fits (a ∷ rest) = word-fits (list_any (λ alarm. is_raised alarm.state) (a ∷ rest))
 
-state-fits : (fresh : Bool) (items : List ℕ) (rules : List Rule) → length (state_cell fresh items rules) ≤ 6
-state-fits false items rules = omega arith
-state-fits true items rules = alarm-fits items rules
+state-fits : (fresh : Bool) (alarms : List Alarm) → length (state_cell fresh alarms) ≤ 6
+state-fits false alarms = omega arith
+state-fits true alarms = alarm-fits alarms
 
 -- a dash in place of a rate fits too
 rate-fits : (fresh : Bool) (items : List ℕ) (width : ℕ) → 4 ≤ width → length (rate_cell (rate_of items)) ≤ width → length (rate_cell (fresh_rate fresh items)) ≤ width
@@ -88,5 +87,5 @@ aligned fresh es few = λ k d inside.
     let rate =
     rate-fits fresh e.items (widths_of es).rate (heading-fits (λ x. rate_cell (rate_of x.items)) 4 es) (each-fits (λ x. rate_cell (rate_of x.items)) 4 es k d inside) in
     let samples = length-decimal-le 7 (length e.items) (omega arith) (few k d inside) (omega (arith, few k d inside)) in
-    length-cells (widths_of es) (value_cell (newest_of e.items)) (rate_cell (fresh_rate fresh e.items)) (state_cell fresh e.items e.rules) (decimal (length e.items)) value rate
-    (state-fits fresh e.items e.rules) samples ∙ sym (title-long es)
+    length-cells (widths_of es) (value_cell (newest_of e.items)) (rate_cell (fresh_rate fresh e.items)) (state_cell fresh e.alarms) (decimal (length e.items)) value rate
+    (state-fits fresh e.alarms) samples ∙ sym (title-long es)

@@ -4,15 +4,14 @@ use Rattle.std.specs.Fmt.{signed_decimal}
 use Rattle.serde_json.specs.Data.{Data, number, unsigned, negative, string, depth, items_depth}
 use Rattle.serde_json.specs.Read.{max_depth}
 use Rattle.serde_json.specs.View.{items_of}
-use Rattle.mon_alarms.specs.Rule.{Rule}
-use Rattle.mon_alarms.specs.Observed.{state_by}
 use Rattle.mon_alarms.specs.declared.alarm.AlarmState.{AlarmState}
 use Rattle.mon_alarms.specs.declared.alarm.AlarmState.TheVariants.{Clear, Raised}
 use Rattle.mon_rates.specs.Totals.{totals}
 use Rattle.mon_report.specs.Report.{Entry, samples_in}
+use Rattle.mon_report.specs.declared.alarms.Alarm.{Alarm}
 use Rattle.mon_page.specs.Cells.{value_of, fresh_rate}
 use Rattle.mon_page.specs.Freshness.{fresh_at}
-use Rattle.mon_formats.specs.Json.{exact, exact_signed, sample_data, raised_data, alarm_data, exact_or_null, totals_data, age_data, debt_data, refusal_data, target_data, station_data, fresh_rules, entry_data, entries_data, report_data}
+use Rattle.mon_formats.specs.Json.{exact, exact_signed, sample_data, raised_data, alarm_data, exact_or_null, totals_data, age_data, debt_data, refusal_data, target_data, station_data, fresh_alarms, entry_data, entries_data, report_data}
 use Rattle.mon_page.specs.declared.figures.Figures.{Figures}
 use Rattle.mon_page.specs.declared.figures.TargetFigures.{TargetFigures}
 
@@ -52,9 +51,9 @@ of_sample : (s : ℕ) → depth (sample_data s) ≤ 1
 of_sample s =
     deeper _ 0 (both _ _ 0 (none 0) (both _ _ 0 (none 0) (both _ _ 0 (none 0) (both _ _ 0 (none 0) (both _ _ 0 (of_exact_signed (value_of s) 0) (none 0))))))
 
-of_alarm : (items : List ℕ) (rule : Rule) → depth (alarm_data items rule) ≤ 2
-of_alarm items rule =
-    deeper _ 1 (both _ _ 1 (of_exact_signed rule.falling 1) (both _ _ 1 (of_raised (state_by rule items)) (both _ _ 1 (of_exact_signed rule.rising 1) (none 1))))
+of_alarm : (alarm : Alarm) → depth (alarm_data alarm) ≤ 2
+of_alarm alarm =
+    deeper _ 1 (both _ _ 1 (of_exact_signed alarm.rule.falling 1) (both _ _ 1 (of_raised alarm.state) (both _ _ 1 (of_exact_signed alarm.rule.rising 1) (none 1))))
 
 of_totals : (items : List ℕ) → depth (totals_data items) ≤ 1
 of_totals items = deeper _ 0 (both _ _ 0 (of_exact (totals items).delta 0) (both _ _ 0 (of_exact (totals items).span 0) (none 0)))
@@ -62,7 +61,7 @@ of_totals items = deeper _ 0 (both _ _ 0 (of_exact (totals items).delta 0) (both
 pub of_entry : (shown : List ℕ → List ℕ) (fresh : Option Bool) (e : Entry) → depth (entry_data shown fresh e) ≤ 4
 of_entry shown None e =
     deeper _ 3
-    (both _ _ 3 (deeper _ 2 (of_items (alarm_data e.items) 2 (of_alarm e.items) e.rules))
+    (both _ _ 3 (deeper _ 2 (of_items alarm_data 2 of_alarm e.alarms))
     (both _ _ 3 (none 3)
     (both _ _ 3 (none 3)
     (both _ _ 3 (of_option (fresh_rate true e.items) 3)
@@ -70,7 +69,7 @@ of_entry shown None e =
     (both _ _ 3 (omega (arith, of_totals e.items)) (none 3)))))))
 of_entry shown (Some fresh) e =
     deeper _ 3
-    (both _ _ 3 (deeper _ 2 (of_items (alarm_data e.items) 2 (of_alarm e.items) (fresh_rules fresh e.rules)))
+    (both _ _ 3 (deeper _ 2 (of_items alarm_data 2 of_alarm (fresh_alarms fresh e.alarms)))
     (both _ _ 3 (none 3)
     (both _ _ 3 (none 3)
     (both _ _ 3 (of_option (fresh_rate fresh e.items) 3)

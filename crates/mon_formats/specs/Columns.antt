@@ -58,7 +58,7 @@ title_line w aged = title_cells w ++ age_title aged ++ codes "NAME\n"
 -- the cells of an instance, fresh or stale, before its name
 abbrev pub row_cells : Widths → Bool → Entry → List ℕ
 row_cells w fresh e =
-    cells_text w (value_cell (newest_of e.items)) (rate_cell (fresh_rate fresh e.items)) (state_cell fresh e.items e.rules) (decimal (length e.items))
+    cells_text w (value_cell (newest_of e.items)) (rate_cell (fresh_rate fresh e.items)) (state_cell fresh e.alarms) (decimal (length e.items))
 
 -- the line of an instance, with its age or without
 abbrev pub row_line : Widths → (List ℕ → List ℕ) → Bool → Bool → Option ℕ → Entry → List ℕ

@@ -9,11 +9,10 @@ use Rattle.serde_json.specs.Written.{compact_text}
 use Rattle.mon_sample.specs.Kind.{kind_name}
 use Rattle.mon_sample.specs.Key.{boots_of, time_of, discontinuity_of, kind_of}
 use Rattle.mon_rates.specs.Totals.{totals}
-use Rattle.mon_alarms.specs.Rule.{Rule}
-use Rattle.mon_alarms.specs.Observed.{state_by}
 use Rattle.mon_alarms.specs.declared.alarm.AlarmState.{AlarmState}
 use Rattle.mon_alarms.specs.declared.alarm.AlarmState.TheVariants.{Clear, Raised}
 use Rattle.mon_report.specs.Report.{Entry, samples_in}
+use Rattle.mon_report.specs.declared.alarms.Alarm.{Alarm}
 use Rattle.mon_page.specs.Cells.{value_of, fresh_rate}
 use Rattle.mon_page.specs.Freshness.{fresh_at}
 use Rattle.mon_page.specs.declared.figures.Figures.{Figures}
@@ -52,27 +51,27 @@ abbrev pub raised_data : AlarmState → Data
 raised_data Clear = null
 raised_data (Raised boots time) = stamp boots time
 
--- a rule with its thresholds in thousandths, and when its alarm was raised over these samples
-abbrev pub alarm_data : List ℕ → Rule → Data
-alarm_data items rule = object
-    (member (codes "falling") (exact_signed rule.falling)
-    (member (codes "raised") (raised_data (state_by rule items))
-    (member (codes "rising") (exact_signed rule.rising)
+-- a rule with its thresholds in thousandths, and when its alarm was raised
+abbrev pub alarm_data : Alarm → Data
+alarm_data alarm = object
+    (member (codes "falling") (exact_signed alarm.rule.falling)
+    (member (codes "raised") (raised_data alarm.state)
+    (member (codes "rising") (exact_signed alarm.rule.rising)
     no_members)))
 
 -- how much the counter counted, and in how many seconds
 abbrev pub totals_data : List ℕ → Data
 totals_data items = object (member (codes "delta") (exact (totals items).delta) (member (codes "span") (exact (totals items).span) no_members))
 
--- the rules whose alarms are said of an instance: none if it is stale
-abbrev pub fresh_rules : Bool → List Rule → List Rule
-fresh_rules false rules = []
-fresh_rules true rules = rules
+-- the alarms that are said of an instance: none if it is stale
+abbrev pub fresh_alarms : Bool → List Alarm → List Alarm
+fresh_alarms false alarms = []
+fresh_alarms true alarms = alarms
 
 -- what is said of an instance, fresh or stale, its name as it is shown
 abbrev pub entry_members : (List ℕ → List ℕ) → Bool → Entry → Members
 entry_members shown fresh e =
-    (member (codes "alarms") (array (items_of (map (alarm_data e.items) (fresh_rules fresh e.rules))))
+    (member (codes "alarms") (array (items_of (map alarm_data (fresh_alarms fresh e.alarms))))
     (member (codes "engine") (string (encode_lower e.engine))
     (member (codes "name") (string (shown e.name))
     (member (codes "rate_thousandths") (exact_or_null (fresh_rate fresh e.items))

@@ -10,10 +10,10 @@ use Rattle.hex.specs.Hex.{encode_lower}
 use Rattle.mon_sample.specs.Key.{kind_of}
 use Rattle.mon_rates.specs.Part.{is_counter}
 use Rattle.mon_alarms.specs.Rule.{Rule}
-use Rattle.mon_alarms.specs.Observed.{state_by}
 use Rattle.mon_alarms.specs.declared.alarm.AlarmState.{AlarmState}
 use Rattle.mon_alarms.specs.declared.alarm.AlarmState.TheVariants.{Clear, Raised}
 use Rattle.mon_report.specs.Report.{Entry, rate_text}
+use Rattle.mon_report.specs.declared.alarms.Alarm.{Alarm as AnAlarm}
 use Rattle.mon_page.specs.Freshness.{fresh}
 use Rattle.mon_page.specs.Labelled.{Labelled}
 use Rattle.mon_page.specs.declared.extras.InstanceLabels.{InstanceLabels}
@@ -162,9 +162,9 @@ abbrev pub state_digit : AlarmState → List ℕ
 state_digit Clear = codes "0"
 state_digit (Raised boots time) = codes "1"
 
--- the state of a rule's alarm over these samples
-abbrev pub alarm_line : List ℕ → List ℕ → Rule → List ℕ
-alarm_line labels items rule = metric_line (name_of Alarm) (alarm_labels labels rule) (state_digit (state_by rule items))
+-- the state of a rule's alarm
+abbrev pub alarm_line : List ℕ → AnAlarm → List ℕ
+alarm_line labels alarm = metric_line (name_of Alarm) (alarm_labels labels alarm.rule) (state_digit alarm.state)
 
 -- the lines of a metric for an instance with these labels
 abbrev pub lines_of : Metric → List ℕ → Entry → List ℕ
@@ -172,7 +172,7 @@ lines_of Counted labels e = counted_line labels (newest_of e.items)
 lines_of Number labels e = number_line labels (newest_of e.items)
 lines_of Samples labels e = samples_line labels e.items
 lines_of Rate labels e = rate_line labels (rate_of e.items)
-lines_of Alarm labels e = flat_map (alarm_line labels e.items) e.rules
+lines_of Alarm labels e = flat_map (alarm_line labels) e.alarms
 
 -- the lines of a metric for an instance whose name is shown so
 abbrev pub entry_lines : Metric → (List ℕ → List ℕ) → Labelled → List ℕ

@@ -8,13 +8,13 @@ ghost use Rattle.serde_json.specs.View.{view, items_of, members_view};
 ghost use Rattle.serde_json.specs.Written.{comma_if, compact_text, has_float, items_text, members_text};
 ghost use Rattle.mon_page.specs.Cells.{fresh_rate};
 ghost use Rattle.mon_page.specs.Freshness.{fresh_at, is_fresh};
-ghost use Rattle.mon_formats.specs.Json.{exact, exact_signed, sample_data, raised_data, alarm_data, exact_or_null, totals_data, age_data, debt_data, target_data, refusal_data, station_data, station_member, or_fresh, fresh_rules, with_stale, entry_members, entry_data, entries_data, report_data, json_report, ReadsAsReport};
+ghost use Rattle.mon_formats.specs.Json.{exact, exact_signed, sample_data, raised_data, alarm_data, exact_or_null, totals_data, age_data, debt_data, target_data, refusal_data, station_data, station_member, or_fresh, fresh_alarms, with_stale, entry_members, entry_data, entries_data, report_data, json_report, ReadsAsReport};
 ghost use Rattle.mon_formats.specs.Sound.{IsSound};
 
 use crate::cells::count_samples;
-use mon_alarms::{AlarmState, Rule, state};
+use mon_alarms::AlarmState;
 use mon_page::{Figures, TargetFigures, fresh_rate, is_fresh};
-use mon_report::Entry;
+use mon_report::{Alarm, Entry};
 use mon_sample::Sample;
 use mon_smi::NameTexts;
 use serde_json::{Map, Value, json, push, put};
@@ -195,12 +195,8 @@ fn put_station(
         "debts",
         debts_value(alloc, figures.debts.as_slice())?,
     )?;
-    put_exact(
-        alloc,
-        members,
-        "failed_saves",
-        u128::from(figures.failed_saves),
-    )?;
+    let failed_saves = u128::from(figures.failed_saves);
+    put_exact(alloc, members, "failed_saves", failed_saves)?;
     put_exact(alloc, members, "given_up", u128::from(figures.given_up))?;
     put(
         members,
@@ -449,37 +445,32 @@ fn name_value<S: NameTexts>(alloc: Global, names: &S, entry: &Entry) -> Result<V
 
 /// The array of the alarms of an instance; of a stale one it is empty.
 fn alarms_value(alloc: Global, entry: &Entry, fresh: bool) -> Result<Value, AllocError>
-    ensures { IfOk result (λ v. view v ≡ array (items_of (map (alarm_data entry.now.items) (fresh_rules fresh entry.now.rules)))) }
+    ensures { IfOk result (λ v. view v ≡ array (items_of (map alarm_data (fresh_alarms fresh entry.now.alarms)))) }
 {
     if !fresh {
-        return rules_value(alloc, entry.samples(), &[]);
+        return array_of_alarms(alloc, &[]);
     }
-    let rules = entry.rules(alloc)?;
-    rules_value(alloc, entry.samples(), rules.as_slice())
+    let alarms = entry.alarms(alloc)?;
+    array_of_alarms(alloc, alarms.as_slice())
 }
 
-/// The array of the alarms of these rules over these samples.
-fn rules_value(alloc: Global, samples: &[Sample], rules: &[Rule]) -> Result<Value, AllocError>
-    ensures { IfOk result (λ v. view v ≡ array (items_of (map (alarm_data samples.now) rules.now))) }
+/// The array of these alarms.
+fn array_of_alarms(alloc: Global, alarms: &[Alarm]) -> Result<Value, AllocError>
+    ensures { IfOk result (λ v. view v ≡ array (items_of (map alarm_data alarms.now))) }
 {
     let mut values = Vec::new(alloc);
-    for rule in rules {
-        push_alarm(alloc, &mut values, samples, rule)?;
+    for alarm in alarms {
+        push_alarm(alloc, &mut values, alarm)?;
     }
     Ok(Value::Array(values))
 }
 
-/// Adds a rule with its thresholds in thousandths, and when its alarm was raised over these samples.
-fn push_alarm(
-    alloc: Global,
-    values: &mut Vec<Value>,
-    samples: &[Sample],
-    rule: &Rule,
-) -> Result<(), AllocError>
-    ensures { OnOk result (map view values.new.items ≡ map view values.old.items ++ alarm_data samples.now rule.now ∷ []) }
+/// Adds a rule with its thresholds in thousandths, and when its alarm was raised.
+fn push_alarm(alloc: Global, values: &mut Vec<Value>, alarm: &Alarm) -> Result<(), AllocError>
+    ensures { OnOk result (map view values.new.items ≡ map view values.old.items ++ alarm_data alarm.now ∷ []) }
 {
     let mut members = Map::new(alloc);
-    put_alarm(alloc, &mut members, samples, rule)?;
+    put_alarm(alloc, &mut members, alarm)?;
     push(values, Value::Object(members))
 }
 
@@ -487,29 +478,23 @@ fn push_alarm(
 fn put_alarm(
     alloc: Global,
     members: &mut Map<String, Value>,
-    samples: &[Sample],
-    rule: &Rule,
+    alarm: &Alarm,
 ) -> Result<(), AllocError>
     requires { members_view members.old.entries ≡ no_members }
-    ensures { OnOk result (object (members_view members.new.entries) ≡ alarm_data samples.now rule.now) }
+    ensures { OnOk result (object (members_view members.new.entries) ≡ alarm_data alarm.now) }
 {
     put(
         members,
         alloc,
         "falling",
-        exact_signed_value(alloc, i128::from(rule.falling()))?,
+        exact_signed_value(alloc, i128::from(alarm.rule.falling()))?,
     )?;
-    put(
-        members,
-        alloc,
-        "raised",
-        raised_value(alloc, state(rule, samples))?,
-    )?;
+    put(members, alloc, "raised", raised_value(alloc, alarm.state)?)?;
     put(
         members,
         alloc,
         "rising",
-        exact_signed_value(alloc, i128::from(rule.rising()))?,
+        exact_signed_value(alloc, i128::from(alarm.rule.rising()))?,
     )
 }
 

@@ -18,10 +18,10 @@ mod text;
 use instance::{Labelled, labels_of};
 use itoa::Buffer;
 use metric::Metric;
-use mon_alarms::{AlarmState, Rule, state};
+use mon_alarms::{AlarmState, Rule};
 use mon_page::{Extras, Figures, InstanceLabels, is_fresh};
 use mon_rates::is_counter;
-use mon_report::{Entry, write_rate};
+use mon_report::{Alarm, Entry, write_rate};
 use mon_sample::Sample;
 use mon_smi::NameTexts;
 use station::{StationMetric, put_station};
@@ -303,34 +303,33 @@ fn put_rate(
     put_line(text, Metric::Rate.name(), labels, rate.as_slice())
 }
 
-/// Adds a line for each rule on an instance.
+/// Adds a line for each alarm of an instance.
 fn put_alarms(
     alloc: Global,
     text: &mut Vec<u8>,
     labels: &[u8],
     entry: &Entry,
 ) -> Result<(), AllocError>
-    ensures { OnOk result (text.new.items ≡ text.old.items ++ flat_map (alarm_line labels.now entry.now.items) entry.now.rules) }
+    ensures { OnOk result (text.new.items ≡ text.old.items ++ flat_map (alarm_line labels.now) entry.now.alarms) }
 {
-    let rules = entry.rules(alloc)?;
-    for rule in &rules {
-        put_alarm(alloc, text, labels, entry.samples(), rule)?;
+    let alarms = entry.alarms(alloc)?;
+    for alarm in &alarms {
+        put_alarm(alloc, text, labels, alarm)?;
     }
     Ok(())
 }
 
-/// Adds the line of a rule: its thresholds are labels, and its value says whether its alarm is raised.
+/// Adds the line of an alarm: its rule's thresholds are labels, and its value says whether it is raised.
 fn put_alarm(
     alloc: Global,
     text: &mut Vec<u8>,
     labels: &[u8],
-    samples: &[Sample],
-    rule: &Rule,
+    alarm: &Alarm,
 ) -> Result<(), AllocError>
-    ensures { OnOk result (text.new.items ≡ text.old.items ++ alarm_line labels.now samples.now rule.now) }
+    ensures { OnOk result (text.new.items ≡ text.old.items ++ alarm_line labels.now alarm.now) }
 {
-    let labels = alarm_labels(alloc, labels, rule)?;
-    let digit = state_digit(state(rule, samples));
+    let labels = alarm_labels(alloc, labels, &alarm.rule)?;
+    let digit = state_digit(alarm.state);
     put_line(
         text,
         Metric::Alarm.name(),

@@ -5,9 +5,8 @@ use Rattle.std.specs.List.{list_any}
 use Rattle.mon_sample.specs.Kind.{number_of}
 use Rattle.mon_sample.specs.Key.{kind_of, sample_value}
 use Rattle.mon_rates.specs.Totals.{totals, thousandths}
-use Rattle.mon_alarms.specs.Rule.{Rule}
 use Rattle.mon_alarms.specs.Changes.{is_raised}
-use Rattle.mon_alarms.specs.Observed.{state_by}
+use Rattle.mon_report.specs.declared.alarms.Alarm.{Alarm}
 use Rattle.mon_report.specs.Report.{newest, rate_text}
 
 -- the newest of samples, the oldest of which is first
@@ -40,14 +39,14 @@ rate_cell None = codes "-"
 rate_cell (Some q) = rate_text (Some q) ++ codes "/s"
 
 -- whether an alarm is raised, of those that there are; a dash if there are none
-abbrev pub alarm_cell : List ℕ → List Rule → List ℕ
-alarm_cell items [] = codes "-"
-alarm_cell items (r ∷ rs) = if list_any (λ rule. is_raised (state_by rule items)) (r ∷ rs) then codes "RAISED" else codes "clear"
+abbrev pub alarm_cell : List Alarm → List ℕ
+alarm_cell [] = codes "-"
+alarm_cell (a ∷ rest) = if list_any (λ alarm. is_raised alarm.state) (a ∷ rest) then codes "RAISED" else codes "clear"
 
 -- what is said of an instance's alarms, if it is fresh; else that it is stale
-abbrev pub state_cell : Bool → List ℕ → List Rule → List ℕ
-state_cell false items rules = codes "stale"
-state_cell true items rules = alarm_cell items rules
+abbrev pub state_cell : Bool → List Alarm → List ℕ
+state_cell false alarms = codes "stale"
+state_cell true alarms = alarm_cell alarms
 
 -- in how many rounds an instance had no new sample; a dash where that is not known
 abbrev pub age_cell : Option ℕ → List ℕ

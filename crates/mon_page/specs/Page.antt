@@ -105,7 +105,7 @@ class_cell text = between (codes "<td class=\"") text (codes "\">") ++ between [
 -- the cells after the name: value, rate, alarm, and in how many rounds there was no new sample
 unfoldable pub figure_cells : Bool → Option ℕ → Entry → List ℕ
 figure_cells fresh age e =
-    cell (value_cell (newest_of e.items)) ++ cell (rate_cell (fresh_rate fresh e.items)) ++ class_cell (state_cell fresh e.items e.rules) ++ cell (age_cell age)
+    cell (value_cell (newest_of e.items)) ++ cell (rate_cell (fresh_rate fresh e.items)) ++ class_cell (state_cell fresh e.alarms) ++ cell (age_cell age)
 
 -- the row of an instance that is fresh or stale, and has this age
 unfoldable pub row_text : (List ℕ → List ℕ) → Bool → Option ℕ → Labelled → List ℕ

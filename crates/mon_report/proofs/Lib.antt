@@ -3,3 +3,4 @@ pub mod Loops
 pub mod Entries
 pub mod Ends
 mod Changing
+mod States

@@ -1,5 +1,6 @@
 -- A board's alarms, and what became of them.
 use Rattle.std.specs.Prelude.{ℕ, ◌+◌, List, [], ◌∷◌, ◌++◌, map}
+use Rattle.mon_alarms.specs.declared.alarm.AlarmState.{AlarmState}
 use Rattle.mon_alarms.specs.declared.change.AlarmChange.{AlarmChange}
 use Rattle.mon_alarms.specs.Changes.{changes_of, raised_now}
 use Rattle.mon_alarms.specs.Observed.{state_by}
@@ -14,6 +15,10 @@ samples_for b r = rising (window_of b r.instance)
 -- the windows of a board's rules, in the order of the watch
 abbrev pub windows_of : Board → List (List ℕ)
 windows_of b = map (samples_for b) b.watch.rules
+
+-- the state of each of a board's rules over its window, in the order of the watch
+abbrev pub states_of : Board → List AlarmState
+states_of b = map (λ r. state_by r (samples_for b r)) b.watch.rules
 
 -- what became of these rules' alarms since their windows were seen so, of which the first has this number
 abbrev pub changes_from : Board → ℕ → List Rule → List (List ℕ) → List AlarmChange

@@ -1,5 +1,5 @@
 -- The text of a report: for each watched instance a line, and a last line that counts.
-use Rattle.std.specs.Prelude.{ℕ, ◌+◌, ◌/◌, ◌%◌, List, [], ◌∷◌, ◌++◌, Option, Some, None, codes, decimal, length, filter, sum_by, get_or, ◌==◌}
+use Rattle.std.specs.Prelude.{ℕ, ◌+◌, ◌/◌, ◌%◌, List, [], ◌∷◌, ◌++◌, Option, Some, None, codes, decimal, length, filter, sum_by, get_or, slice_get, if◌then◌else◌, ◌==◌}
 use Rattle.std.specs.Fmt.{signed_decimal}
 use Rattle.std.specs.List.{flat_map}
 use Rattle.hex.specs.Hex.{encode_lower}
@@ -16,13 +16,15 @@ use Rattle.mon_alarms.specs.Rule.{Rule}
 use Rattle.mon_alarms.specs.Observed.{state_by}
 use Rattle.mon_board.specs.declared.instance.Watched.{Watched}
 use Rattle.mon_board.specs.Watch.{Watch}
+use Rattle.mon_report.specs.declared.alarms.Alarm.{Alarm}
 
--- what a report says of an instance: its engine's octets, its name, its samples from the oldest on, and the rules on it
+-- what a report says of an instance: its engine's octets, its name, its samples from the oldest on, the rules on it, and their alarms
 pub record Entry : Type 0 where
   pub engine : List ℕ
   pub name : List ℕ
   pub items : List ℕ
   pub rules : List Rule
+  pub alarms : List Alarm
 
 -- a dot and a sub-identifier, as they follow the first one in a name
 abbrev pub dot_text : ℕ → List ℕ
@@ -94,15 +96,40 @@ report_of entries = flat_map entry_line entries ++ end_line (length entries) (sa
 abbrev pub rules_on : ℕ → List Rule → List Rule
 rules_on i rules = filter (λ r. r.instance == i) rules
 
--- what a report says of the instance of this number
+-- the alarm of a rule: its state that was announced, or, where none was, its state over these samples
+abbrev pub alarm_of : List ℕ → Rule → Option AlarmState → Alarm
+alarm_of items rule None = record { rule = rule; state = state_by rule items }
+alarm_of items rule (Some state) = record { rule = rule; state = state }
+
+-- the alarms of those of these rules that are on the instance of this number, by the states that were announced; the first rule has this place
+abbrev pub alarms_from : List AlarmState → ℕ → List ℕ → ℕ → List Rule → List Alarm
+alarms_from states i items place [] = []
+alarms_from states i items place (r ∷ rules) =
+    if r.instance == i then alarm_of items r (slice_get states place) ∷ alarms_from states i items (place + 1) rules else alarms_from states i items (place + 1) rules
+
+-- what a report says of the instance of this number, by the states of these rules that were announced
+abbrev pub announced_entry : List AlarmState → List Rule → (ℕ → Samples) → ℕ → Watched → Entry
+announced_entry states rules windows i w =
+    record {
+      engine = w.instance.engine;
+      name = w.instance.name;
+      items = rising (windows i);
+      rules = rules_on i rules;
+      alarms = alarms_from states i (rising (windows i)) 0 rules;
+    }
+
+-- of each of these instances, which have the numbers from this one on
+abbrev pub announced_from : List AlarmState → List Rule → (ℕ → Samples) → ℕ → List Watched → List Entry
+announced_from states rules windows i [] = []
+announced_from states rules windows i (w ∷ ws) = announced_entry states rules windows i w ∷ announced_from states rules windows (i + 1) ws
+
+-- what a report says of the instance of this number, by the states over its samples
 abbrev pub entry_of : List Rule → (ℕ → Samples) → ℕ → Watched → Entry
-entry_of rules windows i w =
-    record { engine = w.instance.engine; name = w.instance.name; items = rising (windows i); rules = rules_on i rules }
+entry_of rules windows i w = announced_entry [] rules windows i w
 
 -- of each of these instances, which have the numbers from this one on
 abbrev pub entries_from : List Rule → (ℕ → Samples) → ℕ → List Watched → List Entry
-entries_from rules windows i [] = []
-entries_from rules windows i (w ∷ ws) = entry_of rules windows i w ∷ entries_from rules windows (i + 1) ws
+entries_from rules windows i ws = announced_from [] rules windows i ws
 
 -- the report of a watch and a window for each of its instances; nothing else is an argument
 abbrev pub report : Watch → (ℕ → Samples) → List ℕ

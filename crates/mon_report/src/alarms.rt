@@ -1,12 +1,36 @@
 //! A board's alarms, and what became of them.
 
 ghost use Rattle.std.specs.Prelude.{◌≡◌, IfOk, map};
-ghost use Rattle.mon_report.specs.Alarms.{changes_from, raised_from, windows_of};
+ghost use Rattle.mon_report.specs.Alarms.{changes_from, raised_from, states_of, windows_of};
 
-use mon_alarms::{AlarmChange, put_changes, put_raised};
+use mon_alarms::{AlarmChange, AlarmState, Rule, put_changes, put_raised, state};
 use mon_board::Board;
 use mon_sample::Sample;
 use std::alloc::{AllocError, Global};
+
+/// A rule and the state of its alarm.
+#[derive(Clone, Copy, Debug)]
+pub struct Alarm {
+    /// The rule, with its thresholds.
+    pub rule: Rule,
+    /// The state that was announced last, or, if none was, that over the samples.
+    pub state: AlarmState,
+}
+
+/// Returns the state of each rule's alarm over its window, in the order of the watch's rules.
+///
+/// # Errors
+/// `AllocError` if there is no memory for them.
+pub fn alarm_states(alloc: Global, board: &Board) -> Result<Vec<AlarmState>, AllocError>
+    ensures { IfOk result (λ v. v.items ≡ states_of board.now) }
+{
+    let rules = board.watch().rules();
+    let mut states = Vec::with_capacity(alloc, rules.len())?;
+    for rule in rules {
+        states.push(state(rule, board.items(rule.instance())))?;
+    }
+    Ok(states)
+}
 
 /// The windows of a board's rules as they are seen now, in the order of the watch's rules.
 pub fn seen_windows(alloc: Global, board: &Board) -> Result<Vec<Vec<Sample>>, AllocError>

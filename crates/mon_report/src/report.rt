@@ -1,16 +1,17 @@
 //! A board's report.
 
-ghost use Rattle.std.specs.Prelude.{◌≡◌, ◌≤◌, ◌<◌, ◌*◌, ◌^◌, true, length, IfOk};
+ghost use Rattle.std.specs.Prelude.{◌≡◌, ◌≤◌, ◌<◌, ◌*◌, ◌^◌, true, length, slice_get, [], IfOk};
 ghost use Rattle.std.specs.List.{flat_map};
 ghost use Rattle.mon_board.specs.Board.{window_of};
 ghost use Rattle.mon_rates.specs.Totals as sums;
-ghost use Rattle.mon_report.specs.Report.{Entry as AnyEntry, entry_line, entry_rest, entry_of, entries_from, samples_in, report, rules_on};
+ghost use Rattle.mon_report.specs.Report.{Entry as AnyEntry, alarm_of, alarms_from, announced_entry, announced_from, entry_line, entry_rest, entry_of, entries_from, samples_in, report, rules_on};
 ghost use Rattle.mon_report.specs.Written.{AppendsIf, AppendsResult};
 
+use crate::alarms::Alarm;
 use crate::fault::ReportFault;
 use crate::line::{put_alarms, put_hex, put_name, put_window, write_end};
 use crate::writing::put;
-use mon_alarms::Rule;
+use mon_alarms::{AlarmState, Rule, state};
 use mon_board::{Board, Watched};
 use mon_oid::Oid;
 use mon_rates::Totals;
@@ -27,24 +28,32 @@ pub struct Entry<'a> {
     samples: &'a [Sample],
     totals: Totals,
     rules: &'a [Rule],
+    // Of each rule the state that was announced, in the rules' order, as far as they are known.
+    states: &'a [AlarmState],
     instance: u16,
 }
 
 impl<'a> Model for Entry<'a> {
     ghost use Rattle.std.specs.Prelude.{◌≡◌, ◌<◌, ◌*◌, ◌^◌};
     ghost use Rattle.mon_rates.specs.Totals as sums;
-    ghost use Rattle.mon_report.specs.Report.{Entry, rules_on};
+    ghost use Rattle.mon_report.specs.Report.{Entry, alarms_from, rules_on};
 
     ghost Value = { Entry };
 
-    ghost view = { λ e. record { engine = e.engine.now; name = e.name.now; items = e.samples.now; rules = rules_on e.instance e.rules.now } };
+    ghost view = { λ e. record {
+      engine = e.engine.now;
+      name = e.name.now;
+      items = e.samples.now;
+      rules = rules_on e.instance e.rules.now;
+      alarms = alarms_from e.states.now e.instance e.samples.now 0 e.rules.now;
+    } };
 
     ghost invariant = { λ e. (e.totals ≡ sums.totals e.samples.now) × (1000 * e.totals.delta < 2 ^ 128) };
 }
 
 impl<'a> Entry<'a> {
     /// An instance with its samples, the oldest first, their totals, and the rules on it: of these rules those that are on the
-    /// instance of this number.
+    /// instance of this number. The state of each alarm is that over the samples.
     pub fn new(
         engine: &'a [u8],
         name: &'a Oid,
@@ -55,7 +64,13 @@ impl<'a> Entry<'a> {
     ) -> Self
         requires totals { totals ≡ sums.totals samples.now }
         requires rated { 1000 * totals.delta < 2 ^ 128 }
-        ensures { let entry : AnyEntry = record { engine = engine.now; name = name.now; items = samples.now; rules = rules_on instance rules.now } in
+        ensures { let entry : AnyEntry = record {
+          engine = engine.now;
+          name = name.now;
+          items = samples.now;
+          rules = rules_on instance rules.now;
+          alarms = alarms_from [] instance samples.now 0 rules.now;
+        } in
             result ≡ entry }
     {
         Entry {
@@ -64,6 +79,7 @@ impl<'a> Entry<'a> {
             samples,
             totals,
             rules,
+            states: &[],
             instance,
         }
     }
@@ -108,6 +124,46 @@ impl<'a> Entry<'a> {
             }
         }
         Ok(rules)
+    }
+
+    /// Returns the alarms of the rules on the instance, in their order: each with the state that was
+    /// announced, or, if none was, with that over the samples.
+    ///
+    /// # Errors
+    /// `AllocError` if there is no memory for them.
+    pub fn alarms(&self, alloc: Global) -> Result<Vec<Alarm>, AllocError>
+        ensures { IfOk result (λ alarms. alarms.items ≡ self.now.alarms) }
+    {
+        let mut alarms = Vec::new(alloc);
+        for place in 0..self.rules.len() {
+            let rule = &self.rules[place];
+            if rule.instance() == self.instance {
+                let announced = state_at(self.states, place);
+                alarms.push(alarm_of(self.samples, rule, announced))?;
+            }
+        }
+        Ok(alarms)
+    }
+}
+
+/// Returns the state at a place, if there is one.
+fn state_at(states: &[AlarmState], place: usize) -> Option<AlarmState>
+    ensures { result ≡ slice_get states.now place }
+{
+    states.get(place).copied()
+}
+
+/// Returns the alarm of a rule: with the state that was announced, or, if none was, with that over
+/// the samples.
+fn alarm_of(samples: &[Sample], rule: &Rule, announced: Option<AlarmState>) -> Alarm
+    ensures { result ≡ alarm_of samples.now rule.now announced }
+{
+    match announced {
+        Some(state) => Alarm { rule: *rule, state },
+        None => Alarm {
+            rule: *rule,
+            state: state(rule, samples),
+        },
     }
 }
 
@@ -169,33 +225,59 @@ fn write_line<W: Write>(board: &Board, writer: &mut W, ok: bool, i: u16, watched
     ensures { AppendsIf (W.contents writer.old) ok (W.contents writer.new) result
         (entry_line (entry_of board.now.watch.rules (window_of board.now) i watched.now)) }
 {
-    write_entry(writer, ok, &entry_of(board, i, watched))
+    write_entry(writer, ok, &entry_of(board, &[], i, watched))
 }
 
-/// What a report says of the instance of this number.
-fn entry_of<'a>(board: &'a Board, i: u16, watched: &'a Watched) -> Entry<'a>
+/// What a report says of the instance of this number, by the states that were announced.
+fn entry_of<'a>(
+    board: &'a Board,
+    states: &'a [AlarmState],
+    i: u16,
+    watched: &'a Watched,
+) -> Entry<'a>
     requires { i < length board.now.watch.instances }
-    ensures { result ≡ entry_of board.now.watch.rules (window_of board.now) i watched.now }
+    ensures { result ≡ announced_entry states.now board.now.watch.rules (window_of board.now) i watched.now }
 {
     let instance = &watched.instance;
-    Entry::new(
-        instance.engine.as_slice(),
-        &instance.name,
-        board.items(i),
-        board.totals(i),
-        board.watch().rules(),
-        i,
-    )
+    Entry {
+        engine: instance.engine.as_slice(),
+        name: &instance.name,
+        samples: board.items(i),
+        totals: board.totals(i),
+        rules: board.watch().rules(),
+        states,
+        instance: i,
+    }
 }
 
-/// What a report says of each instance of a board, in their order.
+/// What a report says of each instance of a board, in their order. The state of each alarm is that
+/// over its window.
+///
+/// # Errors
+/// `AllocError` if there is no memory for it.
 pub fn entries_of(alloc: Global, board: &Board) -> Result<Vec<Entry<'_>>, AllocError>
     ensures { IfOk result (λ es. es.items ≡ entries_from board.now.watch.rules (window_of board.now) 0 board.now.watch.instances) }
+{
+    announced_entries(alloc, board, &[])
+}
+
+/// What a report says of each instance of a board, in their order, by the states of its rules' alarms
+/// that were announced, in the order of the watch's rules. A rule without one has the state over its
+/// window.
+///
+/// # Errors
+/// `AllocError` if there is no memory for it.
+pub fn announced_entries<'a>(
+    alloc: Global,
+    board: &'a Board,
+    states: &'a [AlarmState],
+) -> Result<Vec<Entry<'a>>, AllocError>
+    ensures { IfOk result (λ es. es.items ≡ announced_from states.now board.now.watch.rules (window_of board.now) 0 board.now.watch.instances) }
 {
     let instances = board.watch().instances();
     let mut found = Vec::with_capacity(alloc, instances.len())?;
     for (i, watched) in instances.iter().enumerate() {
-        found.push(entry_of(board, i as u16, watched))?;
+        found.push(entry_of(board, states, i as u16, watched))?;
     }
     Ok(found)
 }

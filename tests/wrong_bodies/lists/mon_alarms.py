@@ -381,6 +381,151 @@ BUGS = {
         "        AlarmState::Raised { boots, time } => AlarmEvent::Raised { boots, time },",
         "        AlarmState::Raised { .. } => AlarmEvent::Lapsed,",
     ),
+    "announces_between_looks": (
+        "src/announcing.rt",
+        "            return Ok(Vec::new(alloc));\n        }\n        let announced",
+        "            return Ok(changes);\n        }\n        let announced",
+    ),
+    "announces_at_once_for_two_looks": (
+        "src/announcing.rt",
+        "if self.after <= 1 {",
+        "if self.after <= 2 {",
+    ),
+    "announces_nothing": (
+        "src/announcing.rt",
+        "            return None;\n        }\n        self.since\n",
+        "            return None;\n        }\n        None\n",
+    ),
+    "announces_a_look_early": (
+        "src/announcing.rt",
+        "        if u64::from(self.held) + 1 < u64::from(after) {\n            return None;",
+        "        if u64::from(self.held) + 2 < u64::from(after) {\n            return None;",
+    ),
+    "announces_a_look_late": (
+        "src/announcing.rt",
+        "        if u64::from(self.held) + 1 < u64::from(after) {\n            return None;",
+        "        if u64::from(self.held) < u64::from(after) {\n            return None;",
+    ),
+    "announces_again_at_each_look": (
+        "src/announcing.rt",
+        "        Pending::settled(event.state())\n",
+        "        Pending {\n            announced: event.state(),\n            since: Some(event),\n            held: self.held,\n        }\n",
+    ),
+    "keeps_what_was_announced_before": (
+        "src/announcing.rt",
+        "        Pending::settled(event.state())\n",
+        "        let _ = event;\n        Pending::settled(self.announced)\n",
+    ),
+    "counts_on_over_an_event": (
+        "src/announcing.rt",
+        "            since: Some(event),\n            held: 0,\n",
+        "            since: Some(event),\n            held: self.held,\n",
+    ),
+    "keeps_the_stamp_of_what_was_over": (
+        "src/announcing.rt",
+        "            since: Some(event),\n            held: 0,\n",
+        "            since: self.since.or(Some(event)),\n            held: 0,\n",
+    ),
+    "stays_pending_when_it_is_over": (
+        "src/announcing.rt",
+        "            return Pending::settled(self.announced);\n",
+        "            return self;\n",
+    ),
+    "waits_with_what_is_known": (
+        "src/announcing.rt",
+        "if event.raises() == self.announced.is_raised() {",
+        "if event.raises() != self.announced.is_raised() {",
+    ),
+    "announces_a_cleared_one_as_lapsed": (
+        "src/announcing.rt",
+        "            return None;\n        }\n        self.since\n",
+        "            return None;\n        }\n        match self.since {\n            Some(AlarmEvent::Cleared { .. }) => Some(AlarmEvent::Lapsed),\n            other => other,\n        }\n",
+    ),
+    "forgets_at_a_look_what_is_pending": (
+        "src/announcing.rt",
+        "                since: Some(event),\n                held: self.held + 1,\n",
+        "                since: None,\n                held: self.held + 1,\n",
+    ),
+    "a_look_counts_for_nothing": (
+        "src/announcing.rt",
+        "held: self.held + 1,",
+        "held: self.held,",
+    ),
+    "a_look_counts_twice": (
+        "src/announcing.rt",
+        "held: self.held + 1,",
+        "held: self.held.saturating_add(2),",
+    ),
+    "notes_each_event_for_the_first_rule": (
+        "src/announcing.rt",
+        "            rules[change.rule] = pending.after_event(change.event);\n",
+        "            rules[0] = pending.after_event(change.event);\n",
+    ),
+    "goes_on_from_the_first_rule": (
+        "src/announcing.rt",
+        "            let pending = rules[change.rule];\n",
+        "            let pending = rules[0];\n",
+    ),
+    "leaves_out_the_last_rule": (
+        "src/announcing.rt",
+        "        if change.rule < rules.len() {",
+        "        if change.rule + 1 < rules.len() {",
+    ),
+    "notes_only_what_raises": (
+        "src/announcing.rt",
+        "            rules[change.rule] = pending.after_event(change.event);\n",
+        "            if change.event.raises() {\n                rules[change.rule] = pending.after_event(change.event);\n            }\n",
+    ),
+    "announces_the_last_rule_first": (
+        "src/announcing.rt",
+        "        put_event(&mut announced, number, pending.due(after))?;\n",
+        "        let _ = pending;\n        put_event(&mut announced, number, rules[rules.len() - 1 - number].due(after))?;\n",
+    ),
+    "announces_all_of_rule_0": (
+        "src/announcing.rt",
+        "put_event(&mut announced, number, pending.due(after))?;",
+        "put_event(&mut announced, 0, pending.due(after))?;",
+    ),
+    "looks_before_it_announces": (
+        "src/announcing.rt",
+        "        let announced = due(alloc, self.after, self.rules.as_slice())?;\n        look(&mut self.rules, self.after);\n",
+        "        look(&mut self.rules, self.after);\n        let announced = due(alloc, self.after, self.rules.as_slice())?;\n",
+    ),
+    "never_looks": (
+        "src/announcing.rt",
+        "        look(&mut self.rules, self.after);\n",
+        "",
+    ),
+    "looks_between_two_rounds": (
+        "src/announcing.rt",
+        "            return Ok(Vec::new(alloc));\n        }\n        let announced",
+        "            look(&mut self.rules, self.after);\n            return Ok(Vec::new(alloc));\n        }\n        let announced",
+    ),
+    "notes_nothing_between_two_rounds": (
+        "src/announcing.rt",
+        "        note(&mut self.rules, changes.as_slice());\n",
+        "        if looks {\n            note(&mut self.rules, changes.as_slice());\n        }\n",
+    ),
+    "begins_with_all_clear": (
+        "src/announcing.rt",
+        "            rules.push(Pending::settled(*state))?;\n",
+        "            let _ = state;\n            rules.push(Pending::settled(AlarmState::Clear))?;\n",
+    ),
+    "knows_states_that_it_never_moves": (
+        "src/announcing.rt",
+        "        if after <= 1 {",
+        "        if after < 1 {",
+    ),
+    "says_the_state_before_it_is_announced": (
+        "src/announcing.rt",
+        "            states.push(pending.announced)?;\n",
+        "            let state = match pending.since {\n                Some(event) => event.state(),\n                None => pending.announced,\n            };\n            states.push(state)?;\n",
+    ),
+    "says_a_raised_one_without_its_stamp": (
+        "src/change.rt",
+        "            AlarmEvent::Raised { boots, time } => AlarmState::Raised { boots, time },\n",
+        "            AlarmEvent::Raised { .. } => AlarmState::Raised { boots: 0, time: 0 },\n",
+    ),
 }
 
 PROMISES = {
@@ -389,4 +534,8 @@ PROMISES = {
     "stamps_the_latest": "alarm::raised_before",
     "compares_then_and_now_alone": "change::put_changes",
     "reports_what_was_so": "comparison::only_if",
+    "announces_between_looks": "announcing::Announcer::announce",
+    "announces_a_look_early": "announcing::Pending::due",
+    "counts_on_over_an_event": "announcing::Pending::after_event",
+    "announces_again_at_each_look": "announcing::Pending::after_look",
 }

@@ -103,13 +103,13 @@ BUGS = {
     ),
     "clear_hides_raised": (
         "src/cells.rt",
-        ".any(|rule|",
-        ".all(|rule|",
+        "    if is_any_raised(&alarms) {",
+        "    if is_any_raised(&alarms[..1]) {",
     ),
     "raised_where_all_are": (
         "src/cells.rt",
-        "rules.iter().any(|rule|",
-        "rules.iter().all(|rule|",
+        "alarms.iter().any(|alarm|",
+        "alarms.iter().all(|alarm|",
     ),
     "oldest_value": (
         "src/rows.rt",
@@ -188,8 +188,13 @@ BUGS = {
     ),
     "clear_is_raised": (
         "src/cells.rt",
-        "state(rule, samples).is_raised()",
-        "!state(rule, samples).is_raised()",
+        "alarm.state.is_raised()",
+        "!alarm.state.is_raised()",
+    ),
+    "raised_over_the_window": (
+        "src/cells.rt",
+        "    if is_any_raised(&alarms) {",
+        "    if alarms\n        .iter()\n        .any(|alarm| mon_alarms::state(&alarm.rule, entry.samples()).is_raised())\n    {",
     ),
     "cuts_texts_after_64_octets": (
         "src/escape.rt",

@@ -77,7 +77,7 @@ BUGS = {
     "repeats_the_front": ("src/writing.rt", "writer.write(&octets[sent..])", "writer.write(&octets[sent / 2..])"),
     "first_instance_alone": ("src/report.rt", "write_line(board, writer, ok, i as u16, watched)", "write_line(board, writer, ok, 0, watched)"),
     "name_before_engine": ("src/report.rt", "let ok = put_hex(writer, ok, entry.engine);", "let ok = put_name(writer, ok, entry.name);"),
-    "no_rules": ("src/report.rt", "        board.watch().rules(),\n        i,\n    )\n}", "        &board.watch().rules()[..0],\n        i,\n    )\n}"),
+    "no_rules": ("src/report.rt", "        rules: board.watch().rules(),\n", "        rules: &board.watch().rules()[..0],\n"),
     "end_without_a_line": ("src/line.rt", 'put(writer, ok, b" samples\\n")', 'put(writer, ok, b" samples")'),
     "alarms_of_later_instances": ("src/line.rt", "rule.instance() == instance", "rule.instance() >= instance"),
     "counts_instances_as_samples": ("src/report.rt", "count += board.items(i as u16).len() as u64;", "count += (board.items(i as u16).len() as u64).min(1);"),
@@ -143,9 +143,9 @@ BUGS = {
     "raised_at_a_swapped_stamp": ("src/line.rt", '    let ok = put(writer, ok, b"raised@");\n    put_stamp(writer, ok, boots, time)', '    let ok = put(writer, ok, b"raised@");\n    put_stamp(writer, ok, time, boots)'),
     "tells_no_rate": ("src/line.rt", "put_rate(writer, ok, totals.thousandths())", "put_rate(writer, ok, None)"),
     "an_empty_window_is_nothing": ("src/line.rt", 'return put(writer, ok, b" n=0");', "return ok;"),
-    "gives_rules_of_earlier_instances": ("src/report.rt", "            if rule.instance() == self.instance {", "            if rule.instance() <= self.instance {"),
-    "each_entry_is_the_first": ("src/report.rt", "found.push(entry_of(board, i as u16, watched))?;", "let _ = i;\n        found.push(entry_of(board, 0, watched))?;"),
-    "forgets_that_the_writer_failed": ("src/report.rt", "    write_entry(writer, ok, &entry_of(board, i, watched))", "    let _ = ok;\n    write_entry(writer, true, &entry_of(board, i, watched))"),
+    "gives_rules_of_earlier_instances": ("src/report.rt", "            if rule.instance() == self.instance {\n                rules.push", "            if rule.instance() <= self.instance {\n                rules.push"),
+    "each_entry_is_the_first": ("src/report.rt", "found.push(entry_of(board, states, i as u16, watched))?;", "let _ = i;\n        found.push(entry_of(board, states, 0, watched))?;"),
+    "forgets_that_the_writer_failed": ("src/report.rt", "    write_entry(writer, ok, &entry_of(board, &[], i, watched))", "    let _ = ok;\n    write_entry(writer, true, &entry_of(board, &[], i, watched))"),
     "writes_the_end_alone": ("src/report.rt", "    let ok = write_lines(board, writer);", "    let ok = true;"),
     "signs_left_out": ("src/writing.rt", "ok: bool, number: i128) -> bool\n    ensures { AppendsIf (W.contents writer.old) ok (W.contents writer.new) result (signed_decimal number) }\n{\n    let mut buffer = Buffer::new();", "ok: bool, number: i128) -> bool\n    ensures { AppendsIf (W.contents writer.old) ok (W.contents writer.new) result (signed_decimal number) }\n{\n    let number = number.unsigned_abs();\n    let mut buffer = Buffer::new();"),
     "cuts_wide_numbers": ("src/writing.rt", "ok: bool, number: u128) -> bool\n    ensures { AppendsIf (W.contents writer.old) ok (W.contents writer.new) result (decimal number) }\n{\n    let mut buffer = Buffer::new();", "ok: bool, number: u128) -> bool\n    ensures { AppendsIf (W.contents writer.old) ok (W.contents writer.new) result (decimal number) }\n{\n    let number = number as u64;\n    let mut buffer = Buffer::new();"),
@@ -180,6 +180,66 @@ BUGS = {
         "rule, was, is)?;",
         "rule, was, &is[is.len().saturating_sub(1)..])?;",
     ),
+    "no_state_is_the_announced_one": (
+        "src/report.rt",
+        "        Some(state) => Alarm { rule: *rule, state },\n",
+        "        Some(_) => Alarm {\n            rule: *rule,\n            state: state(rule, samples),\n        },\n",
+    ),
+    "clear_where_none_is_announced": (
+        "src/report.rt",
+        "            state: state(rule, samples),\n",
+        "            state: AlarmState::Clear,\n",
+    ),
+    "alarms_of_earlier_instances": (
+        "src/report.rt",
+        "            if rule.instance() == self.instance {\n                let announced",
+        "            if rule.instance() <= self.instance {\n                let announced",
+    ),
+    "counts_states_by_the_alarms": (
+        "src/report.rt",
+        "state_at(self.states, place)",
+        "state_at(self.states, alarms.len())",
+    ),
+    "the_first_state_for_all": (
+        "src/report.rt",
+        "state_at(self.states, place)",
+        "state_at(self.states, 0)",
+    ),
+    "one_alarm_of_an_instance": (
+        "src/report.rt",
+        "                alarms.push(alarm_of(self.samples, rule, announced))?;\n",
+        "                if alarms.is_empty() {\n                    alarms.push(alarm_of(self.samples, rule, announced))?;\n                }\n",
+    ),
+    "only_raised_alarms": (
+        "src/report.rt",
+        "                alarms.push(alarm_of(self.samples, rule, announced))?;\n",
+        "                let alarm = alarm_of(self.samples, rule, announced);\n                if alarm.state.is_raised() {\n                    alarms.push(alarm)?;\n                }\n",
+    ),
+    "entries_without_what_was_announced": (
+        "src/report.rt",
+        "found.push(entry_of(board, states, i as u16, watched))?;",
+        "let _ = states;\n        found.push(entry_of(board, &[], i as u16, watched))?;",
+    ),
+    "states_of_the_first_rule_alone": (
+        "src/report.rt",
+        "        states,\n        instance: i,\n",
+        "        states: &states[..states.len().min(1)],\n        instance: i,\n",
+    ),
+    "states_over_the_first_instance": (
+        "src/alarms.rt",
+        "states.push(state(rule, board.items(rule.instance())))?;",
+        "states.push(state(rule, board.items(0)))?;",
+    ),
+    "states_of_raised_alarms_alone": (
+        "src/alarms.rt",
+        "        states.push(state(rule, board.items(rule.instance())))?;\n",
+        "        let state = state(rule, board.items(rule.instance()));\n        if state.is_raised() {\n            states.push(state)?;\n        }\n",
+    ),
+    "states_are_clear": (
+        "src/alarms.rt",
+        "        states.push(state(rule, board.items(rule.instance())))?;\n",
+        "        let _ = rule;\n        states.push(AlarmState::Clear)?;\n",
+    ),
 }
 
 # Those that break a promise as a whole, each with its function: tests/bodies tries them in the gate.
@@ -187,4 +247,6 @@ PROMISES = {
     "goes_on_after_a_failure": "writing::put",
     "nothing_taken_is_all": "writing::send",
     "prints_a_station_number": "report::write_rest",
+    "no_state_is_the_announced_one": "report::alarm_of",
+    "the_first_state_for_all": "report::Entry::alarms",
 }

@@ -4,5 +4,5 @@ use Rattle.mon_formats.specs.Prometheus.{alarm_line}
 use Rattle.mon_formats.proofs.prometheus.put_alarms.Given as goal
 
 -- those so far are written
-abbrev pub invariant-loop-rule : goal.invariant-loop-rule
-invariant-loop-rule l = l.text.items ≡ l.fn.text.items ++ flat_map (alarm_line l.labels l.entry.items) (take l.rule-index l.rule-items)
+abbrev pub invariant-loop-alarm : goal.invariant-loop-alarm
+invariant-loop-alarm l = l.text.items ≡ l.fn.text.items ++ flat_map (alarm_line l.labels) (take l.alarm-index l.alarm-items)

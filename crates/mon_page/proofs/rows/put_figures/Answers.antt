@@ -12,7 +12,7 @@ returns c =
     let start = c.args.text.now.items in
     let a : List ℕ = cell (value_cell (newest_of e.items)) in
     let b : List ℕ = cell (rate_cell (fresh_rate fresh e.items)) in
-    let d : List ℕ = class_cell (state_cell fresh e.items e.rules) in
+    let d : List ℕ = class_cell (state_cell fresh e.alarms) in
     let first : c.put_value.new.text.items ≡ start ++ a =
     c.in_ok-put_value.ensures ∙ ap (λ (s : List ℕ). start ++ cell (value_cell (newest_of s))) c.samples.ensures in
     let second : c.put_rate.new.text.items ≡ c.put_value.new.text.items ++ b =

@@ -8,7 +8,7 @@ use Rattle.mon_report.proofs.report.count_samples.Goals as goal
 
 -- an entry in place of none
 nothing : Entry
-nothing = record { engine = []; name = []; items = []; rules = [] }
+nothing = record { engine = []; name = []; items = []; rules = []; alarms = [] }
 
 -- one window more holds at most 64 samples
 small : (c : goal.After-items) → length c.items.result.now ≤ 64
@@ -25,10 +25,10 @@ loop-i-preserved c =
     let at = c.loop-i.i in
     let entries = entries_from rules (window_of board) 0 all in
     let watched = c.instances-i-end.ensures.instances ∙ ap (λ w. w.instances) c.watch.ensures.watch in
-    let number = length-entries rules (window_of board) 0 all in
+    let number = length-entries [] rules (window_of board) 0 all in
     let inside : at < length all = omega (arith, c.loop-i-test.true, ap length watched) in
     let more = samples-more entries at nothing (omega (arith, inside, number)) in
-    let own = ap length (items-first rules (window_of board) all at nothing inside) in
+    let own = ap length (items-first [] rules (window_of board) all at nothing inside) in
     record {
       counted = omega (arith, c.loop-i.invariant.counted, more, own, ap length c.items.ensures.items);
       few = omega (arith, c.loop-i.invariant.few, small c);
@@ -40,7 +40,7 @@ returns c =
     let rules = board.watch.rules in
     let all = board.watch.instances in
     let watched = c.instances-i-end.ensures.instances ∙ ap (λ w. w.instances) c.watch.ensures.watch in
-    let number = length-entries rules (window_of board) 0 all in
+    let number = length-entries [] rules (window_of board) 0 all in
     c.loop-i.invariant.counted ∙ ap samples_in (take_all c.loop-i.i (entries_from rules (window_of board) 0 all) (omega (arith, c.loop-i-test.false, ap length watched, number)))
 
 pub overflow_add-count : goal.overflow_add-count

@@ -1,4 +1,4 @@
-use Rattle.std.proofs.Common.{◌≡◌, ◌∙◌, ℕ, [], List, Option, arith, ap, sym, option_map, Bor}
+use Rattle.std.proofs.Common.{◌∙◌, [], arith, ap, sym, option_map}
 use Rattle.std.specs.Option.{unwrap_or}
 use Rattle.mon_formats.proofs.LastDot.{split-at-last}
 use Rattle.mon_formats.specs.Prometheus.{at_last_dot}
