@@ -3,7 +3,7 @@ use Rattle.std.proofs.Common.{◌≡◌, ◌≢◌, ◌∙◌, Bool, List, ℕ, 
 use Rattle.std.proofs.lemmas.Bool.Decides.{nat_tests}
 use Rattle.std.specs.Prelude.{◌==◌, Option, Some, Result, Ok, codes, option_map, string_bytes}
 use Rattle.mon_console.specs.Failure.{IsSecond, IsTold, IsToldMore, first_line, is_memory}
-use Rattle.mon_console.specs.Files.{IsRename, IsReplacing, IsWrite}
+use Rattle.mon_console.specs.Files.{IsRename, IsReplacingBy}
 use Rattle.mon_console.specs.declared.failure.Failure.{Failure}
 use Rattle.mon_faults.specs.Fault.{innermost_of}
 use Rattle.mon_host.specs.AtHost.{AtHost, IsNoted, Noted}
@@ -33,15 +33,15 @@ told failure named before between after is other first second =
       on = goes_on first.more second.more before between after first.on second.on;
     }
 
--- a file that was written, and then renamed
-pub replaced : (path octets fresh again : List ℕ) (u : Unit) (result : Result Unit Failure) (before between after : Option (List AtHost))
-    → fresh ≡ path ++ codes ".new"
-    → again ≡ path ++ codes ".new" → GoesOnBy (λ log. IsWrite fresh octets log (Ok u)) before between
+-- a file that was made so, and then renamed
+pub replaced : (Makes : List ℕ → List AtHost → Result Unit Failure → Type 0) (path fresh again : List ℕ) (u : Unit) (result : Result Unit Failure)
+    (before between after : Option (List AtHost)) → fresh ≡ path ++ codes ".new"
+    → again ≡ path ++ codes ".new" → GoesOnBy (λ log. Makes fresh log (Ok u)) before between
     → GoesOnBy (λ log. IsRename again path log result) between after
-    → GoesOnBy (λ log. IsReplacing path octets log result) before after
-replaced path octets fresh again u result before between after is same first second =
+    → GoesOnBy (λ log. IsReplacingBy Makes path log result) before after
+replaced Makes path fresh again u result before between after is same first second =
     let new = path ++ codes ".new" in
-    let written = subst (λ (n : List ℕ). GoesOnBy (λ log. IsWrite n octets log (Ok u)) before between) is first in
+    let made = subst (λ (n : List ℕ). GoesOnBy (λ log. Makes n log (Ok u)) before between) is first in
     let renamed = subst (λ (n : List ℕ). GoesOnBy (λ log. IsRename n path log result) between after) same second in
-    weaker (λ log. Then (IsWrite new octets) (λ done. IsRename new path) log result) (λ log. IsReplacing path octets log result) before after (λ log holds. inr holds)
-    (then_follows (IsWrite new octets) (λ done. IsRename new path) (Ok u) result before between after written renamed)
+    weaker (λ log. Then (Makes new) (λ done. IsRename new path) log result) (λ log. IsReplacingBy Makes path log result) before after (λ log holds. inr holds)
+    (then_follows (Makes new) (λ done. IsRename new path) (Ok u) result before between after made renamed)

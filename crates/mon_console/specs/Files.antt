@@ -3,7 +3,7 @@ use Rattle.std.specs.Prelude.{◌≡◌, ◌⊎◌, ℕ, List, [], ◌∷◌, �
 use Rattle.std.specs.Global.{Global, Vec}
 use Rattle.mon_console.specs.Failure.{IsMemory, IsOfStream, IsOfText}
 use Rattle.mon_console.specs.declared.failure.Failure.{Failure}
-use Rattle.mon_host.specs.AtHost.{AtHost, FileRead, FileUnread, InputRead, InputUnread, PartRead, PartUnread, Printed, Renamed, Unprinted, Unrenamed, Unwritten, Written}
+use Rattle.mon_host.specs.AtHost.{AtHost, FileRead, FileUnread, InputRead, InputUnread, PartRead, PartUnread, Permitted, Printed, Renamed, Unpermitted, Unprinted, Unrenamed, Unwritten, Written}
 use Rattle.mon_host.specs.Reason.{Why}
 use Rattle.mon_host.specs.Then.{Quietly, Then}
 use Rattle.mon_host.specs.declared.host.Part.{Part}
@@ -20,6 +20,16 @@ IsWrite path octets log (Ok done) = log ≡ Written path octets ∷ []
 IsWrite path octets log (Err failure) = (why : Why) × (log ≡ Unwritten path octets why ∷ [])
     × IsOfStream path why failure
 
+-- all users were permitted to read the file at a path; or that failed
+abbrev pub IsPermit : List ℕ → List AtHost → Result Unit Failure → Type 0
+IsPermit path log (Ok done) = log ≡ Permitted path ∷ []
+IsPermit path log (Err failure) = (why : Why) × (log ≡ Unpermitted path why ∷ [])
+    × IsOfStream path why failure
+
+-- octets were written to the file at a path, and then all users were permitted to read it
+abbrev pub IsPublicWrite : List ℕ → List ℕ → List AtHost → Result Unit Failure → Type 0
+IsPublicWrite path octets = Then (IsWrite path octets) (λ done. IsPermit path)
+
 -- the file at a path got another one; or that failed, and the failure names the new path
 abbrev pub IsRename : List ℕ → List ℕ → List AtHost → Result Unit Failure → Type 0
 IsRename path other log (Ok done) = log ≡ Renamed path other ∷ []
@@ -31,12 +41,21 @@ abbrev pub IsUndone : List AtHost → Result Unit Failure → Type 0
 IsUndone log (Ok done) = ⊥
 IsUndone log (Err failure) = (log ≡ []) × IsMemory failure
 
--- A file is replaced whole: a new one next to it is written, and then renamed. Memory for its name
+-- A file is replaced whole: a new one next to it is made so, and then renamed. Memory for its name
 -- may run out.
+abbrev pub IsReplacingBy : (List ℕ → List AtHost → Result Unit Failure → Type 0) → List ℕ
+    → List AtHost → Result Unit Failure → Type 0
+IsReplacingBy Makes path log result = IsUndone log result
+    ⊎ Then (Makes (path ++ codes ".new")) (λ done. IsRename (path ++ codes ".new") path) log result
+
+-- a file is replaced whole by a new one with these octets
 abbrev pub IsReplacing : List ℕ → List ℕ → List AtHost → Result Unit Failure → Type 0
-IsReplacing path octets log result = IsUndone log result
-    ⊎ Then (IsWrite (path ++ codes ".new") octets) (λ done. IsRename (path ++ codes ".new") path)
-    log result
+IsReplacing path octets = IsReplacingBy (λ new. IsWrite new octets) path
+
+-- a file is replaced whole by a new one with these octets, which all users may read before it is
+-- renamed
+abbrev pub IsPublishing : List ℕ → List ℕ → List AtHost → Result Unit Failure → Type 0
+IsPublishing path octets = IsReplacingBy (λ new. IsPublicWrite new octets) path
 
 -- standard input was read to its end; or that failed
 abbrev pub IsInput : List AtHost → Result (Vec ℕ) Failure → Type 0

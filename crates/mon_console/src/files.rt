@@ -1,7 +1,7 @@
 //! What commands read, print and replace.
 
 ghost use Rattle.mon_host.specs.Log.{GoesOnBy};
-ghost use Rattle.mon_console.specs.Files.{IsFile, IsInput, IsInputText, IsPart, IsPrint, IsRename, IsReplacing, IsText, IsTextOf, IsWrite};
+ghost use Rattle.mon_console.specs.Files.{IsFile, IsInput, IsInputText, IsPart, IsPermit, IsPrint, IsPublicWrite, IsPublishing, IsRename, IsReplacing, IsText, IsTextOf, IsWrite};
 
 use crate::failure::Failure;
 use mon_host::{Host, Part};
@@ -36,6 +36,47 @@ pub fn replace_file<H: Host>(
     let fresh = format!(in alloc; "{path}.new")?;
     write_file(alloc, host, fresh.as_str(), octets)?;
     rename(alloc, host, fresh.as_str(), path)
+}
+
+/// Replaces a file whole, as `replace_file` does, by one that all users may read, whatever the
+/// process lets them read of what it makes. They may read it before it is renamed, so that a reader
+/// never meets a file that is closed to it.
+pub fn publish_file<H: Host>(
+    alloc: Global,
+    host: &mut H,
+    path: &str,
+    octets: &[u8],
+) -> Result<(), Failure>
+    ensures { GoesOnBy (λ log. IsPublishing path.now octets.now log result)
+        (H.log host.old) (H.log host.new) }
+{
+    let fresh = format!(in alloc; "{path}.new")?;
+    write_public(alloc, host, fresh.as_str(), octets)?;
+    rename(alloc, host, fresh.as_str(), path)
+}
+
+/// Writes octets to the file at a path, as `write_file` does, and permits all users to read it.
+fn write_public<H: Host>(
+    alloc: Global,
+    host: &mut H,
+    path: &str,
+    octets: &[u8],
+) -> Result<(), Failure>
+    ensures { GoesOnBy (λ log. IsPublicWrite path.now octets.now log result)
+        (H.log host.old) (H.log host.new) }
+{
+    write_file(alloc, host, path, octets)?;
+    permit_reading(alloc, host, path)
+}
+
+/// Permits all users to read the file at a path.
+fn permit_reading<H: Host>(alloc: Global, host: &mut H, path: &str) -> Result<(), Failure>
+    ensures { GoesOnBy (λ log. IsPermit path.now log result) (H.log host.old) (H.log host.new) }
+{
+    match host.permit_reading(path) {
+        Ok(()) => Ok(()),
+        Err(reason) => Err(Failure::stream(alloc, path, reason)),
+    }
 }
 
 /// Writes octets to the file at a path, which is made, or emptied before.

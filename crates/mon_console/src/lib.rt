@@ -16,7 +16,8 @@ mod settings;
 pub use agents::{AgentAt, agent_at, answer_failure, community};
 pub use failure::Failure;
 pub use files::{
-    print, read_input, read_input_text, read_part, read_text, replace_file, write_file,
+    print, publish_file, read_input, read_input_text, read_part, read_text, replace_file,
+    write_file,
 };
 pub use labels::read_labelled_station;
 pub use mon_faults::Fault;

@@ -2,7 +2,7 @@
 
 use std::fs::{File, OpenOptions, TryLockError};
 use std::io;
-use std::os::unix::fs::FileExt;
+use std::os::unix::fs::{FileExt, MetadataExt};
 use std::rt::Files;
 
 /// A file of the system's, open for reading and writing. Offsets and sizes are in octets.
@@ -30,6 +30,9 @@ pub trait SystemFile {
     // The file was asked for its lock.
     ghost asked_lock: { Self → Result Unit NotLocked → Self → Type 0 };
 
+    // The file was asked which one it is on the system: for its device and its inode.
+    ghost asked_node: { Self → Result (ℕ × ℕ) Error → Type 0 };
+
     /// Returns the size of the file.
     fn size(&mut self) -> io::Result<u64>
         ensures { asked_size self.old result self.new };
@@ -50,6 +53,11 @@ pub trait SystemFile {
     /// closed, as it is at the end of the process.
     fn take_lock(&mut self) -> Result<(), TryLockError>
         ensures { asked_lock self.old result self.new };
+
+    /// Returns which file this is on the system: its device and its inode, in this order. While it
+    /// is open, no other file of the system has both.
+    fn node(&self) -> io::Result<(u64, u64)>
+        ensures { asked_node self.now result };
 }
 
 /// A system that has files.
@@ -92,6 +100,8 @@ impl SystemFile for File {
 
     ghost asked_lock = { λ _ _ _. Unit {0} };
 
+    ghost asked_node = { λ _ _. Unit {0} };
+
     fn size(&mut self) -> io::Result<u64> {
         Ok(self.metadata()?.len())
     }
@@ -111,6 +121,11 @@ impl SystemFile for File {
 
     fn take_lock(&mut self) -> Result<(), TryLockError> {
         self.try_lock()
+    }
+
+    fn node(&self) -> io::Result<(u64, u64)> {
+        let found = self.metadata()?;
+        Ok((found.dev(), found.ino()))
     }
 }
 

@@ -28,6 +28,12 @@ pub data AtHost : Type 0 where
   Unrenamed : List ℕ → List ℕ → Why → AtHost
   Found : List ℕ → Bool → AtHost
   Unfound : List ℕ → Why → AtHost
+  FileDated : List ℕ → SystemTime → AtHost
+  FileUndated : List ℕ → Why → AtHost
+  Permitted : List ℕ → AtHost
+  Unpermitted : List ℕ → Why → AtHost
+  NodeFound : List ℕ → Option (ℕ × ℕ) → AtHost
+  NodeUnfound : List ℕ → Why → AtHost
   Timed : Instant → AtHost
   Untimed : Why → AtHost
   Dated : SystemTime → AtHost
@@ -76,6 +82,21 @@ renaming path other (Err reason) = Unrenamed path other (why reason)
 abbrev pub finding : List ℕ → Result Bool Reason → AtHost
 finding path (Ok is) = Found path is
 finding path (Err reason) = Unfound path (why reason)
+
+-- it was said when the file at a path was changed last
+abbrev pub dating_file : List ℕ → Result SystemTime Reason → AtHost
+dating_file path (Ok changed) = FileDated path changed
+dating_file path (Err reason) = FileUndated path (why reason)
+
+-- all users were permitted to read the file at a path
+abbrev pub permitting : List ℕ → Result Unit Reason → AtHost
+permitting path (Ok done) = Permitted path
+permitting path (Err reason) = Unpermitted path (why reason)
+
+-- it was said which file is at a path, by its device and inode, or that none is
+abbrev pub finding_node : List ℕ → Result (Option (ℕ × ℕ)) Reason → AtHost
+finding_node path (Ok node) = NodeFound path node
+finding_node path (Err reason) = NodeUnfound path (why reason)
 
 -- a clock that never goes back told the time
 abbrev pub telling_time : Result Instant Reason → AtHost

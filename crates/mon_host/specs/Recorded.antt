@@ -29,6 +29,9 @@ step_of (step.Write path octets given) = at.writing (string_bytes path) octets.i
 step_of (step.Rename path other given) =
     at.renaming (string_bytes path) (string_bytes other) (refused given)
 step_of (step.Find path is) = at.finding (string_bytes path) (Ok is)
+step_of (step.DateFile path) = at.dating_file (string_bytes path) (refused (Err Unsupported))
+step_of (step.Permit path given) = at.permitting (string_bytes path) (refused given)
+step_of (step.FindNode path node) = at.finding_node (string_bytes path) (Ok node)
 step_of step.Time = at.telling_time (refused (Err Unsupported))
 step_of step.Date = at.telling_date (refused (Err Unsupported))
 

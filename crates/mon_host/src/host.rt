@@ -15,7 +15,7 @@ pub struct Part {
 /// log.
 pub trait Host {
     ghost use Rattle.std.specs.Prelude.{[], ◌∷◌, List, Option};
-    ghost use Rattle.mon_host.specs.AtHost.{AtHost, IsNoted, finding, listing_arguments, looking_at_terminal, printing, reading_file, reading_input, reading_part, renaming, telling_date, telling_time, writing};
+    ghost use Rattle.mon_host.specs.AtHost.{AtHost, IsNoted, dating_file, finding, finding_node, listing_arguments, looking_at_terminal, permitting, printing, reading_file, reading_input, reading_part, renaming, telling_date, telling_time, writing};
     ghost use Rattle.mon_host.specs.Log.{GoesOn, GoesOnBy};
 
     // The log, if there is one.
@@ -61,6 +61,20 @@ pub trait Host {
     /// Returns `true` if something is at a path.
     fn is_there(&mut self, path: &str) -> Result<bool, Reason>
         ensures { GoesOn (finding path.now result ∷ []) (log self.old) (log self.new) };
+
+    /// Returns when the file at a path was changed last: its octets, not its name or its mode.
+    fn changed(&mut self, path: &str) -> Result<SystemTime, Reason>
+        ensures { GoesOn (dating_file path.now result ∷ []) (log self.old) (log self.new) };
+
+    /// Permits all users to read the file at a path, and only its owner to write it: its mode is
+    /// then 0644.
+    fn permit_reading(&mut self, path: &str) -> Result<(), Reason>
+        ensures { GoesOn (permitting path.now result ∷ []) (log self.old) (log self.new) };
+
+    /// Returns which file is at a path now: its device and its inode, in this order. Returns `None`
+    /// if there is none.
+    fn node(&mut self, path: &str) -> Result<Option<(u64, u64)>, Reason>
+        ensures { GoesOn (finding_node path.now result ∷ []) (log self.old) (log self.new) };
 
     /// Returns the time by a clock that never goes back.
     fn time(&mut self) -> Result<Instant, Reason>

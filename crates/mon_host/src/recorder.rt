@@ -1,7 +1,8 @@
 //! Surroundings in memory.
 
-ghost use Rattle.std.specs.Prelude.{◌≡◌, ◌∷◌, [], IfErr, IfOk, None, Ok, Some, map, string_bytes};
-ghost use Rattle.mon_host.specs.AtHost.{IsNoted, finding, listing_arguments, printing, reading_file, reading_input, reading_part, renaming, writing};
+ghost use Rattle.std.specs.Prelude.{◌≡◌, ◌∷◌, [], Err, IfErr, IfOk, None, Ok, Some, map, string_bytes};
+ghost use Rattle.std.specs.declared.io.ErrorKind.TheVariants.{Unsupported};
+ghost use Rattle.mon_host.specs.AtHost.{IsNoted, dating_file, finding, finding_node, listing_arguments, permitting, printing, reading_file, reading_input, reading_part, renaming, writing};
 ghost use Rattle.mon_host.specs.Log.{GoesOn};
 ghost use Rattle.mon_host.specs.Recorded.{IsStepOf, recorded, refused, step_of};
 
@@ -25,6 +26,9 @@ pub enum Step {
     Write(String, Vec<u8>, Result<(), ErrorKind>),
     Rename(String, String, Result<(), ErrorKind>),
     Find(String, bool),
+    DateFile(String),
+    Permit(String, Result<(), ErrorKind>),
+    FindNode(String, Option<(u64, u64)>),
     Time,
     Date,
 }
@@ -47,7 +51,9 @@ pub struct Given {
 }
 
 /// Surroundings in memory. They have no clock and no terminal, and say no words for why a call
-/// failed. Each call is recorded. If memory runs out for that, nothing is known from then on.
+/// failed. Their files have no time, so `changed` is refused as `time` and `date` are; no modes, so
+/// all may be read; and no numbers, so the node of each is (0, 0). Each call is recorded. If memory
+/// runs out for that, nothing is known from then on.
 #[derive(Drop)]
 pub struct Recorder {
     alloc: Global,
@@ -111,6 +117,14 @@ impl Recorder {
     fn look_up_part(&self, path: &str, part: Part) -> Result<Vec<u8>, ErrorKind> {
         let octets = self.look_up(path)?;
         or_kind(Vec::from_slice(self.alloc, part_of(octets.as_slice(), part)))
+    }
+
+    /// Returns `true` if a file is at a path.
+    fn has(&self, path: &str) -> bool {
+        self.given
+            .files
+            .iter()
+            .any(|page| page.path.as_str() == path)
     }
 
     /// Puts octets into the file at a path.
@@ -284,6 +298,27 @@ fn find_step(alloc: Global, path: &str, is: bool) -> Result<Step, AllocError>
     Ok(Step::Find(String::from_str(alloc, path)?, is))
 }
 
+/// Records that a file was asked for its time, which none has.
+fn date_file_step(alloc: Global, path: &str) -> Result<Step, AllocError>
+    ensures { IfOk result (IsStepOf (dating_file path.now (refused (Err Unsupported)))) }
+{
+    Ok(Step::DateFile(String::from_str(alloc, path)?))
+}
+
+/// Records that all users were permitted to read a file, or were not.
+fn permit_step(alloc: Global, path: &str, given: Result<(), ErrorKind>) -> Result<Step, AllocError>
+    ensures { IfOk result (IsStepOf (permitting path.now (refused given))) }
+{
+    Ok(Step::Permit(String::from_str(alloc, path)?, given))
+}
+
+/// Records which file is at a path.
+fn find_node_step(alloc: Global, path: &str, node: Option<(u64, u64)>) -> Result<Step, AllocError>
+    ensures { IfOk result (IsStepOf (finding_node path.now (Ok node))) }
+{
+    Ok(Step::FindNode(String::from_str(alloc, path)?, node))
+}
+
 impl Host for Recorder {
     ghost use Rattle.mon_host.specs.Recorded.{recorded};
 
@@ -344,13 +379,30 @@ impl Host for Recorder {
     }
 
     fn is_there(&mut self, path: &str) -> Result<bool, Reason> {
-        let is = self
-            .given
-            .files
-            .iter()
-            .any(|page| page.path.as_str() == path);
+        let is = self.has(path);
         self.record(find_step(self.alloc, path, is));
         Ok(is)
+    }
+
+    fn changed(&mut self, path: &str) -> Result<SystemTime, Reason> {
+        self.record(date_file_step(self.alloc, path));
+        refused(Err(ErrorKind::Unsupported))
+    }
+
+    fn permit_reading(&mut self, path: &str) -> Result<(), Reason> {
+        let given = if self.has(path) {
+            Ok(())
+        } else {
+            Err(ErrorKind::NotFound)
+        };
+        self.record(permit_step(self.alloc, path, given));
+        refused(given)
+    }
+
+    fn node(&mut self, path: &str) -> Result<Option<(u64, u64)>, Reason> {
+        let node = self.has(path).then_some((0, 0));
+        self.record(find_node_step(self.alloc, path, node));
+        Ok(node)
     }
 
     fn time(&mut self) -> Result<Instant, Reason> {

@@ -4,8 +4,9 @@ use crate::host::{Host, Part};
 use crate::reason::Reason;
 use std::alloc::Global;
 use std::fmt::Display;
-use std::fs::File;
+use std::fs::{File, Permissions};
 use std::io::{Read, Seek, SeekFrom, Write};
+use std::os::unix::fs::{MetadataExt, PermissionsExt};
 use std::rt::{Clock, Env, Files};
 use std::time::{Instant, SystemTime};
 use std::{env, fs, io};
@@ -15,6 +16,9 @@ const CHUNK: usize = 65_536;
 
 /// How many reads an input or a file may take.
 const READS: u32 = 1_048_576;
+
+/// The mode of a file that all users may read, and only its owner may write.
+const READ_BY_ALL: u32 = 0o644;
 
 /// The surroundings of the process. No contract knows what is done to them: this is what is
 /// trusted.
@@ -85,6 +89,19 @@ impl<R: Env + Clock + Files<File = File> + Input + Print + Eprint + AllocGlobal>
         self.given(fs::exists(self.rt, path))
     }
 
+    fn changed(&mut self, path: &str) -> Result<SystemTime, Reason> {
+        self.given(changed(self.rt, path))
+    }
+
+    fn permit_reading(&mut self, path: &str) -> Result<(), Reason> {
+        let mode = Permissions::from_mode(READ_BY_ALL);
+        self.given(fs::set_permissions(self.rt, path, mode))
+    }
+
+    fn node(&mut self, path: &str) -> Result<Option<(u64, u64)>, Reason> {
+        self.given(node(self.rt, path))
+    }
+
     fn time(&mut self) -> Result<Instant, Reason> {
         self.given(Instant::now(self.rt))
     }
@@ -136,4 +153,18 @@ fn read_part<R: Files<File = File> + AllocGlobal>(
     let mut file = File::open(rt, path)?;
     file.seek(SeekFrom::Start(part.at))?;
     read_all(rt.alloc(), file.take(part.length))
+}
+
+/// Returns when a file was changed last.
+fn changed<R: Files>(rt: &R, path: &str) -> io::Result<SystemTime> {
+    fs::metadata(rt, path)?.modified()
+}
+
+/// Returns the device and the inode of the file at a path, `None` if there is none.
+fn node<R: Files>(rt: &R, path: &str) -> io::Result<Option<(u64, u64)>> {
+    match fs::metadata(rt, path) {
+        Ok(found) => Ok(Some((found.dev(), found.ino()))),
+        Err(error) if error.kind() == io::ErrorKind::NotFound => Ok(None),
+        Err(error) => Err(error),
+    }
 }

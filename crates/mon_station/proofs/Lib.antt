@@ -4,6 +4,7 @@ mod Few
 mod Handled
 mod Kept
 mod Mended
+mod Moves
 mod Offered
 mod Past
 mod Quiet

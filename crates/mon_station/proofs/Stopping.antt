@@ -24,7 +24,7 @@ use Rattle.mon_station.specs.Lived.{HandledIn}
 use Rattle.mon_station.specs.ReadEvent.{ReadEvent, StartPoll, Timeout, FromAgent, FromPeer, Share, Save}
 use Rattle.mon_station.specs.Saved.{FindsBegun, FindsRunning, IsBegun, saved_octets}
 use Rattle.mon_station.specs.State.{State, IsHandled, setting_of}
-use Rattle.mon_station.specs.Stops.{FindsOneOf, FindsRunningIn, FindsSave, FoundAfter, GoesOn, Happening, IsDiskAfterIn, IsHistory, IsRaised, IsRunning, MayFind, OrSaved, Opened, Unopened, Handled, StoppedOpening, Stopped, begun_in, last_disk, last_saved, running, saved_after}
+use Rattle.mon_station.specs.Stops.{FindsOneOf, FindsRunningIn, FindsSave, FoundAfter, GoesOn, Happening, IsDiskAfterIn, IsHistory, IsRaised, IsRunning, MayFind, OrSaved, Opened, Unopened, Handled, Moved, StoppedOpening, Stopped, begun_in, last_disk, last_saved, running, saved_after}
 use Rattle.mon_station.specs.Verdict.{Setting, added}
 
 -- ---- the incarnation of an image is in its octets, whatever the instances are
@@ -136,6 +136,7 @@ saved_may seen first [] s is = absurd cc
 saved_may seen first ((Opened w t, disk) ∷ past) s is = sym is
 saved_may seen first ((Unopened w, disk) ∷ past) s is = absurd cc
 saved_may seen first ((Handled e answer t, disk) ∷ past) s is = still_saved seen first e answer past (saved_may seen first past) s is
+saved_may seen first ((Moved, disk) ∷ past) s is = (s, is, refl)
 saved_may seen first ((StoppedOpening w, disk) ∷ past) s is = absurd cc
 saved_may seen first ((Stopped, disk) ∷ past) s is = absurd cc
 
@@ -265,6 +266,14 @@ module _ (read_back : (watch : Watch) (board again : Board) (incarnation read : 
           left = handled_left (MayFind seen first past) (last_saved past) (running past) (saved_may seen first past) e answer (last_disk first past) new is.0 sound.left is.1.1;
           bound = handled_bound past e answer sound;
           runs = handled_runs (begun_in past) (running past) e answer s sound.runs is.1.0;
+        }
+    sound_after ((Moved, new) ∷ past) is =
+        let sound = sound_after past is.2 in
+        record {
+          honest_now = is.0;
+          left = λ file left. (Some is.1.0, (is.1.0, is.1.1, refl), is.1.2 file left);
+          bound = λ save found. running_bound (begun_in past) (running past) sound.runs save found;
+          runs = sound.runs;
         }
     sound_after ((StoppedOpening w, new) ∷ past) is =
         let sound = sound_after past is.2 in

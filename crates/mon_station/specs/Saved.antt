@@ -113,6 +113,13 @@ IsForItsBody (fault.Image f) = Unit {0}
 IsForItsBody fault.NoMoreIncarnations = Unit {0}
 IsForItsBody other = ⊥
 
+-- one of the faults with which a station does not move to a disk: memory runs out, the disk fails, or its file is damaged
+abbrev pub IsMovingFault : StationFault → Type 0
+IsMovingFault fault.OutOfMemory = Unit {0}
+IsMovingFault (fault.Keeper keeper.DiskFault) = Unit {0}
+IsMovingFault (fault.Keeper keeper.Damaged) = Unit {0}
+IsMovingFault other = ⊥
+
 -- A save is refused if memory runs out, or by the keeper: if the disk failed in it, or at the greatest generation. An image always fits, and a keeper whose disk failed in an
 -- earlier save is reopened first.
 abbrev pub IsSaveFault : StationFault → Type 0

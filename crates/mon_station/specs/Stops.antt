@@ -15,11 +15,13 @@ use Rattle.mon_station.specs.State.{State}
 use Rattle.mon_station.specs.Verdict.{Setting}
 
 -- A call of a station with its answer, or a stop: an opening that was answered by a life that begins in this state, an opening that was refused, an event with its answer
--- and the state that it left, a stop within an opening, or one within a save or between calls.
+-- and the state that it left, a move of the running life to another disk, on which a save of it was then acknowledged, a stop within an opening, or one within a save or
+-- between calls.
 pub data Happening : Type 0 where
   Opened : Setting → State → Happening
   Unopened : Setting → Happening
   Handled : ReadEvent → Option StationFault → State → Happening
+  Moved : Happening
   StoppedOpening : Setting → Happening
   Stopped : Happening
 
@@ -70,11 +72,16 @@ module _ {D : Type 0} (seen : D → List ℕ) (may_leave : D → List ℕ → Ty
   IsDiskAfterIn saved None e answer old new = ⊥
   IsDiskAfterIn saved (Some s) e answer old new = IsDiskAfter saved s e answer old new
 
+  -- The disk after a move is another one, of which nothing is said but that a crash leaves files in which the state of the running life is found.
+  abbrev pub IsMovedTo : Option State → D → Type 0
+  IsMovedTo running new = (s : State) × (running ≡ Some s) × Leaves (may_leave new) (FindsState s)
+
   -- it happens where this life is running, if one is, and this state of it was saved last, from the disk before it to the disk after it
   abbrev pub Happens : (running saved : Option State) → Happening → D → D → Type 0
   Happens running saved (Opened w s) old new = IsOpened w s old new
   Happens running saved (Unopened w) old new = IsBeginning w seen may_leave moment left_since old new
   Happens running saved (Handled e answer s) old new = HandledIn running e answer s × IsDiskAfterIn saved running e answer old new
+  Happens running saved Moved old new = IsMovedTo running new
   Happens running saved (StoppedOpening w) old new = IsStopped (λ c. FindsAs (may_leave old) c ⊎ FindsBegun w (found_body (seen old)) c) old new
   Happens running saved Stopped old new = IsStopped (FindsRunningIn (OrSaved (may_leave old) saved) running) old new
 
@@ -85,6 +92,7 @@ running [] = None
 running ((Opened w s, disk) ∷ past) = Some s
 running ((Unopened w, disk) ∷ past) = None
 running ((Handled e answer s, disk) ∷ past) = Some s
+running ((Moved, disk) ∷ past) = running past
 running ((StoppedOpening w, disk) ∷ past) = None
 running ((Stopped, disk) ∷ past) = None
 
@@ -98,12 +106,13 @@ saved_after (FromAgent from read) answer running saved = saved
 saved_after (FromPeer said) answer running saved = saved
 saved_after (Share peer) answer running saved = saved
 
--- the state of that life that was saved last: that of its opening, or of the last save that was answered without a fault
+-- the state of that life that was saved last: that of its opening, or of the last save that was answered without a fault, as one after a move is
 abbrev pub last_saved : {D : Type 0} → List (Happening × D) → Option State
 last_saved [] = None
 last_saved ((Opened w s, disk) ∷ past) = Some s
 last_saved ((Unopened w, disk) ∷ past) = None
 last_saved ((Handled e answer s, disk) ∷ past) = saved_after e answer (running past) (last_saved past)
+last_saved ((Moved, disk) ∷ past) = running past
 last_saved ((StoppedOpening w, disk) ∷ past) = None
 last_saved ((Stopped, disk) ∷ past) = None
 
@@ -118,6 +127,7 @@ begun_in [] = []
 begun_in ((Opened w s, disk) ∷ past) = s ∷ begun_in past
 begun_in ((Unopened w, disk) ∷ past) = begun_in past
 begun_in ((Handled e answer s, disk) ∷ past) = begun_in past
+begun_in ((Moved, disk) ∷ past) = begun_in past
 begun_in ((StoppedOpening w, disk) ∷ past) = begun_in past
 begun_in ((Stopped, disk) ∷ past) = begun_in past
 
@@ -155,6 +165,7 @@ MayFind seen first [] save = save ≡ None
 MayFind seen first ((Opened w s, disk) ∷ past) save = save ≡ Some s
 MayFind seen first ((Unopened w, disk) ∷ past) save = MayFind seen first past save ⊎ IsRaised w (seen (last_disk first past)) save
 MayFind seen first ((Handled e answer s, disk) ∷ past) save = FoundAfter e answer (running past) (MayFind seen first past) save
+MayFind seen first ((Moved, disk) ∷ past) save = IsRunning (running past) save
 MayFind seen first ((StoppedOpening w, disk) ∷ past) save = MayFind seen first past save ⊎ IsRaised w (seen (last_disk first past)) save
 MayFind seen first ((Stopped, disk) ∷ past) save = MayFind seen first past save ⊎ IsRunning (running past) save
 

@@ -69,11 +69,12 @@ pub fn headline()
 }
 
 /// Stopped at any time: over any list of lives on an honest disk on which nothing was saved before,
-/// whatever openings, events, saves and stops there were, and under changing watches. An opening
-/// finds the last save that was acknowledged, or one that was running since, and no older one
-/// later; none is damaged. A life that an opening answers goes on from such a save, with what its
-/// watch keeps of the windows. Its incarnation is greater than that of each earlier life that was
-/// handed out; no other life sent anything.
+/// whatever openings, events, saves and stops there were, and under changing watches. A life may
+/// move to another honest disk, whatever is on it: that counts from its first save there on that is
+/// acknowledged. An opening finds the last save that was acknowledged, or one that was running
+/// since, and no older one later; none is damaged. A life that an opening answers goes on from such
+/// a save, with what its watch keeps of the windows. Its incarnation is greater than that of each
+/// earlier life that was handed out; no other life sent anything.
 pub fn stops<D: Disk>()
     ensures left { (first : D) (history : List (Happening × D)) → D.is_honest first → Leaves (D.may_leave first) (FindsBody None)
         → IsHistory D.is_honest D.seen D.may_leave D.moment D.left_since first history → Leaves (D.may_leave (last_disk first history)) (FindsOneOf (MayFind D.seen first history)) }

@@ -9,6 +9,7 @@ mod fault;
 pub mod laws;
 mod life;
 mod mending;
+mod moving;
 mod opening;
 mod running;
 mod saved;

@@ -1,6 +1,6 @@
 //! Stations.
 
-ghost use Rattle.std.specs.Prelude.{◌≡◌, ◌≤◌, ◌-◌, ◌^◌, ◌∷◌, List, ℕ, true, false, Err, OnErr, OnOk, Some, IfErr, IfNone, IfOk, IfSome, IsOk, IsTrue, length};
+ghost use Rattle.std.specs.Prelude.{◌≡◌, ◌≤◌, ◌-◌, ◌^◌, ◌∷◌, List, ℕ, true, false, Err, OnErr, OnOk, Option, Some, IfErr, IfNone, IfOk, IfSome, IsOk, IsTrue, length};
 ghost use Rattle.std.specs.FinMap as map;
 ghost use Rattle.mon_disk.specs.declared.file.TheConstants.{SLOT_SIZE};
 ghost use Rattle.mon_disk.specs.File.{found};
@@ -39,7 +39,7 @@ impl<D: Disk + Drop> Station<D> {
     ghost use Rattle.mon_station.specs.State.{State};
     ghost use Rattle.mon_station.specs.Taken.{Answered, Entry};
     ghost use Rattle.mon_station.specs.Lived.{IsLived, answer_in, last_state};
-    ghost use Rattle.mon_station.specs.Stops.{Handled, Happens};
+    ghost use Rattle.mon_station.specs.Stops.{Handled, Happens, Moved};
 
     /// Handles an event. All memory is taken before anything is changed.
     ///
@@ -71,6 +71,11 @@ impl<D: Disk + Drop> Station<D> {
         // It is a step of the law of stops.
         ensures happens { D.is_honest (device_of self.old.keeper) → (saved : State) → IsSavedAs saved (last_body self.old.keeper) → (e : ReadEvent) → ReadsAs self.old.life.board.watch (owned event.entry) e
             → Happens D.seen D.may_leave D.moment D.left_since (Some (state_of self.old.life)) (Some saved) (Handled e (answer_in result) (state_of self.new.life)) (device_of self.old.keeper) (device_of self.new.keeper) }
+
+        // So is a save on a disk to which the station moved (`move_to`), from the first that is
+        // answered Ok on.
+        ensures moved { D.is_honest (device_of self.old.keeper) → event.entry ≡ Event.Save → (before : D) (saved : Option State)
+            → OnOk result (Happens D.seen D.may_leave D.moment D.left_since (Some (state_of self.old.life)) saved Moved before (device_of self.new.keeper)) }
 
         // A save changes nothing in memory.
         ensures same { event.entry ≡ Event.Save → self.new.life ≡ self.old.life }

@@ -235,8 +235,8 @@ BUGS = {
     ),
     "writes_another_file": (
         "src/files.rt",
-        '    let fresh = format!(in alloc; "{path}.new")?;',
-        '    let fresh = format!(in alloc; "{path}.old")?;',
+        '    let fresh = format!(in alloc; "{path}.new")?;\n    write_file(',
+        '    let fresh = format!(in alloc; "{path}.old")?;\n    write_file(',
     ),
     "prints_nothing": (
         "src/files.rt",
@@ -258,6 +258,56 @@ BUGS = {
         "        Err(reason) => Err(Failure::stream(alloc, other, reason)),",
         "        Err(reason) => { if path.len() == 7 { return Ok(()); } Err(Failure::stream(alloc, other, reason)) }",
     ),
+    "publishes_without_a_permit": (
+        "src/files.rt",
+        "    write_file(alloc, host, path, octets)?;\n    permit_reading(alloc, host, path)",
+        "    write_file(alloc, host, path, octets)",
+    ),
+    "permits_before_it_writes": (
+        "src/files.rt",
+        "    write_file(alloc, host, path, octets)?;\n    permit_reading(alloc, host, path)",
+        "    permit_reading(alloc, host, path)?;\n    write_file(alloc, host, path, octets)",
+    ),
+    "permits_twice": (
+        "src/files.rt",
+        "    write_file(alloc, host, path, octets)?;\n    permit_reading(alloc, host, path)",
+        "    write_file(alloc, host, path, octets)?;\n    permit_reading(alloc, host, path)?;\n    permit_reading(alloc, host, path)",
+    ),
+    "permits_after_the_rename": (
+        "src/files.rt",
+        "    write_public(alloc, host, fresh.as_str(), octets)?;\n    rename(alloc, host, fresh.as_str(), path)",
+        "    write_file(alloc, host, fresh.as_str(), octets)?;\n    rename(alloc, host, fresh.as_str(), path)?;\n    permit_reading(alloc, host, path)",
+    ),
+    "permits_the_old_file": (
+        "src/files.rt",
+        "    write_public(alloc, host, fresh.as_str(), octets)?;\n    rename(alloc, host, fresh.as_str(), path)",
+        "    write_file(alloc, host, fresh.as_str(), octets)?;\n    permit_reading(alloc, host, path)?;\n    rename(alloc, host, fresh.as_str(), path)",
+    ),
+    "publishes_in_place": (
+        "src/files.rt",
+        "    write_public(alloc, host, fresh.as_str(), octets)?;\n    rename(alloc, host, fresh.as_str(), path)",
+        "    let _ = fresh;\n    write_public(alloc, host, path, octets)",
+    ),
+    "publishes_an_empty_file": (
+        "src/files.rt",
+        "    write_public(alloc, host, fresh.as_str(), octets)?;\n    rename(alloc, host, fresh.as_str(), path)",
+        "    write_public(alloc, host, fresh.as_str(), &octets[..0])?;\n    rename(alloc, host, fresh.as_str(), path)",
+    ),
+    "publishes_and_renames_nothing": (
+        "src/files.rt",
+        "    write_public(alloc, host, fresh.as_str(), octets)?;\n    rename(alloc, host, fresh.as_str(), path)",
+        "    write_public(alloc, host, fresh.as_str(), octets)",
+    ),
+    "swallows_a_failed_permit": (
+        "src/files.rt",
+        "    match host.permit_reading(path) {\n        Ok(()) => Ok(()),\n        Err(reason) => Err(Failure::stream(alloc, path, reason)),",
+        "    match host.permit_reading(path) {\n        Ok(()) => Ok(()),\n        Err(reason) => {\n            let _ = Failure::stream(alloc, path, reason);\n            Ok(())\n        }",
+    ),
+    "a_failed_permit_is_of_standard_output": (
+        "src/files.rt",
+        "    match host.permit_reading(path) {\n        Ok(()) => Ok(()),\n        Err(reason) => Err(Failure::stream(alloc, path, reason)),",
+        "    match host.permit_reading(path) {\n        Ok(()) => Ok(()),\n        Err(reason) => Err(Failure::stream(alloc, OUTPUT, reason)),",
+    ),
 }
 
 # Those that break a promise as a whole, each with its function: tests/bodies tries them in the gate.
@@ -266,4 +316,6 @@ PROMISES = {
     "another_reason": "failure::Failure::stream",
     "second_line_without_place": "failure::reason_line",
     "swallows_a_fault": "files::rename",
+    "permits_after_the_rename": "files::publish_file",
+    "publishes_without_a_permit": "files::write_public",
 }

@@ -865,6 +865,21 @@ BUGS = {
         "            TryLockError::WouldBlock => OpenFault::InUse,",
         "            TryLockError::WouldBlock => OpenFault::System(io::Error::from(io::ErrorKind::WouldBlock)),",
     ),
+    "each_file_is_node_0": (
+        "src/file_disk.rt",
+        "        self.file.node()",
+        "        Ok((0, 0))",
+    ),
+    "swaps_device_and_inode": (
+        "src/file_disk.rt",
+        "        self.file.node()",
+        "        let (device, inode) = self.file.node()?;\n        Ok((inode, device))",
+    ),
+    "a_file_without_an_answer_is_node_0": (
+        "src/file_disk.rt",
+        "        self.file.node()",
+        "        match self.file.node() {\n            Ok(found) => Ok(found),\n            Err(_) => Ok((0, 0)),\n        }",
+    ),
 }
 
 # Those that break a promise as a whole, each with its function: tests/bodies tries them in the gate.
@@ -878,4 +893,5 @@ PROMISES = {
     "opens_without_the_lock": "file_disk::DiskOver::open_or_create",
     "swallows_a_failed_sync": "file_disk::DiskOverDisk::sync",
     "writes_at_half": "file_disk::DiskOverDisk::write_at",
+    "each_file_is_node_0": "file_disk::DiskOver::node",
 }

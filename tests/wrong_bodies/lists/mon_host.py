@@ -31,9 +31,55 @@ BUGS = {
         "        self.record(print_step(self.alloc, octets, given));",
         "        if octets.len() != 7 { self.record(print_step(self.alloc, octets, given)); }",
     ),
+    "records_no_permit": (
+        "src/recorder.rt",
+        "        self.record(permit_step(self.alloc, path, given));",
+        "        if path.len() != 7 { self.record(permit_step(self.alloc, path, given)); }",
+    ),
+    "records_each_permit_as_done": (
+        "src/recorder.rt",
+        "        self.record(permit_step(self.alloc, path, given));",
+        "        self.record(permit_step(self.alloc, path, Ok(())));",
+    ),
+    "permits_another_path": (
+        "src/recorder.rt",
+        "    Ok(Step::Permit(String::from_str(alloc, path)?, given))",
+        "    let _ = path;\n    Ok(Step::Permit(String::from_str(alloc, \"other\")?, given))",
+    ),
+    "records_no_node": (
+        "src/recorder.rt",
+        "        self.record(find_node_step(self.alloc, path, node));",
+        "        self.record(find_node_step(self.alloc, path, None));",
+    ),
+    "answers_another_node_than_it_records": (
+        "src/recorder.rt",
+        "        Ok(node)",
+        "        Ok(node.and(Some((0, 1))))",
+    ),
+    "finds_the_node_of_another_path": (
+        "src/recorder.rt",
+        "        self.record(find_node_step(self.alloc, path, node));",
+        "        self.record(find_node_step(self.alloc, \"other\", node));",
+    ),
+    "records_a_node_as_a_find": (
+        "src/recorder.rt",
+        "        self.record(find_node_step(self.alloc, path, node));",
+        "        self.record(find_step(self.alloc, path, node.is_some()));",
+    ),
+    "has_no_file_where_none_is_dated": (
+        "src/recorder.rt",
+        "        self.record(date_file_step(self.alloc, path));\n        refused(Err(ErrorKind::Unsupported))",
+        "        self.record(date_file_step(self.alloc, path));\n        refused(Err(ErrorKind::NotFound))",
+    ),
+    "records_the_wall_clock_for_a_file": (
+        "src/recorder.rt",
+        "        self.record(date_file_step(self.alloc, path));",
+        "        let _ = path;\n        self.record(Ok(Step::Date));",
+    ),
 }
 
 # Those that break a promise as a whole, each with its function: tests/bodies tries them in the gate.
 PROMISES = {
     "records_no_print": "recorder::RecorderHost::print",
+    "records_no_permit": "recorder::RecorderHost::permit_reading",
 }

@@ -684,6 +684,56 @@ BUGS = {
         "                noted: Some(noted),\n                given_up: None,\n                answered: None,",
         "                noted: Some(noted),\n                given_up: None,\n                answered: Some(TargetStamp {\n                    target: 0,\n                    boots: 0,\n                    time: 0,\n                }),",
     ),
+    "moves_nowhere": (
+        "src/moving.rt",
+        "                self.keeper = keeper;",
+        "                let _ = keeper;",
+    ),
+    "takes_another_incarnation_when_it_moves": (
+        "src/moving.rt",
+        "                self.keeper = keeper;",
+        "                self.keeper = keeper;\n                self.life.incarnation |= 1;",
+    ),
+    "begins_its_claims_again_when_it_moves": (
+        "src/moving.rt",
+        "                self.keeper = keeper;",
+        "                self.keeper = keeper;\n                self.life.serial = 1;",
+    ),
+    "moved_though_it_was_refused": (
+        "src/moving.rt",
+        "            Err(error) => Err((StationFault::from(error.fault), error.disk)),",
+        "            Err(_) => Ok(()),",
+    ),
+    "each_refused_move_is_a_failed_disk": (
+        "src/moving.rt",
+        "            Err(error) => Err((StationFault::from(error.fault), error.disk)),",
+        "            Err(error) => Err((StationFault::Keeper(KeeperFault::DiskFault), error.disk)),",
+    ),
+    "each_refused_move_is_of_a_damaged_file": (
+        "src/moving.rt",
+        "            Err(error) => Err((StationFault::from(error.fault), error.disk)),",
+        "            Err(error) => Err((StationFault::Keeper(KeeperFault::Damaged), error.disk)),",
+    ),
+    "each_refused_move_needs_a_reopening": (
+        "src/moving.rt",
+        "            Err(error) => Err((StationFault::from(error.fault), error.disk)),",
+        "            Err(error) => Err((StationFault::Keeper(KeeperFault::Reopen), error.disk)),",
+    ),
+    "a_refused_move_changes_the_life": (
+        "src/moving.rt",
+        "            Err(error) => Err((StationFault::from(error.fault), error.disk)),",
+        "            Err(error) => {\n                self.life.serial = 1;\n                Err((StationFault::from(error.fault), error.disk))\n            }",
+    ),
+    "moves_to_no_file_with_a_save": (
+        "src/moving.rt",
+        "            Ok((keeper, _)) => {",
+        "            Ok((keeper, Some(_))) => Err((\n                StationFault::Keeper(KeeperFault::Damaged),\n                keeper.into_disk(),\n            )),\n            Ok((keeper, None)) => {",
+    ),
+    "mends_the_old_file_when_it_cannot_move": (
+        "src/moving.rt",
+        "            Err(error) => Err((StationFault::from(error.fault), error.disk)),",
+        "            Err(error) => {\n                let _ = self.keeper.reopen();\n                Err((StationFault::from(error.fault), error.disk))\n            }",
+    ),
 }
 
 # Those that break a promise as a whole, each with its function: tests/bodies tries them in the gate.
@@ -697,4 +747,5 @@ PROMISES = {
     "runs_one_turn": "station::Station::run",
     "save_answers_damaged": "station::Station::step",
     "tells_no_last_answer": "station::Station::take_turn",
+    "moves_nowhere": "station::Station::move_to",
 }

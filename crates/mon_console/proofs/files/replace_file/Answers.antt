@@ -1,8 +1,9 @@
 use Rattle.std.proofs.Common.{◌∙◌}
+use Rattle.mon_console.specs.Files.{IsWrite}
 use Rattle.mon_console.proofs.Steps.{replaced}
 use Rattle.mon_console.proofs.files.replace_file.Goals as goal
 
 pub returns : goal.returns
-returns g c = replaced c.args.path.now c.args.octets.now c.as_str.result.now c.as_str-2.result.now c.in_ok-write_file.field-0 c.rename.result (g.H.Host.log c.args.host.now)
+returns g c = replaced (λ new. IsWrite new c.args.octets.now) c.args.path.now c.as_str.result.now c.as_str-2.result.now c.in_ok-write_file.field-0 c.rename.result (g.H.Host.log c.args.host.now)
     (g.H.Host.log c.write_file.new.host) (g.H.Host.log c.rename.new.host) (c.as_str.ensures.value ∙ c.in_ok-fresh.ensures.ok) (c.as_str-2.ensures.value ∙ c.in_ok-fresh.ensures.ok)
     c.in_ok-write_file.ensures c.rename.ensures

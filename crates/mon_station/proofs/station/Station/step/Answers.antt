@@ -115,3 +115,6 @@ returns-in-FromAgent-clause-keeper g c =
 
 pub returns-in-FromPeer-clause-keeper : goal.returns-in-FromPeer-clause-keeper
 returns-in-FromPeer-clause-keeper g c = never_unless _ _ _ _ c.from_peer.result c.from_peer.ensures.read_err c.from_peer.ensures.answered
+
+pub returns-in-Save-clause-moved : goal.returns-in-Save-clause-moved
+returns-in-Save-clause-moved g c = λ honest save before saved. if_ok c.save.result _ _ (c.save.ensures.saved honest) (λ told kept. (state_of c.args.self.now.life, refl, kept))
