@@ -9,7 +9,7 @@ use Rattle.mon_app.specs.Windows.{rows_of}
 
 -- what a report says of an instance with its window; there are no alarm rules
 abbrev pub reported_row : Row → Entry
-reported_row row = record { engine = row.instance.engine; name = row.instance.name; items = rising row.window.items; rules = [] }
+reported_row row = record { engine = row.instance.engine; name = row.instance.name; items = rising row.window.items; rules = []; alarms = [] }
 
 -- what a replay keeps: the lines that name what it refuses, and of each instance what a report says
 pub record Kept : Type 0 where

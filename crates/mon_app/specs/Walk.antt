@@ -1,10 +1,11 @@
 -- What a walk asks and prints, request by request.
-use Rattle.std.specs.Prelude.{◌≡◌, ◌≢◌, ◌<◌, ℕ, zero, suc, pos, List, [], ◌∷◌, ◌++◌, IsOk, Option, Some, None, Result, Ok, Err, ◌⊎◌}
+use Rattle.std.specs.Prelude.{◌≡◌, ◌≢◌, ◌<◌, ℕ, zero, suc, pos, Bool, false, true, List, [], ◌∷◌, ◌++◌, codes, IfOk, Option, Some, None, Result, Ok, Err, ◌⊎◌}
 use Rattle.std.specs.Ordering.{nat_cmp}
 use Rattle.std.specs.Cmp.Lexicographic.{slice_cmp}
 use Rattle.std.specs.declared.cmp.Ordering.TheVariants.{Less}
-use Rattle.mon_host.specs.AtHost.{AtHost, Printed, Unprinted}
+use Rattle.mon_host.specs.AtHost.{AtHost, Noted, Printed, Unprinted}
 use Rattle.mon_host.specs.Reason.{why}
+use Rattle.mon_host.specs.Then.{Then}
 use Rattle.mon_oid.specs.Oid.{IsPrefix}
 use Rattle.mon_ber.specs.declared.value.Value.TheVariants.{EndOfMibView}
 use Rattle.mon_pdu.specs.declared.message.Binding.{Binding}
@@ -18,6 +19,8 @@ use Rattle.mon_app.specs.declared.walking.Step.{Step}
 use Rattle.mon_app.specs.declared.walking.Step.TheVariants.{On, Past, Back}
 use Rattle.mon_app.specs.declared.walking.Stride.{Stride}
 use Rattle.mon_app.specs.declared.walking.Stride.TheVariants.{Next, Bulk}
+use Rattle.mon_app.specs.declared.walking.Turned.{Turned}
+use Rattle.mon_app.specs.declared.walking.Turned.TheVariants as turned
 use Rattle.mon_app.specs.declared.walking.WalkPlan.{WalkPlan}
 use Rattle.mon_app.specs.AtWire.{AtWire, socket_failures}
 use Rattle.mon_app.specs.Printed.{IsQuestionAnswered, binding_line}
@@ -50,6 +53,23 @@ IsWalkStep start last b On = IsUnderStart start b × Exceeds last b
 IsWalkStep start last b Past = IsPast start b
 IsWalkStep start last b Back = IsUnderStart start b × ¬ (Exceeds last b)
 
+-- whether something was done, as a line that is printed
+abbrev pub has_some : List AtHost → Bool
+has_some [] = false
+has_some (x ∷ xs) = true
+
+-- the last name of a turn after which the walk goes on; None if it is at its end
+abbrev pub name_in : Result Turned WalkFault → Result (Option (List ℕ)) WalkFault
+name_in (Ok (turned.On name)) = Ok (Some name)
+name_in (Ok (turned.Over printed)) = Ok None
+name_in (Err fault) = Err fault
+
+-- a turn that ends a walk well says whether it printed a line
+abbrev pub SaysWhether : List AtHost → Result Turned WalkFault → Type 0
+SaysWhether said (Ok (turned.On name)) = Unit {0}
+SaysWhether said (Ok (turned.Over printed)) = printed ≡ has_some said
+SaysWhether said (Err fault) = Unit {0}
+
 -- The line of a variable was printed, or that failed; or nothing was done, where memory ran out for the line.
 abbrev pub IsSaid : (List ℕ → List ℕ) → Binding → List AtHost → Result Unit WalkFault → Type 0
 IsSaid show b said (Ok done) = said ≡ Printed (binding_line show b) ∷ []
@@ -75,7 +95,7 @@ IsAlong show start last [] said result = (said ≡ []) × ((result ≡ Ok (Some 
 IsAlong show start last (b ∷ bs) said result = EndsAt show start last b said result
     ⊎ (IsWalkStep start last b On × ((rest : List AtHost) × (said ≡ Printed (binding_line show b) ∷ rest) × IsAlong show start b.name bs rest result))
 
--- the same; an answer without a variable doesn't increase either
+-- what is printed of an answer; one without a variable does not increase either
 abbrev pub EndsInLines : (List ℕ → List ℕ) → List ℕ → List ℕ → List Binding → List AtHost → Result (Option (List ℕ)) WalkFault → Type 0
 EndsInLines show start last [] said result = (said ≡ []) × (result ≡ Err (App NotIncreasing))
 EndsInLines show start last (b ∷ bs) said result = IsAlong show start last (b ∷ bs) said result
@@ -85,8 +105,8 @@ abbrev pub Follows : (List ℕ → List ℕ) → List ℕ → List ℕ → Resul
 Follows show start last (Ok found) said result = EndsInLines show start last found said result
 Follows show start last (Err fault) said result = (said ≡ []) × (result ≡ Err (App fault))
 
--- A turn of a walk: the question was answered so, this happened at the wire, and this was printed. Where the walk goes on, the turn
--- gives the last name; where it ends, None.
+-- A turn of a walk: the question was answered so, this happened at the wire, and this was printed. If the walk goes on, the turn
+-- returns the last name; if it ends, None.
 pub record IsTurn (show : List ℕ → List ℕ) (q : Asked) (start last : List ℕ) (said : List AtHost) (log : List AtWire)
     (result : Result (Option (List ℕ)) WalkFault) : Type 0 where
   pub answer : Result (List Binding) AppFault
@@ -106,10 +126,10 @@ abbrev pub last_answer : {A : Type 0} → Result A WalkFault → Result (Option 
 last_answer (Ok done) = Ok None
 last_answer (Err fault) = Err fault
 
--- A whole walk: turns by which it went on, and then a turn that ends it; or 65536 turns. It may run out of memory before its first
--- turn.
-pub record IsWalk {A : Type 0} (show : List ℕ → List ℕ) (after : ℕ → List ℕ → Asked) (start : List ℕ) (log : List AtWire)
-    (said : List AtHost) (result : Result A WalkFault) : Type 0 where
+-- The turns of a walk: those by which it went on, and then one that ends it; or 65536 of them. It may run out of memory before its
+-- first turn. If it ends well it says whether a line was printed.
+pub record AreTurns (show : List ℕ → List ℕ) (after : ℕ → List ℕ → Asked) (start : List ℕ) (log : List AtWire)
+    (said : List AtHost) (result : Result Bool WalkFault) : Type 0 where
   pub turns : ℕ
   pub earlier : List AtWire
   pub lines : List AtHost
@@ -120,8 +140,27 @@ pub record IsWalk {A : Type 0} (show : List ℕ → List ℕ) (after : ℕ → L
   pub log_is : log ≡ earlier ++ others
   pub said_is : said ≡ lines ++ more
   pub ended : ((turns < 65536) × IsTurn show (after turns last) start last more others (last_answer result))
-      ⊎ (((turns ≡ 65536) × (others ≡ []) × (more ≡ []) × IsOk result)
+      ⊎ (((turns ≡ 65536) × (others ≡ []) × (more ≡ []) × (result ≡ Ok true))
       ⊎ ((log ≡ []) × (said ≡ []) × (result ≡ Err (App OutOfMemory))))
+  pub printed : IfOk result (λ printed. printed ≡ has_some said)
+
+-- the line that says that nothing is below a name
+abbrev pub empty_line : List ℕ → List ℕ
+empty_line name = codes "snmpmon: nothing is below " ++ name ++ codes "\n"
+
+-- it is said that nothing is below a name, unless memory ran out for the line
+abbrev pub IsEmptyNoted : List ℕ → List AtHost → Result Unit WalkFault → Type 0
+IsEmptyNoted name said (Ok done) = said ≡ Noted (empty_line name) ∷ []
+IsEmptyNoted name said (Err fault) = (said ≡ []) × (fault ≡ App OutOfMemory)
+
+-- what is said after a walk from a name that ended well: nothing if it printed a line
+abbrev pub IsNotedAfter : List ℕ → Bool → List AtHost → Result Unit WalkFault → Type 0
+IsNotedAfter name true said result = (said ≡ []) × (result ≡ Ok tt)
+IsNotedAfter name false said result = IsEmptyNoted name said result
+
+-- A whole walk: its turns; if they ended well and printed no line, it is said that nothing is below its start.
+abbrev pub IsWalk : (List ℕ → List ℕ) → (ℕ → List ℕ → Asked) → List ℕ → List AtWire → List AtHost → Result Unit WalkFault → Type 0
+IsWalk show after start log = Then (AreTurns show after start log) (IsNotedAfter (show start))
 
 -- a fault of a walk that is of no socket: a name does not increase, memory ran out, or a line could not be printed
 abbrev pub IsOfLines : WalkFault → Type 0

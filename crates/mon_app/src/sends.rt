@@ -8,11 +8,11 @@ pub trait Sends {
     ghost use Rattle.std.specs.Prelude.{List, ℕ, OnErr, OnOk};
     ghost use Rattle.mon_udp.specs.declared.addr.Addr.{Addr as AnyAddr};
 
-    // These octets were sent to this address. Code that is generic over what sends has this from a
-    // call of `send` alone.
+    // These octets were sent to this address. Code that is generic over what sends has this only
+    // from a call of `send`.
     ghost sent: { Self → List ℕ → AnyAddr → Type 0 };
 
-    // These octets could not be sent to this address. Had from a call alone as well.
+    // These octets could not be sent to this address. This too comes only from a call.
     ghost unsent: { Self → List ℕ → AnyAddr → Type 0 };
 
     /// Sends a datagram to this address.

@@ -1,11 +1,11 @@
 //! Walking through the variables under a name.
 
-ghost use Rattle.std.specs.Prelude.{◌≡◌, ◌<◌, ◌↔◌, IfErr, IsTrue};
+ghost use Rattle.std.specs.Prelude.{◌≡◌, ◌<◌, ◌↔◌, ◌||◌, IfErr, IsTrue};
 ghost use Rattle.mon_udp.specs.Told.{GoesOnBy};
 ghost use Rattle.mon_host.specs.Log.{GoesOnBy as HostGoesOnBy};
 ghost use Rattle.mon_app.specs.AtWire.{socket_failures};
 ghost use Rattle.mon_app.specs.Printed.{IsQuestionAnswered};
-ghost use Rattle.mon_app.specs.Walk.{EndsInLines, IsAlong, IsOfLines, IsSaid, IsWalkStep, IsTurn, IsWalk, asking_by, question_after, walk_failures};
+ghost use Rattle.mon_app.specs.Walk.{AreTurns, EndsInLines, IsAlong, IsEmptyNoted, IsOfLines, IsSaid, IsTurn, IsWalk, IsWalkStep, SaysWhether, asking_by, name_in, question_after, walk_failures};
 
 use crate::client::answers;
 use crate::fault::{AppFault, WalkFault};
@@ -28,7 +28,7 @@ const REQUESTS: u32 = 65_536;
 pub enum Stride {
     /// By GetNext, for one variable (RFC 3416 section 4.2.2).
     Next,
-    /// By GetBulk, for at most so many: its max-repetitions (RFC 3416 section 4.2.3).
+    /// By GetBulk, for at most this many: its max-repetitions (RFC 3416 section 4.2.3).
     Bulk(i32),
 }
 
@@ -72,7 +72,8 @@ struct Place<'a> {
 
 /// Asks an agent for what comes after the start, then for what comes after that, and so on, and prints a line for each
 /// variable as soon as it is answered. It ends at the first name that is not under the start, at endOfMibView, or after
-/// 65536 requests. Names are printed as `names` has it, also those that are values.
+/// 65536 requests. Names are printed as `names` has it, also those that are values. If it ended and printed no line, one on
+/// standard error says that nothing is below the start.
 ///
 /// # Errors
 /// `NotIncreasing` where the agent answers with a name that does not increase, or with no variable at all; `Output` where a
@@ -88,6 +89,25 @@ pub fn walk<W: Wire, S: NameTexts, H: Host>(
         asked.now.start.now log said result) (H.log host.old) (H.log host.new)) (W.told wire.old) (W.told wire.new) }
     ensures failures { W.failures wire.new ≡ walk_failures result (W.failures wire.old) }
 {
+    let printed = walk_through(alloc, host, wire, asked, names)?;
+    if printed {
+        return Ok(());
+    }
+    note_empty(alloc, host, asked.start, names)
+}
+
+/// Walks, and returns `true` if a line was printed.
+fn walk_through<W: Wire, S: NameTexts, H: Host>(
+    alloc: Global,
+    host: &mut H,
+    wire: &mut W,
+    asked: &WalkPlan<'_>,
+    names: &S,
+) -> Result<bool, WalkFault>
+    ensures walk { GoesOnBy (λ log. HostGoesOnBy (λ said. AreTurns (S.shown names.now) (question_after asked.now)
+        asked.now.start.now log said result) (H.log host.old) (H.log host.new)) (W.told wire.old) (W.told wire.new) }
+    ensures failures { W.failures wire.new ≡ walk_failures result (W.failures wire.old) }
+{
     let mut last = asked.start.try_clone(alloc)?;
     for request_id in 0..REQUESTS {
         let turn = Turn {
@@ -96,26 +116,56 @@ pub fn walk<W: Wire, S: NameTexts, H: Host>(
             request_id,
         };
         match walk_on(alloc, host, wire, &turn, names)? {
-            Some(name) => last = name,
-            None => return Ok(()),
+            Turned::On(name) => last = name,
+            Turned::Over(printed) => return Ok(is_either(request_id > 0, printed)),
         }
     }
+    Ok(true)
+}
+
+/// Returns `true` if one of these is.
+fn is_either(a: bool, b: bool) -> bool
+    ensures { result ≡ (a || b) }
+{
+    a || b
+}
+
+/// Says that nothing is below the start of a walk.
+fn note_empty<S: NameTexts, H: Host>(
+    alloc: Global,
+    host: &mut H,
+    start: &Oid,
+    names: &S,
+) -> Result<(), WalkFault>
+    ensures said { HostGoesOnBy (λ said. IsEmptyNoted (S.shown names.now start.now) said result) (H.log host.old) (H.log host.new) }
+    ensures fault { IfErr result IsOfLines }
+{
+    let name = names.text(alloc, start)?;
+    host.note(format_args!("snmpmon: nothing is below {name}\n"));
     Ok(())
 }
 
-/// Prints the lines of what comes after the last name, and returns the name of the last of them, or
-/// None if the walk is at its end.
+/// How a walk goes on after a turn.
+#[derive(Drop)]
+enum Turned {
+    /// After this name.
+    On(Oid),
+    /// It is at its end; `true` if the turn printed a line.
+    Over(bool),
+}
+
+/// Prints the lines of what comes after the last name, and returns how the walk goes on.
 fn walk_on<W: Wire, S: NameTexts, H: Host>(
     alloc: Global,
     host: &mut H,
     wire: &mut W,
     turn: &Turn<'_>,
     names: &S,
-) -> Result<Option<Oid>, WalkFault>
+) -> Result<Turned, WalkFault>
     requires few { turn.now.request_id < 65536 }
     ensures turn { GoesOnBy (λ log. HostGoesOnBy (λ said. IsTurn (S.shown names.now)
         (question_after turn.now.asked turn.now.request_id turn.now.last.now) turn.now.asked.start.now turn.now.last.now
-        said log result) (H.log host.old) (H.log host.new)) (W.told wire.old) (W.told wire.new) }
+        said log (name_in result) × SaysWhether said result) (H.log host.old) (H.log host.new)) (W.told wire.old) (W.told wire.new) }
     ensures failures { W.failures wire.new ≡ walk_failures result (W.failures wire.old) }
 {
     let found = after(alloc, wire, turn)?;
@@ -141,17 +191,17 @@ fn after<W: Wire>(alloc: Global, wire: &mut W, turn: &Turn<'_>) -> Result<Bindin
     answers(alloc, wire, &question)
 }
 
-/// Prints the lines of the variable bindings of an answer that the walk goes on by, and returns the
-/// name of the last one, or None if the walk is at its end.
+/// Prints the lines of the variable bindings of an answer that the walk goes on by, and returns how
+/// it goes on.
 fn print_found<S: NameTexts, H: Host>(
     alloc: Global,
     host: &mut H,
     at: Place<'_>,
     found: &[Binding],
     names: &S,
-) -> Result<Option<Oid>, WalkFault>
+) -> Result<Turned, WalkFault>
     ensures lines { HostGoesOnBy (λ said. EndsInLines (S.shown names.now) at.entry.start.now at.entry.last.now
-        found.now said result) (H.log host.old) (H.log host.new) }
+        found.now said (name_in result) × SaysWhether said result) (H.log host.old) (H.log host.new) }
     ensures fault { IfErr result IsOfLines }
 {
     if found.is_empty() {
@@ -160,29 +210,30 @@ fn print_found<S: NameTexts, H: Host>(
     print_lines(alloc, host, at, found, names)
 }
 
-/// Prints the lines of the variable bindings that the walk goes on by, and returns the name of the
-/// last one, or None if the walk is at its end.
+/// Prints the lines of the variable bindings that the walk goes on by, and returns how it goes on.
 fn print_lines<S: NameTexts, H: Host>(
     alloc: Global,
     host: &mut H,
     at: Place<'_>,
     found: &[Binding],
     names: &S,
-) -> Result<Option<Oid>, WalkFault>
+) -> Result<Turned, WalkFault>
     ensures lines { HostGoesOnBy (λ said. IsAlong (S.shown names.now) at.entry.start.now at.entry.last.now
-        found.now said result) (H.log host.old) (H.log host.new) }
+        found.now said (name_in result) × SaysWhether said result) (H.log host.old) (H.log host.new) }
     ensures fault { IfErr result IsOfLines }
 {
     let Place { start, mut last } = at;
+    let mut printed = false;
     for binding in found {
         match step_of(start, last, binding) {
-            Step::Past => return Ok(None),
+            Step::Past => return Ok(Turned::Over(printed)),
             Step::Back => return Err(WalkFault::App(AppFault::NotIncreasing)),
             Step::On => print_line(alloc, host, binding, names)?,
         }
         last = &binding.name;
+        printed = true;
     }
-    Ok(Some(last.try_clone(alloc)?))
+    Ok(Turned::On(last.try_clone(alloc)?))
 }
 
 /// Prints the line of a variable binding.

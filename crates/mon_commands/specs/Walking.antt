@@ -81,6 +81,6 @@ IsWalkBy agents bulk query log result = (stride : Stride) × IsStride bulk strid
     × IsWalkOf agents query stride query.asked.items log result
 
 -- The command `walk`: what the arguments ask is read, and then each variable is printed as soon as
--- it is answered.
+-- it is answered. If the walk ended well and printed none, it is said that nothing is below its name.
 abbrev pub IsWalking : Agents → WalkArgs → List AtHost → Result Unit Failure → Type 0
 IsWalking agents words = Then (IsQuery words.request) (IsWalkBy agents words.bulk)

@@ -13,7 +13,8 @@ use mon_smi::{InNumbers, NameTexts};
 use std::alloc::Global;
 
 /// Walks through the variables under the name, and prints each as soon as it is answered. It ends
-/// at the first line that cannot be printed.
+/// at the first line that cannot be printed. If there is no variable, a line on standard error says
+/// that nothing is below the name.
 pub fn walk<N: Opens, H: Host>(
     alloc: Global,
     host: &mut H,

@@ -9,6 +9,7 @@ pub mod Lists
 pub mod Place
 pub mod Placing
 pub mod Resolving
+pub mod RoundTime
 pub mod SettingsFault
 pub mod Station
 pub mod StationAccepted

@@ -1,13 +1,13 @@
--- Groups of counters, and the texts of their settings.
+-- Groups of counters, and their settings.
 use Rattle.std.proofs.Common.{◌≡◌, ◌≤◌, ◌+◌, ◌++◌, ◌∷◌, ◌⊎◌, Bool, List, ℕ, [], length, sym, ap, arith, ◌∙◌, subst}
 use Rattle.std.proofs.lemmas.List.{length-append}
-use Rattle.std.specs.Global.{Global}
-use Rattle.std.specs.Prelude.{IfErr, IsErrAnd, Some, Result, Ok, Err, String}
+use Rattle.std.specs.Prelude.{IfErr, IsErrAnd, Some, Result, Ok, Err}
 use Rattle.mon_console.specs.declared.failure.Failure.{Failure}
 use Rattle.mon_survey.specs.Plan.{planned_of}
 use Rattle.mon_survey.specs.declared.choice.Choice.{Choice}
 use Rattle.mon_survey.specs.declared.fault.SurveyFault.{SurveyFault}
 use Rattle.mon_survey.specs.declared.fault.SurveyFault.TheVariants as faults
+use Rattle.mon_survey.specs.declared.longest.Drafted.{Drafted}
 use Rattle.mon_settings_commands.specs.Parts.{AreGroupsFrom, HasGroups, HasNoPlan}
 use Rattle.mon_settings_commands.specs.Settings.{IsSettingsOf}
 use Rattle.mon_settings_commands.specs.Source.{IsChoice, IsOfSurvey, Source}
@@ -18,11 +18,11 @@ pub no_plan : (s : Source) (group : ℕ) (choice : Choice) (fault : SurveyFault)
 no_plan s group choice fault (Ok has) is cause said = tt
 no_plan s group choice fault (Err failure) is cause said = (group, choice, fault, is, said, cause)
 
--- the text of the next group
-pub groups_on : (s : Source) (first : ℕ) (texts : List (String Global)) (text : String Global) → AreGroupsFrom s first texts → IsSettingsOf s (Some (first + length texts)) (Ok text)
-    → AreGroupsFrom s first (texts ++ text ∷ [])
-groups_on s first [] text are is = (subst (λ (n : ℕ). IsSettingsOf s (Some n) (Ok text)) (grind (arith)) is, tt)
-groups_on s first (t ∷ texts) text are is = (are.0, groups_on s (first + 1) texts text are.1 (subst (λ (n : ℕ). IsSettingsOf s (Some n) (Ok text)) (grind (arith)) is))
+-- the settings of the next group
+pub groups_on : (s : Source) (first : ℕ) (parts : List Drafted) (part : Drafted) → AreGroupsFrom s first parts → IsSettingsOf s (Some (first + length parts)) (Ok part)
+    → AreGroupsFrom s first (parts ++ part ∷ [])
+groups_on s first [] part are is = (subst (λ (n : ℕ). IsSettingsOf s (Some n) (Ok part)) (grind (arith)) is, tt)
+groups_on s first (p ∷ parts) part are is = (are.0, groups_on s (first + 1) parts part are.1 (subst (λ (n : ℕ). IsSettingsOf s (Some n) (Ok part)) (grind (arith)) is))
 
 -- a failure that a `?` made has what it had
 pub still : {A : Type 0} → (P : Failure → Type 0) (failure : Failure) (r : Result A Failure) → IsErrAnd r (λ f. f ≡ failure) → P failure → IfErr r P
@@ -33,13 +33,13 @@ zero-plus : (n : ℕ) → 0 + n ≡ n
 zero-plus n = grind (arith)
 
 -- the settings of one group more
-pub one_group_more : (s : Source) (before after : List (String Global)) (group : ℕ) → length before ≡ group → AreGroupsFrom s 0 before
-    → ((text : String Global) × (after ≡ before ++ text ∷ []) × IsSettingsOf s (Some group) (Ok text)) → (length after ≡ group + 1) × AreGroupsFrom s 0 after
-one_group_more s before after group is are (text, now, said) = (
-  ap length now ∙ (length-append before (text ∷ []) ∙ ap (λ n. n + 1) is),
-  subst (λ (ts : List (String Global)). AreGroupsFrom s 0 ts) (sym now) (groups_on s 0 before text are (subst (λ (n : ℕ). IsSettingsOf s (Some n) (Ok text)) (sym (zero-plus (length before) ∙ is)) said)),
+pub one_group_more : (s : Source) (before after : List Drafted) (group : ℕ) → length before ≡ group → AreGroupsFrom s 0 before
+    → ((part : Drafted) × (after ≡ before ++ part ∷ []) × IsSettingsOf s (Some group) (Ok part)) → (length after ≡ group + 1) × AreGroupsFrom s 0 after
+one_group_more s before after group is are (part, now, said) = (
+  ap length now ∙ (length-append before (part ∷ []) ∙ ap (λ n. n + 1) is),
+  subst (λ (ts : List Drafted). AreGroupsFrom s 0 ts) (sym now) (groups_on s 0 before part are (subst (λ (n : ℕ). IsSettingsOf s (Some n) (Ok part)) (sym (zero-plus (length before) ∙ is)) said)),
 )
 
--- there are as many texts as groups
-pub all_groups : (s : Source) (texts : List (String Global)) (group groups : ℕ) → length texts ≡ group → groups ≤ group → group ≤ groups → HasGroups s groups → HasGroups s (length texts)
-all_groups s texts group groups is past fits has = let same : group ≡ groups = omega (arith, past, fits) in subst (λ (n : ℕ). HasGroups s n) (sym (is ∙ same)) has
+-- there are as many settings as groups
+pub all_groups : (s : Source) (parts : List Drafted) (group groups : ℕ) → length parts ≡ group → groups ≤ group → group ≤ groups → HasGroups s groups → HasGroups s (length parts)
+all_groups s parts group groups is past fits has = let same : group ≡ groups = omega (arith, past, fits) in subst (λ (n : ℕ). HasGroups s n) (sym (is ∙ same)) has

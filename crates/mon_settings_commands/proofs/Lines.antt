@@ -19,6 +19,10 @@ of_5 a b c d e = of_3 a b (c ++ (d ++ e)) ∙ of_4 (a ++ b) c d e
 pub of_6 : (a b c d e f : List ℕ) → a ++ (b ++ (c ++ (d ++ (e ++ f)))) ≡ a ++ b ++ c ++ d ++ e ++ f
 of_6 a b c d e f = of_3 a b (c ++ (d ++ (e ++ f))) ∙ of_5 (a ++ b) c d e f
 
+pub of_9 : (a b c d e f g h i : List ℕ)
+    → a ++ (b ++ (c ++ (d ++ (e ++ (f ++ (g ++ (h ++ i))))))) ≡ a ++ b ++ c ++ d ++ e ++ f ++ g ++ h ++ i
+of_9 a b c d e f g h i = of_5 a b c d (e ++ (f ++ (g ++ (h ++ i)))) ∙ of_6 (a ++ b ++ c ++ d) e f g h i
+
 -- the same text in another form
 pub reads_as : (made : Result (String Global) AllocError) (text other : List ℕ) → IfOk made (λ t. string_bytes t ≡ text) → text ≡ other
     → IfOk made (λ t. string_bytes t ≡ other)

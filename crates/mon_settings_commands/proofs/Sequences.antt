@@ -1,5 +1,5 @@
 -- What follows each step of the command `settings`.
-use Rattle.std.proofs.Common.{List, ℕ, [], length, map, string_bytes}
+use Rattle.std.proofs.Common.{List, ℕ, [], length, string_bytes}
 use Rattle.std.specs.Global.{Global, Vec}
 use Rattle.std.specs.Prelude.{Result, String, option_copied}
 use Rattle.mon_app.specs.Network.{Agents}
@@ -7,6 +7,7 @@ use Rattle.mon_cli.specs.declared.meaning.SettingsArgs.{SettingsArgs}
 use Rattle.mon_console.specs.declared.failure.Failure.{Failure}
 use Rattle.mon_host.specs.AtHost.{AtHost}
 use Rattle.mon_host.specs.Then.{Then}
+use Rattle.mon_survey.specs.declared.longest.Drafted.{Drafted}
 use Rattle.mon_settings_commands.specs.Appended.{AreOldLabels, IsExisting, IsLonger}
 use Rattle.mon_settings_commands.specs.Asked.{IsAsking}
 use Rattle.mon_settings_commands.specs.Command.{source}
@@ -29,11 +30,11 @@ AfterExisting agents words asked existing = Then (AreOldLabels (option_copied wo
 abbrev pub AfterAlone : Agents → SettingsArgs → Asked → List ℕ → Unit {0} → List AtHost → Result Unit Failure → Type 0
 AfterAlone agents words asked path done = Then (IsExisting path) (AfterExisting agents words asked)
 
-abbrev pub AfterLabels : List ℕ → Vec (String Global) → Unit {0} → List AtHost → Result Unit Failure → Type 0
-AfterLabels folder texts done = AreWritten folder 0 (map string_bytes texts.items)
+abbrev pub AfterLabels : List ℕ → Vec Drafted → Unit {0} → List AtHost → Result Unit Failure → Type 0
+AfterLabels folder parts done = AreWritten folder 0 parts.items
 
-abbrev pub AfterAbsent : Source → List ℕ → Vec (String Global) → Unit {0} → List AtHost → Result Unit Failure → Type 0
-AfterAbsent s folder texts done = Then (AreLabels s []) (AfterLabels folder texts)
+abbrev pub AfterAbsent : Source → List ℕ → Vec Drafted → Unit {0} → List AtHost → Result Unit Failure → Type 0
+AfterAbsent s folder parts done = Then (AreLabels s []) (AfterLabels folder parts)
 
-abbrev pub AfterTexts : Source → List ℕ → Vec (String Global) → List AtHost → Result Unit Failure → Type 0
-AfterTexts s folder texts = Then (AreAbsent folder 0 (length texts.items)) (AfterAbsent s folder texts)
+abbrev pub AfterParts : Source → List ℕ → Vec Drafted → List AtHost → Result Unit Failure → Type 0
+AfterParts s folder parts = Then (AreAbsent folder 0 (length parts.items)) (AfterAbsent s folder parts)

@@ -3,7 +3,7 @@ use Rattle.std.specs.Prelude.{◌≡◌, ◌≢◌, ◌⊎◌, ℕ, List, [], Op
 use Rattle.std.specs.Global.{Global}
 use Rattle.mon_app.specs.declared.fault.AppFault.TheVariants.{BadText}
 use Rattle.mon_cli.specs.declared.meaning.SettingsArgs.{SettingsArgs}
-use Rattle.mon_console.specs.Files.{IsPrint, IsText}
+use Rattle.mon_console.specs.Files.{IsText}
 use Rattle.mon_console.specs.Naming.{AreNames}
 use Rattle.mon_console.specs.Settings.{AreModuleFiles, AreSettings}
 use Rattle.mon_console.specs.declared.failure.Failure.{Failure}
@@ -15,9 +15,10 @@ use Rattle.mon_smi.specs.declared.definition.Definition.{Definition}
 use Rattle.mon_survey.specs.Appended.{IsAppendFault, IsAppendedText}
 use Rattle.mon_survey.specs.declared.choice.Choice.{Choice}
 use Rattle.mon_survey.specs.declared.fault.SurveyFault.{SurveyFault}
+use Rattle.mon_survey.specs.declared.longest.Drafted.{Drafted}
 use Rattle.mon_survey.specs.declared.options.Options.{Options}
 use Rattle.mon_settings_commands.specs.Notes.{AreSpeedsNoted, Surely}
-use Rattle.mon_settings_commands.specs.Settings.{AreLabels}
+use Rattle.mon_settings_commands.specs.Settings.{AreLabels, IsDraftPrinted}
 use Rattle.mon_settings_commands.specs.Source.{IsChoice, IsOfSurvey, Source}
 use Rattle.mon_settings_commands.specs.Texts.{AreOptions, IsOfOptions}
 use Rattle.mon_settings_commands.specs.declared.existing.Existing.{Existing}
@@ -46,17 +47,18 @@ abbrev pub AreOldLabels : Option (List ℕ) → List AtHost → Result (String G
 AreOldLabels None = Quietly (λ result. IfOk result (λ text. string_bytes text ≡ []) × IfErr result (λ failure. ⊥))
 AreOldLabels (Some path) = IsText path
 
--- Settings with the agent's targets at their end; or why there are none.
-abbrev pub IsAppendedOf : Source → Existing → Result (String Global) Failure → Type 0
-IsAppendedOf s existing (Ok text) = (o : Options) × (choice : Choice) × AreOptions s 0 o × IsChoice s None choice
-    × IsAppendedText existing.names choice o (string_bytes existing.text) (station_view existing.station) s.survey.engine.items s.survey.answers (string_bytes text)
+-- Settings with the agent's targets at their end, with how long a round of the whole takes at most; or
+-- why there are none.
+abbrev pub IsAppendedOf : Source → Existing → Result Drafted Failure → Type 0
+IsAppendedOf s existing (Ok drafted) = (o : Options) × (choice : Choice) × AreOptions s 0 o × IsChoice s None choice
+    × IsAppendedText existing.names choice o (string_bytes existing.text) (station_view existing.station) s.survey.engine.items s.survey.answers (string_bytes drafted.text) drafted.longest
 IsAppendedOf s existing (Err failure) = IsOfOptions failure
     ⊎ ((o : Options) × (choice : Choice) × (fault : SurveyFault) × AreOptions s 0 o × IsChoice s None choice × IsOfSurvey fault failure
     × IsAppendFault existing.names choice o (string_bytes existing.text) (station_view existing.station) s.survey.engine.items s.survey.answers fault)
 
 -- Labels are replaced before the longer settings are printed.
 abbrev pub IsPutLonger : Source → Existing → List ℕ → List AtHost → Result Unit Failure → Type 0
-IsPutLonger s existing old = Then (Quietly (IsAppendedOf s existing)) (λ text. Then (AreLabels s old) (λ done. IsPrint (string_bytes text)))
+IsPutLonger s existing old = Then (Quietly (IsAppendedOf s existing)) (λ drafted. Then (AreLabels s old) (λ done. IsDraftPrinted drafted))
 
 -- after that it is said for how many of the agent's interfaces there is no threshold
 abbrev pub IsLonger : Source → Existing → List ℕ → List AtHost → Result Unit Failure → Type 0

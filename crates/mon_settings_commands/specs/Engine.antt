@@ -61,7 +61,7 @@ IsEngineStill engine bindings (Ok done) = HasEngine bindings engine
 IsEngineStill engine bindings (Err failure) = (HasNoEngine bindings × IsOfSurvey NoEngine failure)
     ⊎ ((other : List ℕ) × HasEngine bindings other × (other ≢ engine) × IsOfSurvey EngineChanged failure)
 
--- the agent is asked for the four once more, and its engine id has to be the same
+-- the agent is asked for the four again, and its engine id must be the one before
 abbrev pub IsSameEngine : List ℕ → List ℕ → List Exchange → Result Unit Failure → Type 0
 IsSameEngine agent engine = Then (IsFirstAsked agent)
     (λ bindings. Quietly (IsEngineStill engine bindings.items))

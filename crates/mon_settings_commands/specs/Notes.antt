@@ -1,14 +1,31 @@
--- What is said on standard error once settings are printed or written.
+-- What is said on standard error of settings that are printed or written.
 use Rattle.std.specs.Prelude.{◌≡◌, ◌++◌, ◌==◌, ◌∷◌, ℕ, List, [], None, Result, Ok, codes, decimal, if◌then◌else◌}
+use Rattle.mon_console.specs.Files.{IsPrint}
 use Rattle.mon_console.specs.declared.failure.Failure.{Failure}
 use Rattle.mon_host.specs.AtHost.{AtHost, Noted}
+use Rattle.mon_host.specs.Then.{Then}
 use Rattle.mon_survey.specs.Plan.{count_without_speed}
 use Rattle.mon_survey.specs.declared.choice.Choice.{Choice}
+use Rattle.mon_survey.specs.declared.longest.LongestRound.{LongestRound}
 use Rattle.mon_settings_commands.specs.Source.{IsChoice, Source}
 
 -- a step that always succeeds, of which this holds
 abbrev pub Surely : (List AtHost → Type 0) → List AtHost → Result Unit Failure → Type 0
 Surely Holds log result = Holds log × (result ≡ Ok tt)
+
+-- the line that says how long a round of some settings, named by this text, takes at most
+abbrev pub round_line : List ℕ → LongestRound → List ℕ
+round_line settings longest = codes "snmpmon: a round of " ++ settings ++ codes " takes at most "
+    ++ decimal longest.most ++ codes " ms (wait_ms = " ++ decimal longest.wait_ms
+    ++ codes ", tries = " ++ decimal longest.tries ++ codes ")\n"
+
+-- it is said how long a round takes at most, in one line
+abbrev pub IsRoundNoted : List ℕ → LongestRound → List AtHost → Type 0
+IsRoundNoted settings longest log = log ≡ Noted (round_line settings longest) ∷ []
+
+-- octets are printed, and after that it is said how long a round takes at most
+abbrev pub IsPrintNoted : List ℕ → List ℕ → LongestRound → List AtHost → Result Unit Failure → Type 0
+IsPrintNoted octets settings longest = Then (IsPrint octets) (λ done. Surely (IsRoundNoted settings longest))
 
 -- the line that says for how many interfaces there is no threshold
 abbrev pub speed_line : ℕ → List ℕ

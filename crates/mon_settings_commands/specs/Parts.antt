@@ -1,8 +1,8 @@
 -- The settings of several stations, a file each.
-use Rattle.std.specs.Prelude.{◌≡◌, ◌⊎◌, ◌+◌, ℕ, zero, suc, true, false, List, [], ◌∷◌, ◌++◌, Some, Result, Ok, Err, String, codes, decimal, length, map, string_bytes}
-use Rattle.std.specs.Global.{Global, Vec}
+use Rattle.std.specs.Prelude.{◌≡◌, ◌⊎◌, ◌+◌, ℕ, zero, suc, true, false, List, [], ◌∷◌, ◌++◌, Some, Result, Ok, Err, codes, decimal, length, string_bytes}
+use Rattle.std.specs.Global.{Vec}
 use Rattle.mon_app.specs.declared.fault.AppFault.TheVariants.{FileFault}
-use Rattle.mon_console.specs.Files.{IsPrint, IsWrite}
+use Rattle.mon_console.specs.Files.{IsWrite}
 use Rattle.mon_console.specs.Failure.{IsMemory, IsOfStream, IsSaid}
 use Rattle.mon_console.specs.declared.failure.Failure.{Failure}
 use Rattle.mon_faults.specs.declared.fault.Fault.TheVariants.{App}
@@ -13,6 +13,8 @@ use Rattle.mon_survey.specs.Plan.{planned_of}
 use Rattle.mon_survey.specs.declared.choice.Choice.{Choice}
 use Rattle.mon_survey.specs.declared.fault.SurveyFault.{SurveyFault}
 use Rattle.mon_survey.specs.declared.fault.SurveyFault.TheVariants as faults
+use Rattle.mon_survey.specs.declared.longest.Drafted.{Drafted}
+use Rattle.mon_settings_commands.specs.Notes.{IsPrintNoted}
 use Rattle.mon_settings_commands.specs.Settings.{AreLabels, IsSettingsOf}
 use Rattle.mon_settings_commands.specs.Source.{IsChoice, IsOfSurvey, OrMemory, Source}
 
@@ -24,13 +26,14 @@ part_path folder place = folder ++ codes "/station-" ++ decimal (place + 1) ++ c
 abbrev pub IsTaken : List ℕ → Failure → Type 0
 IsTaken path = IsSaid (App FileFault) (path ++ codes ": a file is there, and is not replaced")
 
--- a file is written and its name printed
-abbrev pub IsNamedWritten : List ℕ → List ℕ → List AtHost → Result Unit Failure → Type 0
-IsNamedWritten path text = Then (IsWrite path text) (λ done. OrMemory (IsPrint (path ++ 10 ∷ [])))
+-- settings are written to a file, its name is printed, and it is said how long a round takes at most
+abbrev pub IsNamedWritten : List ℕ → Drafted → List AtHost → Result Unit Failure → Type 0
+IsNamedWritten path drafted = Then (IsWrite path (string_bytes drafted.text))
+    (λ done. OrMemory (IsPrintNoted (path ++ 10 ∷ []) path drafted.longest))
 
--- a file is written and its name printed, unless memory ran out for its path
-abbrev pub IsPartWritten : List ℕ → List ℕ → List AtHost → Result Unit Failure → Type 0
-IsPartWritten path text = OrMemory (IsNamedWritten path text)
+-- settings are written to a file, unless memory ran out for its path
+abbrev pub IsPartWritten : List ℕ → Drafted → List AtHost → Result Unit Failure → Type 0
+IsPartWritten path drafted = OrMemory (IsNamedWritten path drafted)
 
 -- nothing is at a path; or something is, or it cannot be seen, as the failure says
 abbrev pub IsAbsent : List ℕ → List AtHost → Result Unit Failure → Type 0
@@ -48,11 +51,11 @@ AreAbsent folder place zero log result = (log ≡ []) × (result ≡ Ok tt)
 AreAbsent folder place (suc n) log result =
     Then (IsPartAbsent (part_path folder place)) (λ done. AreAbsent folder (place + 1) n) log result
 
--- texts are written in order, each into the file of its place, from this place on
-abbrev pub AreWritten : List ℕ → ℕ → List (List ℕ) → List AtHost → Result Unit Failure → Type 0
+-- settings are written in order, each into the file of its place, from this place on
+abbrev pub AreWritten : List ℕ → ℕ → List Drafted → List AtHost → Result Unit Failure → Type 0
 AreWritten folder place [] log result = (log ≡ []) × (result ≡ Ok tt)
-AreWritten folder place (text ∷ texts) log result =
-    Then (IsPartWritten (part_path folder place) text) (λ done. AreWritten folder (place + 1) texts) log result
+AreWritten folder place (d ∷ ds) log result =
+    Then (IsPartWritten (part_path folder place) d) (λ done. AreWritten folder (place + 1) ds) log result
 
 -- a group has no counters
 abbrev pub HasNoCounter : Source → ℕ → Type 0
@@ -67,19 +70,19 @@ HasNoPlan s failure = (group : ℕ) × (choice : Choice) × (fault : SurveyFault
 abbrev pub HasGroups : Source → ℕ → Type 0
 HasGroups s count = (count ≡ 65536) ⊎ HasNoCounter s count
 
--- texts are the settings of groups, from this one on
-abbrev pub AreGroupsFrom : Source → ℕ → List (String Global) → Type 0
+-- these are the settings of groups, from this one on
+abbrev pub AreGroupsFrom : Source → ℕ → List Drafted → Type 0
 AreGroupsFrom s group [] = Unit {0}
-AreGroupsFrom s group (text ∷ texts) = IsSettingsOf s (Some group) (Ok text) × AreGroupsFrom s (group + 1) texts
+AreGroupsFrom s group (d ∷ ds) = IsSettingsOf s (Some group) (Ok d) × AreGroupsFrom s (group + 1) ds
 
 -- The settings of each group; or why there are none: a group has no plan, or no settings.
-abbrev pub ArePartTexts : Source → Result (Vec (String Global)) Failure → Type 0
-ArePartTexts s (Ok texts) = HasGroups s (length texts.items) × AreGroupsFrom s 0 texts.items
-ArePartTexts s (Err failure) = HasNoPlan s failure
+abbrev pub AreParted : Source → Result (Vec Drafted) Failure → Type 0
+AreParted s (Ok parts) = HasGroups s (length parts.items) × AreGroupsFrom s 0 parts.items
+AreParted s (Err failure) = HasNoPlan s failure
     ⊎ ((group : ℕ) × (IsMemory failure ⊎ IsSettingsOf s (Some group) (Err failure)))
 
 -- The settings of several stations. No file is replaced: it is looked whether each is absent before
 -- anything is written, and labels are replaced before the first file is made.
 abbrev pub AreParts : Source → List ℕ → List AtHost → Result Unit Failure → Type 0
-AreParts s folder = Then (Quietly (ArePartTexts s)) (λ texts. Then (AreAbsent folder 0 (length texts.items)) (λ absent.
-    Then (AreLabels s []) (λ done. AreWritten folder 0 (map string_bytes texts.items))))
+AreParts s folder = Then (Quietly (AreParted s)) (λ parts. Then (AreAbsent folder 0 (length parts.items)) (λ absent.
+    Then (AreLabels s []) (λ done. AreWritten folder 0 parts.items)))

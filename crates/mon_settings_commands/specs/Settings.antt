@@ -1,8 +1,8 @@
 -- The settings that the command `settings` prints.
-use Rattle.std.specs.Prelude.{◌≡◌, ◌⊎◌, ℕ, List, [], Option, Some, None, Result, Ok, Err, String, length, option_copied, string_bytes}
+use Rattle.std.specs.Prelude.{◌≡◌, ◌⊎◌, ℕ, List, [], Option, Some, None, Result, Ok, Err, String, codes, length, option_copied, string_bytes}
 use Rattle.std.specs.Global.{Global}
 use Rattle.hex.specs.Hex.{encode_lower}
-use Rattle.mon_console.specs.Files.{IsPrint, IsReplacing}
+use Rattle.mon_console.specs.Files.{IsReplacing}
 use Rattle.mon_console.specs.declared.failure.Failure.{Failure}
 use Rattle.mon_host.specs.AtHost.{AtHost}
 use Rattle.mon_host.specs.Then.{Quietly, Then}
@@ -11,7 +11,9 @@ use Rattle.mon_survey.specs.Labels.{IsLabels, IsNoLabels, indexes_of}
 use Rattle.mon_survey.specs.Meant.{IsFault, IsSettingsText}
 use Rattle.mon_survey.specs.declared.choice.Choice.{Choice}
 use Rattle.mon_survey.specs.declared.fault.SurveyFault.{SurveyFault}
+use Rattle.mon_survey.specs.declared.longest.Drafted.{Drafted}
 use Rattle.mon_survey.specs.declared.options.Options.{Options}
+use Rattle.mon_settings_commands.specs.Notes.{IsPrintNoted}
 use Rattle.mon_settings_commands.specs.Source.{IsChoice, IsOfSurvey, Source}
 use Rattle.mon_settings_commands.specs.Texts.{AreOptions, IsOfOptions}
 
@@ -20,11 +22,11 @@ abbrev pub up_of : Option ℕ → ℕ
 up_of None = 0
 up_of (Some group) = group
 
--- The settings of a group or of all: a text by the options and what the agent answered, or why there
--- is none.
-abbrev pub IsSettingsOf : Source → Option ℕ → Result (String Global) Failure → Type 0
-IsSettingsOf s group (Ok text) = (o : Options) × (choice : Choice) × AreOptions s (up_of group) o × IsChoice s group choice
-    × IsSettingsText s.names (shown_by s.names (length o.modules.now)) choice o s.survey.engine.items s.survey.answers (string_bytes text)
+-- The settings of a group or of all: a text by the options and what the agent answered, with how long
+-- a round of what it is read as takes at most; or why there is none.
+abbrev pub IsSettingsOf : Source → Option ℕ → Result Drafted Failure → Type 0
+IsSettingsOf s group (Ok drafted) = (o : Options) × (choice : Choice) × AreOptions s (up_of group) o × IsChoice s group choice
+    × IsSettingsText s.names (shown_by s.names (length o.modules.now)) choice o s.survey.engine.items s.survey.answers (string_bytes drafted.text) drafted.longest
 IsSettingsOf s group (Err failure) = IsOfOptions failure
     ⊎ ((o : Options) × (choice : Choice) × (fault : SurveyFault) × AreOptions s (up_of group) o × IsChoice s group choice × IsOfSurvey fault failure
     × IsFault s.names (shown_by s.names (length o.modules.now)) choice o s.survey.engine.items s.survey.answers fault)
@@ -49,6 +51,10 @@ AreLabelsFor s old (Some path) = AreLabelsAt s path old
 abbrev pub AreLabels : Source → List ℕ → List AtHost → Result Unit Failure → Type 0
 AreLabels s old = AreLabelsFor s old (option_copied s.words.labels)
 
--- The settings of one station: labels are replaced before the text is printed.
+-- settings are printed, and it is said how long a round of them takes at most
+abbrev pub IsDraftPrinted : Drafted → List AtHost → Result Unit Failure → Type 0
+IsDraftPrinted drafted = IsPrintNoted (string_bytes drafted.text) (codes "these settings") drafted.longest
+
+-- The settings of one station: labels are replaced before they are printed.
 abbrev pub IsWhole : Source → List AtHost → Result Unit Failure → Type 0
-IsWhole s = Then (Quietly (IsSettingsOf s None)) (λ text. Then (AreLabels s []) (λ done. IsPrint (string_bytes text)))
+IsWhole s = Then (Quietly (IsSettingsOf s None)) (λ drafted. Then (AreLabels s []) (λ done. IsDraftPrinted drafted))

@@ -42,7 +42,7 @@ IsSurveyOf agent head cells = Then (IsSameEngine agent head.engine.items)
     })))
 
 -- A survey: the agent is asked for its engine, for the columns that the kinds need, and for its
--- engine once more.
+-- engine again.
 abbrev pub IsSurvey : List ℕ → Kinds → List Exchange → Result Survey Failure → Type 0
 IsSurvey agent kinds = Then (IsHead agent)
     (λ head. Then (AreWalked agent kinds columns [])

@@ -34,7 +34,7 @@ pub data Turned : Type 0 where
   On : Stand → Turned
   Over : List Cell → Turned
 
--- a call that says whether the walk goes on, after which it stands here
+-- a call that says whether the walk goes on, after which it is here
 abbrev pub turned : Stand → Result Bool Failure → Result Turned Failure
 turned s (Ok true) = Ok (On s)
 turned s (Ok false) = Ok (Over s.cells)
@@ -105,7 +105,7 @@ abbrev pub IsTurn : List ℕ → Stand → List Exchange → Result Turned Failu
 IsTurn agent s = Then (IsQuestion agent bulk (s.place.last ∷ []))
     (λ bindings. Quietly (IsReplyPut agent s bindings.items))
 
--- after this many turns, by which the walk went on, it stands here
+-- after this many turns, by which the walk went on, it is here
 abbrev pub HasTurned : List ℕ → Stand → ℕ → List Exchange → Stand → Type 0
 HasTurned agent first zero log now = (log ≡ []) × (now ≡ first)
 HasTurned agent first (suc n) log now = (earlier : List Exchange) × (others : List Exchange) × (before : Stand)

@@ -226,8 +226,8 @@ fn first<W: Wire>(alloc: Global, asker: &mut Asker<W>, asked: Asked<'_>) -> Resu
     head_in(alloc, asked.agent.word, &bindings)
 }
 
-/// Asks for the engine group once more. `EngineChanged` if the agent has another engine id than
-/// this one, with which the walk began.
+/// Asks for the engine group again. `EngineChanged` if the agent has another engine id than this
+/// one, with which the walk started.
 fn require_engine<W: Wire>(
     alloc: Global,
     asker: &mut Asker<W>,

@@ -1,14 +1,46 @@
-//! What is said on standard error once settings are printed or written.
+//! What is said on standard error of settings that are printed or written.
 
 ghost use Rattle.std.specs.Prelude.{◌≡◌, ◌∷◌, []};
 ghost use Rattle.mon_host.specs.AtHost.{Noted};
 ghost use Rattle.mon_host.specs.Log.{GoesOnBy};
-ghost use Rattle.mon_settings_commands.specs.Notes.{AreSpeedsNoted, speed_line, speed_notes};
+ghost use Rattle.mon_settings_commands.specs.Notes.{AreSpeedsNoted, IsPrintNoted, IsRoundNoted, speed_line, speed_notes};
 ghost use Rattle.mon_settings_commands.specs.Source.{source_in};
 
 use crate::settings::Ground;
+use mon_console::{Failure, print};
 use mon_host::Host;
-use mon_survey::count_without_speed;
+use mon_survey::{LongestRound, count_without_speed};
+use std::alloc::Global;
+
+/// Prints a text, and says how long a round of the settings of this name takes at most.
+pub(crate) fn print_noted<H: Host>(
+    alloc: Global,
+    host: &mut H,
+    text: &[u8],
+    settings: &str,
+    longest: LongestRound,
+) -> Result<(), Failure>
+    ensures { GoesOnBy (λ log. IsPrintNoted text.now settings.now longest log result)
+        (H.log host.old) (H.log host.new) }
+{
+    print(alloc, host, text)?;
+    note_round(host, settings, longest);
+    Ok(())
+}
+
+/// Says how long a round of the settings of this name takes at most.
+fn note_round<H: Host>(host: &mut H, settings: &str, longest: LongestRound)
+    ensures { GoesOnBy (IsRoundNoted settings.now longest) (H.log host.old) (H.log host.new) }
+{
+    let LongestRound {
+        most,
+        wait_ms,
+        tries,
+    } = longest;
+    host.note(format_args!(
+        "snmpmon: a round of {settings} takes at most {most} ms (wait_ms = {wait_ms}, tries = {tries})\n"
+    ));
+}
 
 /// Says for how many interfaces there is no threshold, if alarms are asked for.
 pub(crate) fn note_speeds<H: Host>(host: &mut H, ground: &Ground<'_, '_>)

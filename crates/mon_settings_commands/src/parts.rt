@@ -1,26 +1,27 @@
 //! The settings of several stations, a file each.
 
-ghost use Rattle.std.specs.Prelude.{◌≡◌, ◌<◌, ◌≤◌, ◌⊎◌, ◌^◌, ◌∷◌, ◌++◌, [], Err, IfErr, IfOk, Ok, OnOk, Some, String, false, length, map, string_bytes};
-ghost use Rattle.std.specs.Global.{Global as TheGlobal};
+ghost use Rattle.std.specs.Prelude.{◌≡◌, ◌<◌, ◌≤◌, ◌⊎◌, ◌^◌, ◌∷◌, ◌++◌, [], Err, IfErr, IfOk, Ok, OnOk, Some, false, length, string_bytes};
 ghost use Rattle.mon_console.specs.Failure.{IsMemory};
 ghost use Rattle.mon_host.specs.Log.{GoesOnBy};
-ghost use Rattle.mon_settings_commands.specs.Parts.{AreAbsent, AreParts, ArePartTexts, AreWritten, HasGroups, HasNoCounter, HasNoPlan, IsAbsent, IsNamedWritten, IsPartAbsent, IsPartWritten, part_path};
+ghost use Rattle.mon_settings_commands.specs.Parts.{AreAbsent, AreParted, AreParts, AreWritten, HasGroups, HasNoCounter, HasNoPlan, IsAbsent, IsNamedWritten, IsPartAbsent, IsPartWritten, part_path};
 ghost use Rattle.mon_settings_commands.specs.Settings.{IsSettingsOf};
 ghost use Rattle.mon_settings_commands.specs.Source.{IsOfSurvey, source_in};
+ghost use Rattle.mon_survey.specs.declared.longest.Drafted.{Drafted as AnyDrafted};
 
 use crate::failing::{survey_failure, taken_failure};
 use crate::labelling::write_labels;
+use crate::noting::print_noted;
 use crate::settings::{Ground, settings_of};
-use mon_console::{Failure, print, write_file};
+use mon_console::{Failure, write_file};
 use mon_host::Host;
-use mon_survey::{SurveyFault, plan};
+use mon_survey::{Drafted, SurveyFault, plan};
 use std::alloc::{AllocError, Global};
 
 /// The most files that settings are split into.
 const MOST_PARTS: u32 = 65_536;
 
-/// Writes the settings of a station for each group into a folder, and prints the names of the files.
-/// Nothing is written if one of the files is there.
+/// Writes the settings of a station for each group into a folder, prints the names of the files, and
+/// says of each how long a round takes at most. Nothing is written if one of the files is there.
 pub(crate) fn write_parts<H: Host>(
     alloc: Global,
     host: &mut H,
@@ -30,23 +31,23 @@ pub(crate) fn write_parts<H: Host>(
     ensures { GoesOnBy (λ log. AreParts (source_in ground.now) folder.now log result)
         (H.log host.old) (H.log host.new) }
 {
-    let texts = texts_of(alloc, ground)?;
-    require_absent(alloc, host, folder, texts.as_slice())?;
+    let parts = parts_of(alloc, ground)?;
+    require_absent(alloc, host, folder, parts.as_slice())?;
     write_labels(alloc, host, ground, "")?;
-    write_texts(alloc, host, folder, texts.as_slice())
+    write_all(alloc, host, folder, parts.as_slice())
 }
 
-/// Requires that nothing is at the path of the file of any of these texts.
+/// Requires that nothing is at the path of the file of any of these settings.
 fn require_absent<H: Host>(
     alloc: Global,
     host: &mut H,
     folder: &str,
-    texts: &[String],
+    parts: &[Drafted],
 ) -> Result<(), Failure>
-    ensures { GoesOnBy (λ log. AreAbsent folder.now 0 (length texts.now) log result)
+    ensures { GoesOnBy (λ log. AreAbsent folder.now 0 (length parts.now) log result)
         (H.log host.old) (H.log host.new) }
 {
-    for place in 0..texts.len() {
+    for place in 0..parts.len() {
         require_part_absent(alloc, host, folder, place)?;
     }
     Ok(())
@@ -78,47 +79,48 @@ fn require_nothing_at<H: Host>(alloc: Global, host: &mut H, path: &str) -> Resul
     }
 }
 
-/// Writes a file for each of these texts, in order, and prints its name.
-fn write_texts<H: Host>(
+/// Writes a file for each of these settings, in order, prints its name, and says how long a round
+/// takes at most.
+fn write_all<H: Host>(
     alloc: Global,
     host: &mut H,
     folder: &str,
-    texts: &[String],
+    parts: &[Drafted],
 ) -> Result<(), Failure>
-    ensures { GoesOnBy (λ log. AreWritten folder.now 0 (map string_bytes texts.now) log result)
+    ensures { GoesOnBy (λ log. AreWritten folder.now 0 parts.now log result)
         (H.log host.old) (H.log host.new) }
 {
-    for place in 0..texts.len() {
-        write_part(alloc, host, folder, place, texts[place].as_str())?;
+    for place in 0..parts.len() {
+        write_part(alloc, host, folder, place, &parts[place])?;
     }
     Ok(())
 }
 
-/// The settings of each group.
-fn texts_of(alloc: Global, ground: &Ground<'_, '_>) -> Result<Vec<String>, Failure>
-    ensures { ArePartTexts (source_in ground.now) result }
+/// Returns the settings of each group.
+fn parts_of(alloc: Global, ground: &Ground<'_, '_>) -> Result<Vec<Drafted>, Failure>
+    ensures { AreParted (source_in ground.now) result }
 {
     let groups = groups_of(alloc, ground)?;
-    let mut texts = Vec::new(alloc);
+    let mut parts = Vec::new(alloc);
     for group in 0..groups {
-        add_text(alloc, &mut texts, ground, group)?;
+        add_part(alloc, &mut parts, ground, group)?;
     }
-    Ok(texts)
+    Ok(parts)
 }
 
 /// Adds the settings of a group.
-fn add_text(
+fn add_part(
     alloc: Global,
-    texts: &mut Vec<String>,
+    parts: &mut Vec<Drafted>,
     ground: &Ground<'_, '_>,
     group: u32,
 ) -> Result<(), Failure>
     requires { group < 65536 }
-    ensures added { OnOk result ((text : String TheGlobal) × (texts.new.items ≡ texts.old.items ++ text ∷ []) × IsSettingsOf (source_in ground.now) (Some group) (Ok text)) }
+    ensures added { OnOk result ((part : AnyDrafted) × (parts.new.items ≡ parts.old.items ++ part ∷ []) × IsSettingsOf (source_in ground.now) (Some group) (Ok part)) }
     ensures refused { IfErr result (λ failure. IsMemory failure ⊎ IsSettingsOf (source_in ground.now) (Some group) (Err failure)) }
 {
-    let text = settings_of(alloc, ground, Some(group))?;
-    Ok(texts.push(text)?)
+    let part = settings_of(alloc, ground, Some(group))?;
+    Ok(parts.push(part)?)
 }
 
 /// Returns how many groups of counters there are.
@@ -157,20 +159,20 @@ fn no_group(alloc: Global, agent: &str, group: u32, fault: SurveyFault) -> Resul
     }
 }
 
-/// Writes a file of settings, and prints its name.
+/// Writes a file of settings, prints its name, and says how long a round takes at most.
 fn write_part<H: Host>(
     alloc: Global,
     host: &mut H,
     folder: &str,
     place: usize,
-    text: &str,
+    part: &Drafted,
 ) -> Result<(), Failure>
     requires { place < 2 ^ 63 }
-    ensures { GoesOnBy (λ log. IsPartWritten (part_path folder.now place) text.now log result)
+    ensures { GoesOnBy (λ log. IsPartWritten (part_path folder.now place) part.now log result)
         (H.log host.old) (H.log host.new) }
 {
     let path = part_path(alloc, folder, place)?;
-    write_named(alloc, host, path.as_str(), text)
+    write_named(alloc, host, path.as_str(), part)
 }
 
 /// Returns the path of the file of a place, in a folder.
@@ -182,12 +184,17 @@ fn part_path(alloc: Global, folder: &str, place: usize) -> Result<String, AllocE
     format!(in alloc; "{folder}/station-{number}.toml")
 }
 
-/// Writes a file, and prints its name.
-fn write_named<H: Host>(alloc: Global, host: &mut H, path: &str, text: &str) -> Result<(), Failure>
-    ensures { GoesOnBy (λ log. IsNamedWritten path.now text.now log result)
+/// Writes settings to a file, prints its name, and says how long a round takes at most.
+fn write_named<H: Host>(
+    alloc: Global,
+    host: &mut H,
+    path: &str,
+    part: &Drafted,
+) -> Result<(), Failure>
+    ensures { GoesOnBy (λ log. IsNamedWritten path.now part.now log result)
         (H.log host.old) (H.log host.new) }
 {
-    write_file(alloc, host, path, text.as_bytes())?;
+    write_file(alloc, host, path, part.text.as_bytes())?;
     let line = format!(in alloc; "{path}\n")?;
-    print(alloc, host, line.as_bytes())
+    print_noted(alloc, host, line.as_bytes(), path, part.longest)
 }

@@ -7,7 +7,7 @@ ghost use Rattle.mon_host.specs.Log.{GoesOnBy};
 ghost use Rattle.mon_settings_commands.specs.Appended.{IsAlone, IsAppendedOf, IsLonger, IsPutLonger};
 ghost use Rattle.mon_settings_commands.specs.Asked.{IsAsked};
 ghost use Rattle.mon_settings_commands.specs.Command.{AreLongerSettings, AreNewSettings, AreNewTexts, ArePutTexts, AreSettings};
-ghost use Rattle.mon_settings_commands.specs.Settings.{IsSettingsOf, IsWhole, up_of};
+ghost use Rattle.mon_settings_commands.specs.Settings.{IsDraftPrinted, IsSettingsOf, IsWhole, up_of};
 ghost use Rattle.mon_settings_commands.specs.Source.{source_in};
 ghost use Rattle.mon_settings_commands.specs.Texts.{AreTexts, IsOfOptions};
 
@@ -15,17 +15,17 @@ use crate::asking::{Survey, ask_agent};
 use crate::existing::{Existing, existing_in};
 use crate::failing::{survey_failure, together_failure};
 use crate::labelling::{old_labels, write_labels};
-use crate::noting::note_speeds;
+use crate::noting::{note_speeds, print_noted};
 use crate::parts::write_parts;
 use crate::words::{
     given_or, kinds_of, percent_of, put_address, put_file, put_peers, require_peers,
 };
 use mon_app::Opens;
 use mon_cli::SettingsArgs;
-use mon_console::{AgentAt, Failure, agent_at, community, names_of, print};
+use mon_console::{AgentAt, Failure, agent_at, community, names_of};
 use mon_host::Host;
 use mon_smi::Names;
-use mon_survey::{Choice, Kinds, Options, Peer, Surveyed, append, settings};
+use mon_survey::{Choice, Drafted, Kinds, Options, Peer, Surveyed, append, settings};
 use std::alloc::Global;
 
 /// Where a station listens if the arguments do not say.
@@ -36,7 +36,8 @@ const FILE: &str = "station.mon";
 
 /// Prints the settings of a station that polls the agent that the arguments name, writes those of
 /// several stations, or prints settings that are there with the agent's targets at their end. Nothing
-/// is printed or written unless all was answered and each text was read back.
+/// is printed or written unless all was answered and each text was read back. Of each text a line on
+/// standard error says how long a round takes at most, by what was read back.
 pub fn print_settings<N: Opens, H: Host>(
     alloc: Global,
     host: &mut H,
@@ -154,9 +155,18 @@ fn print_whole<H: Host>(alloc: Global, host: &mut H, ground: &Ground<'_, '_>) ->
     ensures { GoesOnBy (λ log. IsWhole (source_in ground.now) log result)
         (H.log host.old) (H.log host.new) }
 {
-    let text = settings_of(alloc, ground, None)?;
+    let drafted = settings_of(alloc, ground, None)?;
     write_labels(alloc, host, ground, "")?;
-    print(alloc, host, text.as_bytes())
+    print_drafted(alloc, host, &drafted)
+}
+
+/// Prints settings, and says how long a round of them takes at most.
+fn print_drafted<H: Host>(alloc: Global, host: &mut H, drafted: &Drafted) -> Result<(), Failure>
+    ensures { GoesOnBy (λ log. IsDraftPrinted drafted.now log result)
+        (H.log host.old) (H.log host.new) }
+{
+    let text = drafted.text.as_bytes();
+    print_noted(alloc, host, text, "these settings", drafted.longest)
 }
 
 /// What arguments say of settings to which targets are added, and the path of these settings.
@@ -220,9 +230,9 @@ fn put_longer<H: Host>(
     ensures { GoesOnBy (λ log. IsPutLonger (source_in ground.now) existing.now old.now log result)
         (H.log host.old) (H.log host.new) }
 {
-    let text = appended(alloc, ground, existing)?;
+    let drafted = appended(alloc, ground, existing)?;
     write_labels(alloc, host, ground, old)?;
-    print(alloc, host, text.as_bytes())
+    print_drafted(alloc, host, &drafted)
 }
 
 impl<'m, 'a> Ground<'m, 'a> {
@@ -377,7 +387,7 @@ pub(crate) fn settings_of(
     alloc: Global,
     ground: &Ground<'_, '_>,
     group: Option<u32>,
-) -> Result<String, Failure>
+) -> Result<Drafted, Failure>
     requires { up_of group < 65536 }
     ensures { IsSettingsOf (source_in ground.now) group result }
 {
@@ -391,7 +401,7 @@ fn settings_by(
     ground: &Ground<'_, '_>,
     group: Option<u32>,
     texts: &Texts,
-) -> Result<String, Failure>
+) -> Result<Drafted, Failure>
     requires { AreTexts ground.now.words.now (up_of group) texts.now }
     ensures { IsSettingsOf (source_in ground.now) group result }
 {
@@ -405,13 +415,13 @@ fn settings_by(
         &options,
         &ground.choice(group),
     ) {
-        Ok(text) => Ok(text),
+        Ok(drafted) => Ok(drafted),
         Err(fault) => Err(survey_failure(alloc, ground.asked.agent.word, fault)),
     }
 }
 
 /// Settings with the agent's targets at their end.
-fn appended(alloc: Global, ground: &Ground<'_, '_>, existing: &Existing) -> Result<String, Failure>
+fn appended(alloc: Global, ground: &Ground<'_, '_>, existing: &Existing) -> Result<Drafted, Failure>
     ensures { IsAppendedOf (source_in ground.now) existing.now result }
 {
     let texts = texts_of(alloc, ground.words, 0)?;
@@ -424,7 +434,7 @@ fn appended_by(
     ground: &Ground<'_, '_>,
     existing: &Existing,
     texts: &Texts,
-) -> Result<String, Failure>
+) -> Result<Drafted, Failure>
     requires { AreTexts ground.now.words.now 0 texts.now }
     ensures { IsAppendedOf (source_in ground.now) existing.now result }
 {
@@ -438,7 +448,7 @@ fn appended_by(
         &options,
         &ground.choice(None),
     ) {
-        Ok(text) => Ok(text),
+        Ok(drafted) => Ok(drafted),
         Err(fault) => Err(survey_failure(alloc, ground.asked.agent.word, fault)),
     }
 }

@@ -22,7 +22,9 @@ use Rattle.mon_survey.specs.declared.comparing.Alarm.{Alarm}
 use Rattle.mon_survey.specs.declared.counter.Planned.{Planned}
 use Rattle.mon_survey.specs.declared.fault.SurveyFault.{SurveyFault}
 use Rattle.mon_survey.specs.declared.fault.SurveyFault.TheVariants as fault
+use Rattle.mon_survey.specs.declared.longest.LongestRound.{LongestRound}
 use Rattle.mon_survey.specs.declared.options.Options.{Options}
+use Rattle.mon_survey.specs.Longest.{longest_of}
 use Rattle.mon_survey.specs.Meant.{AreTargets, IsAlarm, alarms_from, is_own, targets_for}
 use Rattle.mon_survey.specs.Plan.{planned_of}
 use Rattle.mon_survey.specs.Text.{addition_of}
@@ -118,8 +120,8 @@ abbrev pub with_room : Station → List ℕ → List Planned → Result (List Pl
 with_room old engine ps = if list_any (polls engine) old.core.targets then Err fault.SameEngine else few_instances old ps
 
 -- Settings with those of a further agent at their end: the old text octet by octet, then the agent's targets and alarms, which is read
--- as what was meant.
-pub record IsAppendedText (defs : List Definition) (choice : Choice) (o : Options) (text : List ℕ) (old : Station) (engine : List ℕ) (cells : List Cell) (new : List ℕ) : Type 0 where
+-- as what was meant. A round of the whole takes this long at most.
+pub record IsAppendedText (defs : List Definition) (choice : Choice) (o : Options) (text : List ℕ) (old : Station) (engine : List ℕ) (cells : List Cell) (new : List ℕ) (longest : LongestRound) : Type 0 where
   pub planned : List Planned
   pub plan : planned_of choice cells ≡ Ok planned
   pub room : with_room old engine planned ≡ Ok planned
@@ -127,6 +129,7 @@ pub record IsAppendedText (defs : List Definition) (choice : Choice) (o : Option
   pub station : Station
   pub read : Says (IsStation defs) new station
   pub meant : IsAppended o engine cells planned old station
+  pub round : longest ≡ longest_of station
 
 -- why a text is not read as what was meant: it is refused for this reason, or it is read as something else
 abbrev pub IsMisread : List Definition → Options → List ℕ → List Cell → List Planned → Station → List ℕ → SurveyFault → Type 0

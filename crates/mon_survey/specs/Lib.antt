@@ -5,6 +5,7 @@ pub mod Counter
 pub mod Engine
 pub mod Fault
 pub mod Labels
+pub mod Longest
 pub mod Meant
 pub mod Plan
 pub mod Shown

@@ -25,12 +25,14 @@ use Rattle.mon_survey.specs.declared.comparing.Alarm.{Alarm}
 use Rattle.mon_survey.specs.declared.counter.Planned.{Planned}
 use Rattle.mon_survey.specs.declared.fault.SurveyFault.{SurveyFault}
 use Rattle.mon_survey.specs.declared.fault.SurveyFault.TheVariants as fault
+use Rattle.mon_survey.specs.declared.longest.LongestRound.{LongestRound}
 use Rattle.mon_survey.specs.declared.options.Options.{Options}
 use Rattle.mon_survey.specs.declared.options.Peer.{Peer}
 use Rattle.mon_survey.specs.declared.planning.Thresholds.{Thresholds}
 use Rattle.mon_survey.specs.Answers.{is_marked, speed_in}
 use Rattle.mon_survey.specs.Column.{cell_name, spot_of}
 use Rattle.mon_survey.specs.Counter.{column_of}
+use Rattle.mon_survey.specs.Longest.{longest_of}
 use Rattle.mon_survey.specs.Plan.{planned_of, thresholds_at}
 use Rattle.mon_survey.specs.Text.{draft_of}
 
@@ -126,17 +128,18 @@ pub record IsMeant (o : Options) (engine : List ℕ) (cells : List Cell) (ps : L
 abbrev pub IsUnlike : Type 0 → SurveyFault → Type 0
 IsUnlike Meant e = (e ≡ fault.OutOfMemory) ⊎ ((e ≡ fault.Misread) × ¬ Meant)
 
--- under these definitions a text is read as what was meant
-abbrev pub IsReadBack : List Definition → Options → List ℕ → List Cell → List Planned → List ℕ → Type 0
-IsReadBack defs o engine cells ps text = (station : Station) × Says (IsStation defs) text station × IsMeant o engine cells ps station
+-- under these definitions a text is read as what was meant, and this is how long its rounds take at most
+abbrev pub IsReadBack : List Definition → Options → List ℕ → List Cell → List Planned → List ℕ → LongestRound → Type 0
+IsReadBack defs o engine cells ps text longest =
+    (station : Station) × Says (IsStation defs) text station × IsMeant o engine cells ps station × (longest ≡ longest_of station)
 
 -- The text of the settings: that of the counters that are planned, with names as they are shown, and under these definitions it is
--- read as what was meant.
-pub record IsSettingsText (defs : List Definition) (shown : List ℕ → List ℕ) (choice : Choice) (o : Options) (engine : List ℕ) (cells : List Cell) (text : List ℕ) : Type 0 where
+-- read as what was meant. Its rounds take this long at most.
+pub record IsSettingsText (defs : List Definition) (shown : List ℕ → List ℕ) (choice : Choice) (o : Options) (engine : List ℕ) (cells : List Cell) (text : List ℕ) (longest : LongestRound) : Type 0 where
   pub planned : List Planned
   pub plan : planned_of choice cells ≡ Ok planned
   pub drafted : draft_of shown o engine cells planned ≡ Ok text
-  pub read_back : IsReadBack defs o engine cells planned text
+  pub read_back : IsReadBack defs o engine cells planned text longest
 
 -- why a text is not read as what was meant: it is refused for this reason, or it is read as something else
 abbrev pub IsNotReadBack : List Definition → Options → List ℕ → List Cell → List Planned → List ℕ → SurveyFault → Type 0

@@ -4,6 +4,7 @@ ghost use Rattle.std.specs.Prelude.{◌≡◌, ◌⊎◌, ◌≤◌, Err, IfErr,
 ghost use Rattle.mon_settings.specs.StationAccepted.{IsStation, Station, station_view};
 ghost use Rattle.mon_settings.specs.Text.{Says};
 ghost use Rattle.mon_survey.specs.Appended.{IsAppendFault, IsAppended, IsAppendedText, IsMisread, polls, shown_by, with_room};
+ghost use Rattle.mon_survey.specs.Longest.{longest_of};
 ghost use Rattle.mon_survey.specs.Meant.{IsUnlike};
 ghost use Rattle.mon_survey.specs.Plan.{planned_of};
 ghost use Rattle.mon_survey.specs.Text.{addition_of};
@@ -15,6 +16,7 @@ use crate::counter::Planned;
 use crate::drafting::{AgentPlan, addition};
 use crate::fault::{SurveyFault, given};
 use crate::kept::is_appended;
+use crate::longest::{Drafted, LongestRound, longest_round};
 use crate::options::Options;
 use crate::planning::plan;
 use crate::surveying::Surveyed;
@@ -116,35 +118,37 @@ fn draft_addition(
     )
 }
 
-/// Requires that the new settings are the old ones with the agent's targets.
+/// Requires that the new settings are the old ones with the agent's targets, and returns how long
+/// their rounds take at most.
 fn require_appended(
     alloc: Global,
     wanted: &Wanted<'_>,
     old: &StationSettings,
     new: &StationSettings,
-) -> Result<(), SurveyFault>
+) -> Result<LongestRound, SurveyFault>
     requires few { length wanted.now.planned.now ≤ 256 }
     requires percent { wanted.now.options.now.percent ≤ 100 }
-    ensures gives { OnOk result (IsAppended wanted.now.options.now wanted.now.engine.now wanted.now.answers.now wanted.now.planned.now (station_view old.now) (station_view new.now)) }
+    ensures gives { IfOk result (λ longest. IsAppended wanted.now.options.now wanted.now.engine.now wanted.now.answers.now wanted.now.planned.now (station_view old.now) (station_view new.now) × (longest ≡ longest_of (station_view new.now))) }
     ensures fault { IfErr result (IsUnlike (IsAppended wanted.now.options.now wanted.now.engine.now wanted.now.answers.now wanted.now.planned.now (station_view old.now) (station_view new.now))) }
 {
     if is_appended(alloc, wanted, old, new)? {
-        Ok(())
+        Ok(longest_round(new))
     } else {
         Err(SurveyFault::Misread)
     }
 }
 
-/// Returns `Ok` if the text is read as the settings with the agent's targets.
+/// Returns how long the rounds of a text's settings take at most, if it is read as the settings with
+/// the agent's targets.
 fn read_appended(
     alloc: Global,
     existing: &Existing<'_>,
     wanted: &Wanted<'_>,
     text: &str,
-) -> Result<(), SurveyFault>
+) -> Result<LongestRound, SurveyFault>
     requires few { length wanted.now.planned.now ≤ 256 }
     requires percent { wanted.now.options.now.percent ≤ 100 }
-    ensures gives { OnOk result ((station : Station) × Says (IsStation existing.now.names.now) text.now station × IsAppended wanted.now.options.now wanted.now.engine.now wanted.now.answers.now wanted.now.planned.now (station_view existing.now.station.now) station) }
+    ensures gives { IfOk result (λ longest. (station : Station) × Says (IsStation existing.now.names.now) text.now station × IsAppended wanted.now.options.now wanted.now.engine.now wanted.now.answers.now wanted.now.planned.now (station_view existing.now.station.now) station × (longest ≡ longest_of station)) }
     ensures fault { IfErr result (IsMisread existing.now.names.now wanted.now.options.now wanted.now.engine.now wanted.now.answers.now wanted.now.planned.now (station_view existing.now.station.now) text.now) }
 {
     match read_station(alloc, text, existing.names) {
@@ -156,7 +160,8 @@ fn read_appended(
 
 /// Returns settings with the targets of a further agent at their end, which poll its chosen counters,
 /// and the alarms on them. The old text is kept octet by octet, and the whole was read back, as what
-/// was meant. Of the options only the agent's address, community, tries and percentage are used.
+/// was meant: how long a round takes at most follows from what was read. Of the options only the
+/// agent's address, community, tries and percentage are used.
 ///
 /// # Errors
 /// Those of `plan`; `SameEngine` if a target is an agent of this engine id; `TooMany` with the number
@@ -168,9 +173,9 @@ pub fn append(
     agent: &Surveyed<'_>,
     options: &Options<'_>,
     choice: &Choice<'_>,
-) -> Result<String, SurveyFault>
+) -> Result<Drafted, SurveyFault>
     requires { options.now.percent ≤ 100 }
-    ensures reads { IfOk result (λ text. IsAppendedText existing.now.names.now choice.now options.now existing.now.text.now (station_view existing.now.station.now) agent.now.engine.now agent.now.answers.now (string_bytes text)) }
+    ensures reads { IfOk result (λ drafted. IsAppendedText existing.now.names.now choice.now options.now existing.now.text.now (station_view existing.now.station.now) agent.now.engine.now agent.now.answers.now (string_bytes drafted.text) drafted.longest) }
     ensures fault { IfErr result (IsAppendFault existing.now.names.now choice.now options.now existing.now.text.now (station_view existing.now.station.now) agent.now.engine.now agent.now.answers.now) }
 {
     let planned = given!(plan(alloc, agent.answers, choice));
@@ -182,6 +187,6 @@ pub fn append(
         planned: &planned,
     };
     let text = given!(draft_addition(alloc, existing, agent, &wanted.agent_plan()));
-    given!(read_appended(alloc, existing, &wanted, text.as_str()));
-    Ok(text)
+    let longest = given!(read_appended(alloc, existing, &wanted, text.as_str()));
+    Ok(Drafted { text, longest })
 }

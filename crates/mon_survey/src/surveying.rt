@@ -1,8 +1,9 @@
 //! The settings of a station that polls an agent.
 
-ghost use Rattle.std.specs.Prelude.{◌≡◌, ◌≤◌, IfErr, IfOk, OnOk, length, string_bytes};
+ghost use Rattle.std.specs.Prelude.{◌≡◌, ◌≤◌, IfErr, IfOk, length, string_bytes};
 ghost use Rattle.mon_settings.specs.StationAccepted.{station_view};
 ghost use Rattle.mon_survey.specs.Appended.{shown_by};
+ghost use Rattle.mon_survey.specs.Longest.{longest_of};
 ghost use Rattle.mon_survey.specs.Meant.{IsFault, IsMeant, IsNotReadBack, IsReadBack, IsSettingsText, IsUnlike};
 
 use crate::answers::Answers;
@@ -10,6 +11,7 @@ use crate::choice::Choice;
 use crate::comparing::{Wanted, is_meant};
 use crate::drafting::draft;
 use crate::fault::{SurveyFault, given};
+use crate::longest::{Drafted, LongestRound, longest_round};
 use crate::options::Options;
 use crate::planning::plan;
 use crate::writing::Naming;
@@ -26,34 +28,34 @@ pub struct Surveyed<'a> {
     pub answers: &'a Answers,
 }
 
-/// Requires that the settings are what was meant.
+/// Requires that the settings are what was meant, and returns how long their rounds take at most.
 fn require_meant(
     alloc: Global,
     wanted: &Wanted<'_>,
     station: &StationSettings,
-) -> Result<(), SurveyFault>
+) -> Result<LongestRound, SurveyFault>
     requires few { length wanted.now.planned.now ≤ 256 }
     requires percent { wanted.now.options.now.percent ≤ 100 }
-    ensures gives { OnOk result (IsMeant wanted.now.options.now wanted.now.engine.now wanted.now.answers.now wanted.now.planned.now (station_view station.now)) }
+    ensures gives { IfOk result (λ longest. IsMeant wanted.now.options.now wanted.now.engine.now wanted.now.answers.now wanted.now.planned.now (station_view station.now) × (longest ≡ longest_of (station_view station.now))) }
     ensures fault { IfErr result (IsUnlike (IsMeant wanted.now.options.now wanted.now.engine.now wanted.now.answers.now wanted.now.planned.now (station_view station.now))) }
 {
     if is_meant(alloc, wanted, station)? {
-        Ok(())
+        Ok(longest_round(station))
     } else {
         Err(SurveyFault::Misread)
     }
 }
 
-/// Returns `Ok` if the text is read as what was meant.
+/// Returns how long the rounds of a text's settings take at most, if it is read as what was meant.
 fn read_back(
     alloc: Global,
     names: &Names,
     wanted: &Wanted<'_>,
     text: &str,
-) -> Result<(), SurveyFault>
+) -> Result<LongestRound, SurveyFault>
     requires few { length wanted.now.planned.now ≤ 256 }
     requires percent { wanted.now.options.now.percent ≤ 100 }
-    ensures gives { OnOk result (IsReadBack names.now wanted.now.options.now wanted.now.engine.now wanted.now.answers.now wanted.now.planned.now text.now) }
+    ensures gives { IfOk result (IsReadBack names.now wanted.now.options.now wanted.now.engine.now wanted.now.answers.now wanted.now.planned.now text.now) }
     ensures fault { IfErr result (IsNotReadBack names.now wanted.now.options.now wanted.now.engine.now wanted.now.answers.now wanted.now.planned.now text.now) }
 {
     match read_station(alloc, text, names) {
@@ -63,20 +65,20 @@ fn read_back(
     }
 }
 
-/// Returns the text, if it is read as what was meant.
+/// Returns the text and how long its rounds take at most, if it is read as what was meant.
 fn confirm(
     alloc: Global,
     names: &Names,
     wanted: &Wanted<'_>,
     text: String,
-) -> Result<String, SurveyFault>
+) -> Result<Drafted, SurveyFault>
     requires few { length wanted.now.planned.now ≤ 256 }
     requires percent { wanted.now.options.now.percent ≤ 100 }
-    ensures gives { IfOk result (λ same. (same ≡ text) × IsReadBack names.now wanted.now.options.now wanted.now.engine.now wanted.now.answers.now wanted.now.planned.now (string_bytes text)) }
+    ensures gives { IfOk result (λ drafted. (drafted.text ≡ text) × IsReadBack names.now wanted.now.options.now wanted.now.engine.now wanted.now.answers.now wanted.now.planned.now (string_bytes text) drafted.longest) }
     ensures fault { IfErr result (IsNotReadBack names.now wanted.now.options.now wanted.now.engine.now wanted.now.answers.now wanted.now.planned.now (string_bytes text)) }
 {
-    given!(read_back(alloc, names, wanted, text.as_str()));
-    Ok(text)
+    let longest = given!(read_back(alloc, names, wanted, text.as_str()));
+    Ok(Drafted { text, longest })
 }
 
 /// Returns the settings with names as they are shown.
@@ -86,9 +88,9 @@ fn settings_by<S: NameTexts>(
     engine: &[u8],
     options: &Options<'_>,
     choice: &Choice<'_>,
-) -> Result<String, SurveyFault>
+) -> Result<Drafted, SurveyFault>
     requires { options.now.percent ≤ 100 }
-    ensures reads { IfOk result (λ text. IsSettingsText names.now (S.shown shown.now.names.now) choice.now options.now engine.now shown.now.answers.now (string_bytes text)) }
+    ensures reads { IfOk result (λ drafted. IsSettingsText names.now (S.shown shown.now.names.now) choice.now options.now engine.now shown.now.answers.now (string_bytes drafted.text) drafted.longest) }
     ensures fault { IfErr result (IsFault names.now (S.shown shown.now.names.now) choice.now options.now engine.now shown.now.answers.now) }
 {
     let planned = given!(plan(shown.alloc, shown.answers, choice));
@@ -99,12 +101,13 @@ fn settings_by<S: NameTexts>(
         planned: &planned,
     };
     let text = given!(draft(shown, &wanted.agent_plan()));
-    let text = given!(confirm(shown.alloc, names, &wanted, text));
-    Ok(text)
+    let drafted = given!(confirm(shown.alloc, names, &wanted, text));
+    Ok(drafted)
 }
 
 /// Returns the settings of a station that polls the chosen counters of an agent, names by those of
-/// the options' modules, if there are some. The text was read back, as what was meant.
+/// the options' modules, if there are some. The text was read back, as what was meant: how long a
+/// round takes at most follows from what was read.
 ///
 /// # Errors
 /// Those of `plan`; `BadText` where an option's text has a quote, a backslash or an octet outside 20
@@ -116,9 +119,9 @@ pub fn settings(
     agent: &Surveyed<'_>,
     options: &Options<'_>,
     choice: &Choice<'_>,
-) -> Result<String, SurveyFault>
+) -> Result<Drafted, SurveyFault>
     requires { options.now.percent ≤ 100 }
-    ensures reads { IfOk result (λ text. IsSettingsText names.now (shown_by names.now (length options.now.modules.now)) choice.now options.now agent.now.engine.now agent.now.answers.now (string_bytes text)) }
+    ensures reads { IfOk result (λ drafted. IsSettingsText names.now (shown_by names.now (length options.now.modules.now)) choice.now options.now agent.now.engine.now agent.now.answers.now (string_bytes drafted.text) drafted.longest) }
     ensures fault { IfErr result (IsFault names.now (shown_by names.now (length options.now.modules.now)) choice.now options.now agent.now.engine.now agent.now.answers.now) }
 {
     if options.modules.is_empty() {

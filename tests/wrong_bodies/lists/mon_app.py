@@ -243,8 +243,8 @@ BUGS = {
     ),
     "asks_for_the_same_name_again": (
         "src/walking.rt",
-        "            Some(name) => last = name,",
-        "            Some(_) => {}",
+        "            Turned::On(name) => last = name,",
+        "            Turned::On(_) => {}",
     ),
     "takes_any_other_name_for_a_greater": (
         "src/walking.rt",
@@ -424,17 +424,17 @@ BUGS = {
     "ends_well_at_an_empty_answer": (
         "src/walking.rt",
         "        return Err(WalkFault::App(AppFault::NotIncreasing));\n    }\n    print_lines",
-        "        return Ok(None);\n    }\n    print_lines",
+        "        return Ok(Turned::Over(false));\n    }\n    print_lines",
     ),
     "passes_over_names_outside_its_start": (
         "src/walking.rt",
-        "            Step::Past => return Ok(None),",
+        "            Step::Past => return Ok(Turned::Over(printed)),",
         "            Step::Past => continue,",
     ),
     "ends_well_at_a_refused_line": (
         "src/walking.rt",
         "            Step::On => print_line(alloc, host, binding, names)?,",
-        "            Step::On => {\n                if print_line(alloc, host, binding, names).is_err() {\n                    return Ok(None);\n                }\n            }",
+        "            Step::On => {\n                if print_line(alloc, host, binding, names).is_err() {\n                    return Ok(Turned::Over(printed));\n                }\n            }",
     ),
     "writes_back_its_input": (
         "src/replaying.rt",
@@ -623,8 +623,8 @@ BUGS = {
     ),
     "ends_well_whatever_fails": (
         "src/walking.rt",
-        "        match walk_on(alloc, host, wire, &turn, names)? {\n            Some(name) => last = name,\n            None => return Ok(()),\n        }",
-        "        match walk_on(alloc, host, wire, &turn, names) {\n            Ok(Some(name)) => last = name,\n            _ => return Ok(()),\n        }",
+        "        match walk_on(alloc, host, wire, &turn, names)? {\n            Turned::On(name) => last = name,\n            Turned::Over(printed) => return Ok(is_either(request_id > 0, printed)),\n        }",
+        "        match walk_on(alloc, host, wire, &turn, names) {\n            Ok(Turned::On(name)) => last = name,\n            _ => return Ok(true),\n        }",
     ),
     "begins_with_a_failure": (
         "src/socket_port.rt",
@@ -820,6 +820,66 @@ BUGS = {
         "src/question.rt",
         "        return bindings.is_empty();",
         "        return true;",
+    ),
+    "never_says_that_nothing_is_there": (
+        "src/walking.rt",
+        "    if printed {\n        return Ok(());\n    }\n    note_empty(alloc, host, asked.start, names)",
+        "    let _ = printed;\n    Ok(())",
+    ),
+    "says_of_every_walk_that_nothing_is_there": (
+        "src/walking.rt",
+        "    if printed {\n        return Ok(());\n    }\n    note_empty(",
+        "    let _ = printed;\n    note_empty(",
+    ),
+    "says_that_nothing_is_there_of_what_it_printed": (
+        "src/walking.rt",
+        "    if printed {\n        return Ok(());",
+        "    if !printed {\n        return Ok(());",
+    ),
+    "fails_where_nothing_is_there": (
+        "src/walking.rt",
+        "    if printed {\n        return Ok(());\n    }\n    note_empty(alloc, host, asked.start, names)",
+        "    if printed {\n        return Ok(());\n    }\n    note_empty(alloc, host, asked.start, names)?;\n    Err(WalkFault::App(AppFault::Timeout))",
+    ),
+    "says_twice_that_nothing_is_there": (
+        "src/walking.rt",
+        "    if printed {\n        return Ok(());\n    }\n",
+        "    if printed {\n        return Ok(());\n    }\n    note_empty(alloc, host, asked.start, names)?;\n",
+    ),
+    "forgets_the_lines_of_earlier_turns": (
+        "src/walking.rt",
+        "return Ok(is_either(request_id > 0, printed)),",
+        "return Ok(is_either(false, printed)),",
+    ),
+    "forgets_the_lines_of_the_last_turn": (
+        "src/walking.rt",
+        "return Ok(is_either(request_id > 0, printed)),",
+        "return Ok(is_either(request_id > 0, false)),",
+    ),
+    "counts_the_second_turn_only": (
+        "src/walking.rt",
+        "return Ok(is_either(request_id > 0, printed)),",
+        "return Ok(is_either(request_id > 1, printed)),",
+    ),
+    "forgets_that_a_line_is_printed": (
+        "src/walking.rt",
+        "        printed = true;",
+        "        printed = found.is_empty();",
+    ),
+    "says_of_a_long_walk_that_nothing_is_there": (
+        "src/walking.rt",
+        "    Ok(true)\n",
+        "    Ok(false)\n",
+    ),
+    "says_the_name_in_numbers": (
+        "src/walking.rt",
+        "    let name = names.text(alloc, start)?;\n    host.note(",
+        "    let name = start.text(alloc)?;\n    let _ = names;\n    host.note(",
+    ),
+    "prints_that_nothing_is_there": (
+        "src/walking.rt",
+        '    host.note(format_args!("snmpmon: nothing is below {name}\\n"));\n    Ok(())',
+        '    let _ = host.print(name.as_bytes());\n    Ok(())',
     ),
     "walks_in_another_community": (
         "src/walking.rt",

@@ -501,6 +501,56 @@ BUGS = {
         "        Some(name) => Some(name.try_clone(alloc)?),\n        None => None,",
         "        Some(_) => None,\n        None => None,",
     ),
+    "all_targets_answer_at_once": (
+        "src/rounds.rt",
+        "(1 + u64::from(quiet) + u64::from(has_peers))",
+        "(1 + u64::from(has_peers))",
+    ),
+    "waits_for_no_peer": (
+        "src/rounds.rt",
+        "(1 + u64::from(quiet) + u64::from(has_peers))",
+        "(1 + u64::from(quiet))",
+    ),
+    "adds_the_waits_to_one": (
+        "src/rounds.rt",
+        "    u64::from(wait_ms) * (1 + u64::from(quiet) + u64::from(has_peers))",
+        "    u64::from(wait_ms) + 1 + u64::from(quiet) + u64::from(has_peers)",
+    ),
+    "waits_for_peers_if_there_are_none": (
+        "src/rounds.rt",
+        "    let has_peers = !settings.core.peers().is_empty();",
+        "    let has_peers = settings.core.peers().is_empty();",
+    ),
+    "counts_each_target_once": (
+        "src/rounds.rt",
+        "            most = target.tries;",
+        "            most = 1 + target.tries - target.tries;",
+    ),
+    "counts_the_last_target_only": (
+        "src/rounds.rt",
+        "        if target.tries > most {",
+        "        if target.tries != most {",
+    ),
+    "the_longest_round_is_the_silent_one": (
+        "src/rounds.rt",
+        "        most: MOST * silent,",
+        "        most: silent,",
+    ),
+    "a_wait_lasts_three_times_its_length": (
+        "src/rounds.rt",
+        "const MOST: u64 = 4;",
+        "const MOST: u64 = 3;",
+    ),
+    "the_silent_round_is_the_least": (
+        "src/rounds.rt",
+        "        silent,\n        most",
+        "        silent: waits(settings.wait_ms, 0, has_peers),\n        most",
+    ),
+    "a_round_of_answers_waits_for_each_try": (
+        "src/rounds.rt",
+        "        least: waits(settings.wait_ms, 0, has_peers),",
+        "        least: silent,",
+    ),
     "reads_the_thresholds_swapped": (
         "src/station_tables.rt",
         "            name,\n            rising,\n            falling,\n        })",

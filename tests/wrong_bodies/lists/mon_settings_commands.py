@@ -153,23 +153,23 @@ BUGS = {
     ),
     "prints_no_settings": (
         "src/settings.rt",
-        "    write_labels(alloc, host, ground, \"\")?;\n    print(alloc, host, text.as_bytes())\n",
+        "    write_labels(alloc, host, ground, \"\")?;\n    print_drafted(alloc, host, &drafted)\n",
         "    write_labels(alloc, host, ground, \"\")\n",
     ),
     "prints_settings_twice": (
         "src/settings.rt",
-        "    write_labels(alloc, host, ground, \"\")?;\n    print(alloc, host, text.as_bytes())\n",
-        "    write_labels(alloc, host, ground, \"\")?;\n    print(alloc, host, text.as_bytes())?;\n    print(alloc, host, text.as_bytes())\n",
+        "    write_labels(alloc, host, ground, \"\")?;\n    print_drafted(alloc, host, &drafted)\n",
+        "    write_labels(alloc, host, ground, \"\")?;\n    print_drafted(alloc, host, &drafted)?;\n    print_drafted(alloc, host, &drafted)\n",
     ),
     "prints_settings_before_labels_are_written": (
         "src/settings.rt",
-        "    write_labels(alloc, host, ground, old)?;\n    print(alloc, host, text.as_bytes())\n",
-        "    print(alloc, host, text.as_bytes())?;\n    write_labels(alloc, host, ground, old)\n",
+        "    write_labels(alloc, host, ground, old)?;\n    print_drafted(alloc, host, &drafted)\n",
+        "    print_drafted(alloc, host, &drafted)?;\n    write_labels(alloc, host, ground, old)\n",
     ),
     "prints_the_old_labels": (
         "src/settings.rt",
-        "    write_labels(alloc, host, ground, old)?;\n    print(alloc, host, text.as_bytes())\n",
-        "    write_labels(alloc, host, ground, old)?;\n    print(alloc, host, old.as_bytes())\n",
+        "    write_labels(alloc, host, ground, old)?;\n    print_drafted(alloc, host, &drafted)\n",
+        "    write_labels(alloc, host, ground, old)?;\n    print_noted(alloc, host, old.as_bytes(), \"these settings\", drafted.longest)\n",
     ),
     "swallows_a_fault_of_labels": (
         "src/settings.rt",
@@ -233,28 +233,28 @@ BUGS = {
     ),
     "writes_each_part_twice": (
         "src/parts.rt",
-        "        write_part(alloc, host, folder, place, texts[place].as_str())?;",
-        "        write_part(alloc, host, folder, place, texts[place].as_str())?;\n        write_part(alloc, host, folder, place, texts[place].as_str())?;",
+        "        write_part(alloc, host, folder, place, &parts[place])?;",
+        "        write_part(alloc, host, folder, place, &parts[place])?;\n        write_part(alloc, host, folder, place, &parts[place])?;",
     ),
     "writes_the_first_part_alone": (
         "src/parts.rt",
-        "    for place in 0..texts.len() {\n        write_part(",
-        "    for place in 0..texts.len().min(1) {\n        write_part(",
+        "    for place in 0..parts.len() {\n        write_part(",
+        "    for place in 0..parts.len().min(1) {\n        write_part(",
     ),
     "writes_one_text_to_all_parts": (
         "src/parts.rt",
-        "        write_part(alloc, host, folder, place, texts[place].as_str())?;",
-        "        write_part(alloc, host, folder, place, texts[0].as_str())?;",
+        "        write_part(alloc, host, folder, place, &parts[place])?;",
+        "        write_part(alloc, host, folder, place, &parts[0])?;",
     ),
     "prints_the_text_for_its_name": (
         "src/parts.rt",
-        "    print(alloc, host, line.as_bytes())\n",
-        "    print(alloc, host, text.as_bytes())\n",
+        "    print_noted(alloc, host, line.as_bytes(), path, part.longest)\n",
+        "    print_noted(alloc, host, part.text.as_bytes(), path, part.longest)\n",
     ),
     "prints_the_name_before_the_file_is_written": (
         "src/parts.rt",
-        "    write_file(alloc, host, path, text.as_bytes())?;\n    let line = format!(in alloc; \"{path}\\n\")?;\n    print(alloc, host, line.as_bytes())\n",
-        "    let line = format!(in alloc; \"{path}\\n\")?;\n    print(alloc, host, line.as_bytes())?;\n    write_file(alloc, host, path, text.as_bytes())\n",
+        "    write_file(alloc, host, path, part.text.as_bytes())?;\n    let line = format!(in alloc; \"{path}\\n\")?;\n    print_noted(alloc, host, line.as_bytes(), path, part.longest)\n",
+        "    let line = format!(in alloc; \"{path}\\n\")?;\n    print_noted(alloc, host, line.as_bytes(), path, part.longest)?;\n    write_file(alloc, host, path, part.text.as_bytes())\n",
     ),
     "leaves_out_the_last_group": (
         "src/parts.rt",
@@ -478,6 +478,66 @@ BUGS = {
         "    note_count(host, ground.asked.percent, count);",
         "    note_count(host, ground.asked.percent, ground.survey.answers.count() - count);",
     ),
+    "says_nothing_of_the_round": (
+        "src/noting.rt",
+        "    note_round(host, settings, longest);\n    Ok(())",
+        "    let _ = (settings, longest);\n    Ok(())",
+    ),
+    "says_the_round_before_it_prints": (
+        "src/noting.rt",
+        "    print(alloc, host, text)?;\n    note_round(host, settings, longest);\n",
+        "    note_round(host, settings, longest);\n    print(alloc, host, text)?;\n",
+    ),
+    "says_the_round_of_what_is_not_printed": (
+        "src/noting.rt",
+        "    print(alloc, host, text)?;\n    note_round(host, settings, longest);\n    Ok(())",
+        "    let printed = print(alloc, host, text);\n    note_round(host, settings, longest);\n    printed",
+    ),
+    "says_the_round_twice": (
+        "src/noting.rt",
+        "    note_round(host, settings, longest);\n    Ok(())",
+        "    note_round(host, settings, longest);\n    note_round(host, settings, longest);\n    Ok(())",
+    ),
+    "says_the_wait_for_the_round": (
+        "src/noting.rt",
+        "takes at most {most} ms (wait_ms = {wait_ms},",
+        "takes at most {wait_ms} ms (wait_ms = {most},",
+    ),
+    "says_another_number_of_tries": (
+        "src/noting.rt",
+        "    } = longest;\n",
+        "    } = longest;\n    let tries = tries.max(2);\n",
+    ),
+    "says_a_shorter_round": (
+        "src/noting.rt",
+        "    } = longest;\n",
+        "    } = longest;\n    let most = most / 2;\n",
+    ),
+    "names_no_settings": (
+        "src/noting.rt",
+        "a round of {settings} takes",
+        "a round takes",
+    ),
+    "says_the_text_for_its_name": (
+        "src/settings.rt",
+        "    print_noted(alloc, host, text, \"these settings\", drafted.longest)",
+        "    print_noted(alloc, host, text, drafted.text.as_str(), drafted.longest)",
+    ),
+    "says_the_round_of_another_part": (
+        "src/parts.rt",
+        "    print_noted(alloc, host, line.as_bytes(), path, part.longest)\n",
+        "    print_noted(alloc, host, line.as_bytes(), \"these settings\", part.longest)\n",
+    ),
+    "appends_a_part_twice": (
+        "src/parts.rt",
+        "    Ok(parts.push(part)?)",
+        "    let again = settings_of(alloc, ground, Some(group))?;\n    parts.push(part)?;\n    Ok(parts.push(again)?)",
+    ),
+    "prints_only_the_text": (
+        "src/settings.rt",
+        "    print_noted(alloc, host, text, \"these settings\", drafted.longest)",
+        "    mon_console::print(alloc, host, text)",
+    ),
     "says_of_speeds_before_it_prints": (
         "src/settings.rt",
         "    put_texts(alloc, host, ground)?;\n    note_speeds(host, ground);\n    Ok(())\n",
@@ -500,18 +560,18 @@ BUGS = {
     ),
     "looks_for_the_first_file_only": (
         "src/parts.rt",
-        "    for place in 0..texts.len() {\n        require_part_absent(",
-        "    for place in 0..texts.len().min(1) {\n        require_part_absent(",
+        "    for place in 0..parts.len() {\n        require_part_absent(",
+        "    for place in 0..parts.len().min(1) {\n        require_part_absent(",
     ),
     "looks_for_no_file": (
         "src/parts.rt",
-        "    require_absent(alloc, host, folder, texts.as_slice())?;\n",
+        "    require_absent(alloc, host, folder, parts.as_slice())?;\n",
         "",
     ),
     "replaces_labels_before_it_looks": (
         "src/parts.rt",
-        "    require_absent(alloc, host, folder, texts.as_slice())?;\n    write_labels(alloc, host, ground, \"\")?;\n",
-        "    write_labels(alloc, host, ground, \"\")?;\n    require_absent(alloc, host, folder, texts.as_slice())?;\n",
+        "    require_absent(alloc, host, folder, parts.as_slice())?;\n    write_labels(alloc, host, ground, \"\")?;\n",
+        "    write_labels(alloc, host, ground, \"\")?;\n    require_absent(alloc, host, folder, parts.as_slice())?;\n",
     ),
     "a_file_that_is_there_is_a_bad_text": (
         "src/failing.rt",
@@ -524,7 +584,7 @@ BUGS = {
 PROMISES = {
     "prints_no_settings": "settings::print_whole",
     "replaces_no_labels": "labelling::write_labels_file",
-    "writes_one_text_to_all_parts": "parts::write_texts",
+    "writes_one_text_to_all_parts": "parts::write_all",
     "replaces_a_file_that_is_there": "parts::require_nothing_at",
     "counts_the_interfaces_with_a_speed": "noting::note_speeds",
     "refuses_an_address_for_its_community": "settings::asked_of",

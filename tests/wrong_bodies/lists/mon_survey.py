@@ -128,7 +128,7 @@ BUGS = {
     ),
     "refuses_what_is_appended": (
         "src/appending.rt",
-        "    if is_appended(alloc, wanted, old, new)? {\n        Ok(())",
+        "    if is_appended(alloc, wanted, old, new)? {\n        Ok(longest_round(new))",
         "    if is_appended(alloc, wanted, old, new)? {\n        Err(SurveyFault::Misread)",
     ),
     "finds_no_old_targets_kept": (
@@ -213,22 +213,22 @@ BUGS = {
     ),
     "reads_nothing_back": (
         "src/surveying.rt",
-        "    given!(read_back(alloc, names, wanted, text.as_str()));\n    Ok(text)",
-        "    let _ = read_back(alloc, names, wanted, text.as_str());\n    Ok(text)",
+        "    let longest = given!(read_back(alloc, names, wanted, text.as_str()));\n",
+        "    let _ = read_back(alloc, names, wanted, text.as_str());\n    let longest = LongestRound {\n        most: 0,\n        wait_ms: 0,\n        tries: 0,\n    };\n",
     ),
     "confirms_no_settings": (
         "src/surveying.rt",
-        "    let text = given!(confirm(shown.alloc, names, &wanted, text));\n    Ok(text)",
-        "    Ok(text)",
+        "    let drafted = given!(confirm(shown.alloc, names, &wanted, text));\n    Ok(drafted)",
+        "    let longest = LongestRound {\n        most: 16000,\n        wait_ms: 1000,\n        tries: 3,\n    };\n    Ok(Drafted { text, longest })",
     ),
     "returns_another_text": (
         "src/surveying.rt",
-        "    given!(read_back(alloc, names, wanted, text.as_str()));\n    Ok(text)",
-        "    given!(read_back(alloc, names, wanted, text.as_str()));\n    let mut text = text;\n    text.push_str(\"#\")?;\n    Ok(text)",
+        "    let longest = given!(read_back(alloc, names, wanted, text.as_str()));\n    Ok(Drafted",
+        "    let longest = given!(read_back(alloc, names, wanted, text.as_str()));\n    let mut text = text;\n    text.push_str(\"#\")?;\n    Ok(Drafted",
     ),
     "refuses_what_is_read": (
         "src/surveying.rt",
-        "    if is_meant(alloc, wanted, station)? {\n        Ok(())",
+        "    if is_meant(alloc, wanted, station)? {\n        Ok(longest_round(station))",
         "    if is_meant(alloc, wanted, station)? {\n        Err(SurveyFault::Misread)",
     ),
     "misreads_what_is_refused": (
@@ -291,6 +291,31 @@ BUGS = {
         "        Kind::Octets => thresholds_at(answers, percent, index),\n        Kind::Packets | Kind::Errors",
         "        Kind::Octets | Kind::Packets => thresholds_at(answers, percent, index),\n        Kind::Errors",
     ),
+    "the_round_of_the_old_settings": (
+        "src/appending.rt",
+        "        Ok(longest_round(new))",
+        "        Ok(longest_round(old))",
+    ),
+    "the_longest_round_answers": (
+        "src/longest.rt",
+        "        most: round_time(settings).most,",
+        "        most: round_time(settings).least,",
+    ),
+    "the_longest_round_is_silent": (
+        "src/longest.rt",
+        "        most: round_time(settings).most,",
+        "        most: round_time(settings).silent,",
+    ),
+    "the_tries_of_no_target": (
+        "src/longest.rt",
+        "        tries: greatest_tries(settings.core.targets()),",
+        "        tries: greatest_tries(&settings.core.targets()[..0]),",
+    ),
+    "waits_a_millisecond_more": (
+        "src/longest.rt",
+        "        wait_ms: settings.wait_ms,",
+        "        wait_ms: settings.wait_ms.saturating_add(1),",
+    ),
     "refuses_for_memory": (
         "src/appending.rt",
         "        Err(SettingsFault::OutOfMemory) => Err(SurveyFault::OutOfMemory),\n",
@@ -298,8 +323,8 @@ BUGS = {
     ),
     "appends_what_was_not_read_back": (
         "src/appending.rt",
-        "    given!(read_appended(alloc, existing, &wanted, text.as_str()));\n",
-        "",
+        "    let longest = given!(read_appended(alloc, existing, &wanted, text.as_str()));\n",
+        "    let longest = longest_round(existing.station);\n",
     ),
     "compares_no_old_peers": (
         "src/kept.rt",

@@ -1,8 +1,9 @@
-use Rattle.std.proofs.Common.{List, ℕ, subst, sym}
-use Rattle.std.specs.Prelude.{Option, Result}
+use Rattle.std.proofs.Common.{subst, sym}
+use Rattle.std.specs.Prelude.{Result}
 use Rattle.mon_app.specs.declared.fault.WalkFault.{WalkFault}
 use Rattle.mon_app.specs.declared.fault.WalkFault.TheVariants.{App}
-use Rattle.mon_app.specs.Walk.{IsTurn, question_after}
+use Rattle.mon_app.specs.declared.walking.Turned.{Turned}
+use Rattle.mon_app.specs.Walk.{IsTurn, SaysWhether, name_in, question_after}
 use Rattle.mon_app.proofs.Askings.{fault_is}
 use Rattle.mon_app.proofs.Walks.{Both, fault_of_turn}
 use Rattle.mon_app.proofs.walking.walk_on.Goals as goal
@@ -14,5 +15,5 @@ returns-in_err-found-clause-turn g c =
     let text = g.H.Host.log c.args.host.now in
     let before = g.W.Wire.told c.args.wire.now in
     let after = g.W.Wire.told c.after.new.wire in
-    subst (λ (r : Result (Option (List ℕ)) WalkFault). Both (λ log said. IsTurn (g.S.NameTexts.shown c.args.names.now) q c.args.turn.now.asked.start.now c.args.turn.now.last.now said log r) before after text text) (sym is)
+    subst (λ (r : Result Turned WalkFault). Both (λ log said. IsTurn (g.S.NameTexts.shown c.args.names.now) q c.args.turn.now.asked.start.now c.args.turn.now.last.now said log (name_in r) × SaysWhether said r) before after text text) (sym is)
     (fault_of_turn (g.S.NameTexts.shown c.args.names.now) q c.args.turn.now.asked.start.now c.args.turn.now.last.now before after text c.in_err-found.field-0.0 c.in_err-found.ensures.answer)

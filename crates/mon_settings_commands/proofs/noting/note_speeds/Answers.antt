@@ -1,4 +1,4 @@
-use Rattle.std.proofs.Common.{◌≡◌, ◌∙◌, List, None, ap}
+use Rattle.std.proofs.Common.{◌≡◌, ◌∙◌, List, ap}
 use Rattle.mon_host.proofs.Promised.{weaker}
 use Rattle.mon_host.specs.AtHost.{AtHost}
 use Rattle.mon_settings_commands.specs.Notes.{AreSpeedsNoted, speed_notes}

@@ -1,20 +1,20 @@
-use Rattle.std.proofs.Common.{List, [], length, map, string_bytes, subst}
-use Rattle.std.specs.Global.{Global}
-use Rattle.std.specs.Prelude.{Err, Ok, String}
+use Rattle.std.proofs.Common.{List, [], length, subst}
+use Rattle.std.specs.Prelude.{Err, Ok}
 use Rattle.mon_host.specs.Log.{GoesOnBy}
 use Rattle.mon_host.proofs.Promised.{then_follows}
-use Rattle.mon_settings_commands.specs.Parts.{AreAbsent, ArePartTexts, AreWritten}
+use Rattle.mon_survey.specs.declared.longest.Drafted.{Drafted}
+use Rattle.mon_settings_commands.specs.Parts.{AreAbsent, AreParted, AreWritten}
 use Rattle.mon_settings_commands.specs.Settings.{AreLabels}
 use Rattle.mon_settings_commands.specs.Source.{source_in}
-use Rattle.mon_settings_commands.proofs.Sequences.{AfterAbsent, AfterLabels, AfterTexts}
+use Rattle.mon_settings_commands.proofs.Sequences.{AfterAbsent, AfterLabels, AfterParts}
 use Rattle.mon_settings_commands.proofs.Turns.{fails, fails_quietly, quietly_then}
 use Rattle.mon_settings_commands.proofs.parts.write_parts.Goals as goal
 
-pub returns-in_err-texts : goal.returns-in_err-texts
-returns-in_err-texts g c =
+pub returns-in_err-parts : goal.returns-in_err-parts
+returns-in_err-parts g c =
     let s = source_in c.args.ground.now in
-    fails_quietly (ArePartTexts s) (AfterTexts s c.args.folder.now) c.in_err-texts.field-0.0 c.from_residual.result (g.H.Host.log c.args.host.now) c.from_residual.ensures.1
-    c.in_err-texts.ensures
+    fails_quietly (AreParted s) (AfterParts s c.args.folder.now) c.in_err-parts.field-0.0 c.from_residual.result (g.H.Host.log c.args.host.now) c.from_residual.ensures.1
+    c.in_err-parts.ensures
 
 pub returns-in_err-require_absent : goal.returns-in_err-require_absent
 returns-in_err-require_absent g c =
@@ -22,12 +22,12 @@ returns-in_err-require_absent g c =
     let folder = c.args.folder.now in
     let now = g.H.Host.log c.args.host.now in
     let looked = g.H.Host.log c.require_absent.new.host in
-    let texts = c.in_ok-texts.texts in
+    let parts = c.in_ok-parts.parts in
     let failure = c.in_err-require_absent.field-0.0 in
     let r = c.from_residual-in_err-require_absent.result in
-    let absent = subst (λ (ts : List (String Global)). GoesOnBy (λ log. AreAbsent folder 0 (length ts) log (Err failure)) now looked) c.as_slice.ensures.value c.in_err-require_absent.ensures in
-    quietly_then (ArePartTexts s) (AfterTexts s folder) texts r now looked c.in_ok-texts.ensures
-    (fails (AreAbsent folder 0 (length texts.items)) (AfterAbsent s folder texts) failure r now looked c.from_residual-in_err-require_absent.ensures.1 absent)
+    let absent = subst (λ (ps : List Drafted). GoesOnBy (λ log. AreAbsent folder 0 (length ps) log (Err failure)) now looked) c.as_slice.ensures.value c.in_err-require_absent.ensures in
+    quietly_then (AreParted s) (AfterParts s folder) parts r now looked c.in_ok-parts.ensures
+    (fails (AreAbsent folder 0 (length parts.items)) (AfterAbsent s folder parts) failure r now looked c.from_residual-in_err-require_absent.ensures.1 absent)
 
 pub returns-in_err-write_labels : goal.returns-in_err-write_labels
 returns-in_err-write_labels g c =
@@ -36,13 +36,13 @@ returns-in_err-write_labels g c =
     let now = g.H.Host.log c.args.host.now in
     let looked = g.H.Host.log c.require_absent.new.host in
     let labelled = g.H.Host.log c.write_labels.new.host in
-    let texts = c.in_ok-texts.texts in
+    let parts = c.in_ok-parts.parts in
     let r = c.from_residual-in_err-write_labels.result in
-    let absent = subst (λ (ts : List (String Global)). GoesOnBy (λ log. AreAbsent folder 0 (length ts) log (Ok c.in_ok-require_absent.field-0)) now looked) c.as_slice.ensures.value
+    let absent = subst (λ (ps : List Drafted). GoesOnBy (λ log. AreAbsent folder 0 (length ps) log (Ok c.in_ok-require_absent.field-0)) now looked) c.as_slice.ensures.value
     c.in_ok-require_absent.ensures in
-    quietly_then (ArePartTexts s) (AfterTexts s folder) texts r now labelled c.in_ok-texts.ensures
-    (then_follows (AreAbsent folder 0 (length texts.items)) (AfterAbsent s folder texts) (Ok c.in_ok-require_absent.field-0) r now looked labelled absent
-    (fails (AreLabels s []) (AfterLabels folder texts) c.in_err-write_labels.field-0.0 r looked labelled c.from_residual-in_err-write_labels.ensures.1 c.in_err-write_labels.ensures))
+    quietly_then (AreParted s) (AfterParts s folder) parts r now labelled c.in_ok-parts.ensures
+    (then_follows (AreAbsent folder 0 (length parts.items)) (AfterAbsent s folder parts) (Ok c.in_ok-require_absent.field-0) r now looked labelled absent
+    (fails (AreLabels s []) (AfterLabels folder parts) c.in_err-write_labels.field-0.0 r looked labelled c.from_residual-in_err-write_labels.ensures.1 c.in_err-write_labels.ensures))
 
 pub returns : goal.returns
 returns g c =
@@ -51,12 +51,12 @@ returns g c =
     let now = g.H.Host.log c.args.host.now in
     let looked = g.H.Host.log c.require_absent.new.host in
     let labelled = g.H.Host.log c.write_labels.new.host in
-    let end = g.H.Host.log c.write_texts.new.host in
-    let texts = c.in_ok-texts.texts in
-    let r = c.write_texts.result in
-    let absent = subst (λ (ts : List (String Global)). GoesOnBy (λ log. AreAbsent folder 0 (length ts) log (Ok c.in_ok-require_absent.field-0)) now looked) c.as_slice.ensures.value
+    let end = g.H.Host.log c.write_all.new.host in
+    let parts = c.in_ok-parts.parts in
+    let r = c.write_all.result in
+    let absent = subst (λ (ps : List Drafted). GoesOnBy (λ log. AreAbsent folder 0 (length ps) log (Ok c.in_ok-require_absent.field-0)) now looked) c.as_slice.ensures.value
     c.in_ok-require_absent.ensures in
-    let written = subst (λ (ts : List (String Global)). GoesOnBy (λ log. AreWritten folder 0 (map string_bytes ts) log r) labelled end) c.as_slice-2.ensures.value c.write_texts.ensures in
-    quietly_then (ArePartTexts s) (AfterTexts s folder) texts r now end c.in_ok-texts.ensures
-    (then_follows (AreAbsent folder 0 (length texts.items)) (AfterAbsent s folder texts) (Ok c.in_ok-require_absent.field-0) r now looked end absent
-    (then_follows (AreLabels s []) (AfterLabels folder texts) (Ok c.in_ok-write_labels.field-0) r looked labelled end c.in_ok-write_labels.ensures written))
+    let written = subst (λ (ps : List Drafted). GoesOnBy (λ log. AreWritten folder 0 ps log r) labelled end) c.as_slice-2.ensures.value c.write_all.ensures in
+    quietly_then (AreParted s) (AfterParts s folder) parts r now end c.in_ok-parts.ensures
+    (then_follows (AreAbsent folder 0 (length parts.items)) (AfterAbsent s folder parts) (Ok c.in_ok-require_absent.field-0) r now looked end absent
+    (then_follows (AreLabels s []) (AfterLabels folder parts) (Ok c.in_ok-write_labels.field-0) r looked labelled end c.in_ok-write_labels.ensures written))

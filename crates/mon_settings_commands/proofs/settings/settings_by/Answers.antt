@@ -22,8 +22,8 @@ returns-in-Ok c =
       c.choice.result,
       made,
       record { kinds = is.kinds; up = is.up; part = is.part; group = is.group },
-      subst (λ (cells : List Cell). IsSettingsText names (shown_by names (length o.modules.now)) c.choice.result o c.args.ground.now.survey.now.engine.items cells (string_bytes c.in-Ok.text)) c.agent.ensures.answers
-          (subst (λ (engine : List ℕ). IsSettingsText names (shown_by names (length o.modules.now)) c.choice.result o engine c.agent.result.answers.now (string_bytes c.in-Ok.text)) c.agent.ensures.engine c.in-Ok.ensures.reads),
+      subst (λ (cells : List Cell). IsSettingsText names (shown_by names (length o.modules.now)) c.choice.result o c.args.ground.now.survey.now.engine.items cells (string_bytes c.in-Ok.drafted.text) c.in-Ok.drafted.longest) c.agent.ensures.answers
+          (subst (λ (engine : List ℕ). IsSettingsText names (shown_by names (length o.modules.now)) c.choice.result o engine c.agent.result.answers.now (string_bytes c.in-Ok.drafted.text) c.in-Ok.drafted.longest) c.agent.ensures.engine c.in-Ok.ensures.reads),
     )
 
 pub returns-in-Err : goal.returns-in-Err

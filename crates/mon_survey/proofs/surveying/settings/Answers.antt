@@ -7,5 +7,5 @@ use Rattle.mon_survey.proofs.surveying.settings.Goals as goal
 
 pub returns-clause-reads : goal.returns-clause-reads
 returns-clause-reads c =
-    subst (λ (shown : List ℕ → List ℕ). IfOk c.settings_by-2.result (λ text. IsSettingsText c.args.names.now shown c.args.choice.now c.args.options.now c.args.agent.now.engine.now c.args.agent.now.answers.now (string_bytes text)))
+    subst (λ (shown : List ℕ → List ℕ). IfOk c.settings_by-2.result (λ drafted. IsSettingsText c.args.names.now shown c.args.choice.now c.args.options.now c.args.agent.now.engine.now c.args.agent.now.answers.now (string_bytes drafted.text) drafted.longest))
     (by_modules c.args.names.now (length c.args.options.now.modules.now) c.is_empty.result c.is_empty.ensures c.if-is_empty.false _ (ap name_text c.in_ok-labels.ensures)) c.settings_by-2.ensures.reads

@@ -1,7 +1,7 @@
 use Rattle.std.proofs.Common.{◌≡◌}
 use Rattle.mon_app.specs.Walk.{question_after}
 use Rattle.mon_app.proofs.Walks.{IsAt}
-use Rattle.mon_app.proofs.walking.walk.Given as goal
+use Rattle.mon_app.proofs.walking.walk_through.Given as goal
 
 -- the walk went on by this many turns, more lines are taken, and the wire did not fail
 abbrev pub invariant-loop-request_id : goal.invariant-loop-request_id
