@@ -134,6 +134,7 @@ IsStation rows w = IsSettings rows w.settings
     × (w.checks ≡ is_on (codes "check") rows)
     × IsTiming rows w.timing
     × IsNumberOr 32 3 (one_of (codes "stale-after") rows) w.stale_after
+    × IsNumberOr 32 1 (one_of (codes "alarm-after") rows) w.alarm_after
     × (option_map (λ o. o.now) w.out ≡ first_of (codes "out") rows)
     × (option_map (λ o. o.now) w.http ≡ first_of (codes "http") rows)
     × (texts w.http_hosts.now ≡ all_in (codes "http-host") rows)
@@ -245,7 +246,9 @@ IsWithin (asked.Settings w) = IsIn (value_of commands.Settings (codes "station")
 IsWithin (asked.Agent w) = IfSome w.boots (IsSignedIn (value_of commands.Agent (codes "boots"))) × IsIn (value_of commands.Agent (codes "count")) w.count
 IsWithin (asked.Answer w) = IfSome w.boots (IsSignedIn (value_of commands.Answer (codes "boots")))
     × IsIn (value_of commands.Answer (codes "at")) w.scene.at × IsIn (value_of commands.Answer (codes "times")) w.scene.times
-IsWithin (asked.Station w) = IsTimingIn w.timing × IsIn (value_of commands.Station (codes "stale-after")) w.stale_after
+IsWithin (asked.Station w) = IsTimingIn w.timing
+    × IsIn (value_of commands.Station (codes "stale-after")) w.stale_after
+    × IsIn (value_of commands.Station (codes "alarm-after")) w.alarm_after
 IsWithin (asked.Rehearse w) = IsIn (value_of commands.Rehearse (codes "K")) w.stations
 IsWithin _ = ⊤
 

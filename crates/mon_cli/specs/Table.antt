@@ -111,6 +111,7 @@ arguments commands.Station = settings
     ∷ option (codes "phase") (up_to 0 86399)
     ∷ option (codes "report-every") (up_to 1 1000000)
     ∷ option (codes "stale-after") (up_to 1 1000000)
+    ∷ option (codes "alarm-after") (up_to 1 1000000)
     ∷ option (codes "out") Text
     ∷ option (codes "http") Text
     ∷ repeated (codes "http-host")

@@ -364,6 +364,18 @@ value, rate and alarm of the instance, 1 to
 1000000; 3 if not given",
 };
 
+const ALARM_AFTER: Line = Line {
+    id: "alarm-after",
+    form: Form::Long,
+    takes: Takes::One(Value::Number(1, 1_000_000)),
+    needed: false,
+    shown: "ROUNDS",
+    help: "A change of an alarm is announced once it has held
+at the end of ROUNDS rounds with no other change
+between, 1 to 1000000; each change at once if not
+given",
+};
+
 const OUT: Line = Line {
     id: "out",
     form: Form::Long,
@@ -606,7 +618,7 @@ static ANSWER: [Line; 7] = [AGENT_SETTINGS, BOOTS, AT, FUSES, TIMES, MODULE, NAM
 
 static MIB: [Line; 2] = [FILE, MODULE];
 
-static STATION: [Line; 15] = [
+static STATION: [Line; 16] = [
     SETTINGS,
     ROUNDS,
     CHECK,
@@ -614,6 +626,7 @@ static STATION: [Line; 15] = [
     PHASE,
     REPORT_EVERY,
     STALE_AFTER,
+    ALARM_AFTER,
     OUT,
     HTTP,
     HTTP_HOST,

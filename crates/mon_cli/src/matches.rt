@@ -3,7 +3,7 @@
 ghost use Rattle.std.specs.Prelude.{◌≡◌, codes, option_map};
 ghost use Rattle.clap.specs.Words.{first_of, found_of, one_of, rows_of, subcommand_rows_of};
 ghost use Rattle.clap.specs.Walk.{texts};
-ghost use Rattle.mon_cli.specs.Asked.{AreAllowed, AreThere, AsksFor, IsAgent, IsAnswer, IsFormat, IsInteger, IsNamed, IsNumber, IsNumberOr, IsPrinted, IsRequest, IsScene, IsStation, IsSurvey, IsTiming, IsWithin, Says, all_in, is_on, text_in, wants_report};
+ghost use Rattle.mon_cli.specs.Asked.{AreAllowed, AreThere, AsksFor, IsAgent, IsAnswer, IsFormat, IsInteger, IsNamed, IsNumber, IsNumberOr, IsPrinted, IsRequest, IsScene, IsStation, IsSurvey, IsTiming, IsTimingIn, IsWithin, Says, all_in, is_on, text_in, wants_report};
 ghost use Rattle.mon_cli.specs.Program.{IsParse};
 ghost use Rattle.mon_cli.specs.Table.{arguments};
 ghost use Rattle.mon_cli.specs.declared.choice.Choice.TheVariants as commands;
@@ -142,7 +142,9 @@ fn request<'m, 'a>(matches: &'m ArgMatches<'a>) -> Request<'m, 'a>
 
 /// Returns when rounds are run.
 fn timing(matches: &ArgMatches<'_>) -> Timing
-    ensures { IsTiming (rows_of (found_of matches.now)) result }
+    requires { AreAllowed (arguments commands.Station) (rows_of (found_of matches.now)) }
+    ensures says { IsTiming (rows_of (found_of matches.now)) result }
+    ensures within { IsTimingIn result }
 {
     Timing {
         rounds: number_or(matches, "rounds", 0),
@@ -197,6 +199,7 @@ fn station<'m, 'a>(matches: &'m ArgMatches<'a>) -> StationArgs<'m, 'a>
         checks: is_on(matches, "check"),
         timing: timing(matches),
         stale_after: number_or(matches, "stale-after", USUAL_ROUNDS),
+        alarm_after: number_or(matches, "alarm-after", 1),
         out: find_value(matches, "out"),
         http: find_value(matches, "http"),
         http_hosts: all(matches, "http-host"),

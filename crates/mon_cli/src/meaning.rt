@@ -164,6 +164,9 @@ pub struct StationArgs<'m, 'a> {
     pub timing: Timing,
     /// From how many rounds without a new sample on Prometheus' format leaves an instance out.
     pub stale_after: u32,
+    /// At the ends of how many rounds a change of an alarm must have held before it is announced;
+    /// with 1 each change is announced at once.
+    pub alarm_after: u32,
     /// The file that each round's report is written to.
     pub out: Option<&'a str>,
     /// The address at which its report is served over HTTP.

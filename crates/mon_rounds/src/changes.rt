@@ -1,12 +1,14 @@
 //! What is wrong with targets, peers and instances, and what changed in that, each change said
 //! once.
 
-ghost use Rattle.std.specs.Prelude.{◌≡◌, ◌++◌, IfOk, OnErr, OnOk, [], false, get_or, map};
-ghost use Rattle.mon_rounds.specs.Changes.{answers, change_at, changes_between, changes_from, is_lost, is_other, is_silent, is_stale, no_troubles, offers_often, told_by, troubles_after};
+ghost use Rattle.std.specs.Prelude.{◌≡◌, ◌++◌, IfOk, None, OnErr, OnOk, [], false, get_or, length, map, option_map};
+ghost use Rattle.mon_rounds.specs.Changes.{answers, change_at, changes_between, changes_from, engine_change, engine_changes, is_lost, is_other, is_silent, is_stale, no_troubles, offers_often, other_at, other_if, others_of, told_by, troubles_after};
 ghost use Rattle.mon_rounds.specs.Freshness.{is_late};
 
 use crate::freshness::{Freshness, InstanceAge, PeerAge, TargetAge};
+use mon_ber::Octets;
 use mon_poller::ResponseFault;
+use mon_reasons::Latest;
 use mon_station::StationFault;
 use std::alloc::{AllocError, Global};
 
@@ -19,7 +21,8 @@ const IN_A_ROW: u32 = 3;
 pub enum Trouble {
     /// A target did not answer in the last round.
     SilentTarget,
-    /// A target's last response was of another engine.
+    /// A target's last response was of another engine, which is known; it begins again with each
+    /// other one.
     OtherEngine,
     /// Late datagrams came from a target's address in each of the last three rounds, or in the time
     /// after it.
@@ -46,7 +49,8 @@ pub struct Change {
 /// What is wrong with each target, peer and instance, as far as it was said.
 pub struct Troubles {
     silent_targets: Vec<bool>,
-    other_engines: Vec<bool>,
+    /// Of each target the engine that answers in its place, if one does.
+    other_engines: Vec<Option<Octets>>,
     late_targets: Vec<bool>,
     silent_peers: Vec<bool>,
     often_peers: Vec<bool>,
@@ -83,7 +87,8 @@ impl Troubles {
     }
 
     /// Returns what changed since the last call. A peer is silent, and an instance stale, after
-    /// this many rounds without a datagram or a new sample.
+    /// this many rounds without a datagram or a new sample. The engines that answer in place of
+    /// others are given, as `other_engines` returns them.
     ///
     /// # Errors
     /// `AllocError`: then the next call returns these changes too.
@@ -91,27 +96,34 @@ impl Troubles {
         &mut self,
         alloc: Global,
         freshness: &Freshness,
+        others: Vec<Option<Octets>>,
         limit: u32,
     ) -> Result<Vec<Change>, AllocError>
-        ensures changes { IfOk result (λ v. v.items ≡ changes_between (told_by self.old) (troubles_after limit (told_by self.old) freshness.now)) }
-        ensures told { OnOk result (told_by self.new ≡ troubles_after limit (told_by self.old) freshness.now) }
+        ensures changes { IfOk result (λ v. v.items ≡ changes_between (told_by self.old) (troubles_after limit (told_by self.old) others.items freshness.now)) }
+        ensures told { OnOk result (told_by self.new ≡ troubles_after limit (told_by self.old) others.items freshness.now) }
         ensures kept { OnErr result (told_by self.new ≡ told_by self.old) }
     {
-        let now = self.after(alloc, freshness, limit)?;
+        let now = self.after(alloc, freshness, others, limit)?;
         let changes = self.changes_to(alloc, &now)?;
         *self = now;
         Ok(changes)
     }
 
     /// Returns what is wrong now, where this was said before.
-    fn after(&self, alloc: Global, freshness: &Freshness, limit: u32) -> Result<Self, AllocError>
-        ensures { IfOk result (λ t. told_by t ≡ troubles_after limit (told_by self.now) freshness.now) }
+    fn after(
+        &self,
+        alloc: Global,
+        freshness: &Freshness,
+        others: Vec<Option<Octets>>,
+        limit: u32,
+    ) -> Result<Self, AllocError>
+        ensures { IfOk result (λ t. told_by t ≡ troubles_after limit (told_by self.now) others.items freshness.now) }
     {
         let (targets, peers) = (freshness.targets(), freshness.peers());
         let said = self.stale_instances.as_slice();
         Ok(Troubles {
             silent_targets: silent_targets(alloc, targets)?,
-            other_engines: other_engines(alloc, targets)?,
+            other_engines: others,
             late_targets: late_targets(alloc, targets)?,
             silent_peers: silent_peers(alloc, peers, limit)?,
             often_peers: often_peers(alloc, peers)?,
@@ -130,7 +142,7 @@ impl Troubles {
         );
         put_changes(&mut changes, Trouble::SilentTarget, was, is)?;
         let (was, is) = (self.other_engines.as_slice(), now.other_engines.as_slice());
-        put_changes(&mut changes, Trouble::OtherEngine, was, is)?;
+        put_engine_changes(&mut changes, was, is)?;
         let (was, is) = (self.late_targets.as_slice(), now.late_targets.as_slice());
         put_changes(&mut changes, Trouble::LateTarget, was, is)?;
         let (was, is) = (self.silent_peers.as_slice(), now.silent_peers.as_slice());
@@ -181,6 +193,58 @@ fn put_change(
     Ok(())
 }
 
+/// Adds the changes of the engines that answer in place of others, from what was said to what is.
+fn put_engine_changes(
+    changes: &mut Vec<Change>,
+    said: &[Option<Octets>],
+    is: &[Option<Octets>],
+) -> Result<(), AllocError>
+    ensures { OnOk result (changes.new.items ≡ changes.old.items ++ engine_changes 0 said.now is.now) }
+{
+    for number in 0..is.len() {
+        put_engine_change(
+            changes,
+            number,
+            engine_at(said, number),
+            engine_at(is, number),
+        )?;
+    }
+    Ok(())
+}
+
+/// Returns the engine that answers in place of that of the target of this number, if one does.
+fn engine_at(engines: &[Option<Octets>], number: usize) -> Option<&Octets>
+    ensures { option_map (λ e. e.now) result ≡ get_or engines.now number None }
+{
+    match engines.get(number) {
+        Some(Some(engine)) => Some(engine),
+        _ => None,
+    }
+}
+
+/// Adds that another engine answers in place of a target's than before, or none any more.
+fn put_engine_change(
+    changes: &mut Vec<Change>,
+    number: usize,
+    was: Option<&Octets>,
+    is: Option<&Octets>,
+) -> Result<(), AllocError>
+    ensures { OnOk result (changes.new.items ≡ changes.old.items
+        ++ engine_change number (option_map (λ e. e.now) was.entry) (option_map (λ e. e.now) is.entry)) }
+{
+    let begins = match (was, is) {
+        (None, None) => return Ok(()),
+        (Some(was), Some(is)) if was.as_slice() == is.as_slice() => return Ok(()),
+        (_, is) => is.is_some(),
+    };
+    changes.push(Change {
+        trouble: Trouble::OtherEngine,
+        number,
+        begins,
+    })?;
+    Ok(())
+}
+
 /// Returns `true` if it was said of the one of this number.
 fn is_said(said: &[bool], number: usize) -> bool
     ensures { result ≡ get_or said.now number false }
@@ -202,15 +266,57 @@ fn silent_targets(alloc: Global, targets: &[TargetAge]) -> Result<Vec<bool>, All
     Ok(silent)
 }
 
-/// Of each target, whether its last response was of another engine.
-fn other_engines(alloc: Global, targets: &[TargetAge]) -> Result<Vec<bool>, AllocError>
-    ensures { IfOk result (λ v. v.items ≡ map is_other targets.now) }
+/// Returns of each target the engine that answers in place of its own, if one does: that of its
+/// newest message, if its last response was refused since it was of another engine. `engines` are
+/// the targets' own, in their order.
+///
+/// # Errors
+/// `AllocError` if memory is refused.
+pub fn other_engines(
+    alloc: Global,
+    latest: &Latest,
+    targets: &[TargetAge],
+    engines: &[Vec<u8>],
+) -> Result<Vec<Option<Octets>>, AllocError>
+    ensures { IfOk result (λ v. v.items ≡ others_of latest.now.datagrams.items targets.now engines.now (length targets.now)) }
 {
     let mut others = Vec::with_capacity(alloc, targets.len())?;
-    for target in targets {
-        others.push(is_other(target))?;
+    for place in 0..targets.len() {
+        others.push(other_at(alloc, latest, targets.get(place), engines.get(place))?)?;
     }
     Ok(others)
+}
+
+/// Returns the engine that answers in place of a target's, if one does.
+fn other_at(
+    alloc: Global,
+    latest: &Latest,
+    target: Option<&TargetAge>,
+    engine: Option<&Vec<u8>>,
+) -> Result<Option<Octets>, AllocError>
+    ensures { IfOk result (λ other. other ≡ other_at latest.now.datagrams.items
+        (option_map (λ t. t.now) target.entry) (option_map (λ e. e.now) engine.entry)) }
+{
+    match (target, engine) {
+        (Some(target), Some(engine)) => other_if(alloc, latest, target, engine.as_slice()),
+        _ => Ok(None),
+    }
+}
+
+/// Returns the engine that answers in place of this one, if the target's last response was of
+/// another.
+fn other_if(
+    alloc: Global,
+    latest: &Latest,
+    target: &TargetAge,
+    engine: &[u8],
+) -> Result<Option<Octets>, AllocError>
+    ensures { IfOk result (λ other. other ≡ other_if latest.now.datagrams.items target.now engine.now) }
+{
+    if is_other(target) {
+        return latest.other_engine(alloc, target.address, engine);
+    }
+    Ok(None)
 }
 
 /// Returns `true` if a target's last response was of another engine.

@@ -2,15 +2,16 @@
 
 ghost use Rattle.std.specs.Prelude.{◌≡◌, ◌↔◌, IfOk, IsTrue, OnErr, OnOk, map};
 ghost use Rattle.std.specs.Duration.{as_nanos};
-ghost use Rattle.mon_report.specs.Alarms.{changes_from, windows_of};
-ghost use Rattle.mon_rounds.specs.Course.{IsDue, counted_on, debts_to, milliseconds_left};
+ghost use Rattle.mon_alarms.specs.Announcing.{after_announcing, announced_of, announced_states, announcer_of};
+ghost use Rattle.mon_report.specs.Alarms.{states_of, windows_of};
+ghost use Rattle.mon_rounds.specs.Course.{IsDue, IsUnannounced, changes_since, counted_on, debts_to, milliseconds_left};
 ghost use Rattle.mon_station.specs.State.{state_of};
 
 use crate::reporting::RoundReport;
-use mon_alarms::AlarmChange;
+use mon_alarms::{AlarmChange, AlarmState, Announcer};
 use mon_board::Board;
 use mon_disk::Disk;
-use mon_report::{alarm_changes, seen_windows};
+use mon_report::{alarm_changes, alarm_states, seen_windows};
 use mon_sample::Sample;
 use mon_station::Station;
 use std::alloc::{AllocError, Global};
@@ -26,20 +27,41 @@ pub struct Course {
     given_up: u64,
     /// The windows of its alarms at the last look.
     windows: Vec<Vec<Sample>>,
+    /// What is announced of its alarms.
+    announcer: Announcer,
 }
 
 impl Course {
-    /// The course of a station that begins with this board: what its windows hold now is no change.
-    pub fn new(alloc: Global, board: &Board) -> Result<Self, AllocError>
+    /// Returns the course of a station that begins with this board: what its windows hold now is no
+    /// change. A change of an alarm is announced once it has held in `after` looks; each at once if
+    /// that is at most 1.
+    ///
+    /// # Errors
+    /// `AllocError` if memory is refused.
+    pub fn new(alloc: Global, board: &Board, after: u32) -> Result<Self, AllocError>
         ensures taken { IfOk result (λ c. c.taken ≡ 0) }
         ensures given_up { IfOk result (λ c. c.given_up ≡ 0) }
         ensures windows { IfOk result (λ c. map (λ w. w.items) c.windows.items ≡ windows_of board.now) }
+        ensures announcer { IfOk result (λ c. c.announcer ≡ announcer_of after (states_of board.now)) }
     {
+        let states = alarm_states(alloc, board)?;
         Ok(Course {
             taken: 0,
             given_up: 0,
             windows: seen_windows(alloc, board)?,
+            announcer: Announcer::new(alloc, after, states.as_slice())?,
         })
+    }
+
+    /// Returns the states of its alarms that were announced last, in the order of the rules; none if
+    /// each change is announced at once.
+    ///
+    /// # Errors
+    /// `AllocError` if memory is refused.
+    pub fn announced(&self, alloc: Global) -> Result<Vec<AlarmState>, AllocError>
+        ensures { IfOk result (λ v. v.items ≡ announced_states self.now.announcer) }
+    {
+        self.announcer.states(alloc)
     }
 
     /// How many samples were offered in what it handled, at most 2^64 - 1.
@@ -61,31 +83,35 @@ impl Course {
         ensures taken { self.new.taken ≡ counted_on self.old.taken report.now.taken }
         ensures given_up { self.new.given_up ≡ counted_on self.old.given_up report.now.given_up }
         ensures windows { self.new.windows ≡ self.old.windows }
+        ensures announcer { self.new.announcer ≡ self.old.announcer }
     {
         self.taken = self.taken.saturating_add(report.taken);
         self.given_up = self.given_up.saturating_add(report.given_up);
     }
 
-    /// Returns what became of the board's alarms since the last call: each time that a sample
-    /// raised or cleared one, also a sample that is older than others, and the state now if these
-    /// do not lead to it.
+    /// Returns what is announced of the board's alarms. Their changes since the last call are each
+    /// time that a sample raised or cleared one, also a sample that is older than others, and the
+    /// state now if these do not lead to it. `looks` says whether this is a look, at a round's end,
+    /// or the time between two.
     ///
     /// # Errors
-    /// `AllocError`: then the next call returns these changes too.
+    /// `AllocError`: then the next call knows these changes too, and this look does not count.
     pub fn take_changes(
         &mut self,
         alloc: Global,
         board: &Board,
+        looks: bool,
     ) -> Result<Vec<AlarmChange>, AllocError>
-        ensures changes { IfOk result (λ v. v.items ≡ changes_from board.now 0 board.now.watch.rules (map (λ w. w.items) self.old.windows.items)) }
+        ensures changes { IfOk result (λ v. v.items ≡ announced_of looks (changes_since board.now (map (λ w. w.items) self.old.windows.items)) self.old.announcer) }
+        ensures announcer { OnOk result (self.new.announcer ≡ after_announcing looks (changes_since board.now (map (λ w. w.items) self.old.windows.items)) self.old.announcer) }
         ensures told { OnOk result (map (λ w. w.items) self.new.windows.items ≡ windows_of board.now) }
-        ensures kept { OnErr result (self.new.windows ≡ self.old.windows) }
+        ensures kept { OnErr result (IsUnannounced board.now self.old self.new) }
         ensures taken { self.new.taken ≡ self.old.taken }
         ensures given_up { self.new.given_up ≡ self.old.given_up }
     {
         let changes = alarm_changes(alloc, board, self.windows.as_slice())?;
         self.windows = seen_windows(alloc, board)?;
-        Ok(changes)
+        self.announcer.announce(alloc, changes, looks)
     }
 }
 

@@ -27,7 +27,7 @@ mod socket;
 mod source;
 
 pub use addresses::Addresses;
-pub use changes::{Change, Trouble, Troubles};
+pub use changes::{Change, Trouble, Troubles, other_engines};
 pub use clock::{Clock, Restart};
 pub use course::{Course, debts_of, is_due, left_of};
 pub use explaining::explain_stale;

@@ -52,11 +52,11 @@ alarms_after : (alarms : List (List ℕ)) (given : Result Unit Failure) (rest : 
 alarms_after alarms (Ok u) rest r is = are_alarms alarms rest r is
 alarms_after alarms (Err failure) rest r (none, same) = are_quiet_as [] rest none refl
 
-are_changes : (alarms : List (List ℕ)) (round : ℕ) (whole : Bool) (log : List AtHost) (r : Result Unit Failure) → AreChanges alarms round whole log r → AreQuiet log
+are_changes : (alarms : Bool → List (List ℕ)) (round : ℕ) (whole : Bool) (log : List AtHost) (r : Result Unit Failure) → AreChanges alarms round whole log r → AreQuiet log
 are_changes alarms round whole log r is = are_quiet_as (is.begin ++ is.rest) log is.log_is
-    (are_quiet_on is.begin is.rest (are_troubles whole round is.begin is.given is.first) (alarms_after alarms is.given is.rest r is.second))
+    (are_quiet_on is.begin is.rest (are_troubles whole round is.begin is.given is.first) (alarms_after (alarms whole) is.given is.rest r is.second))
 
-module _ (IsReport : RoundReport → Type 0) (alarms : List (List ℕ)) (round : ℕ) where
+module _ (IsReport : RoundReport → Type 0) (alarms : Bool → List (List ℕ)) (round : ℕ) where
   is_report : (whole : Bool) (b a : Option KeeperFault) (log : List AtHost) (r : Result Unit Failure) → IsReportOr IsReport alarms round whole b a log r → AreQuiet log
   is_report whole b a log r (inl (none, same)) = are_quiet_as [] log none.0 refl
   is_report whole b a log r (inr is) = are_quiet_as (is.begin ++ is.rest) log is.log_is
@@ -173,7 +173,7 @@ module _ (IsReport : RoundReport → Type 0) (alarms : List (List ℕ)) (round :
       }
 
 -- the same span, of what a run was afterwards
-pub span_of : (targets targets2 : List Addr) (events events2 : List RoundEvent) (run run2 : Run) (alarms : List (List ℕ)) (round : ℕ) (whole : Bool) (b a : Kept)
+pub span_of : (targets targets2 : List Addr) (events events2 : List RoundEvent) (run run2 : Run) (alarms : Bool → List (List ℕ)) (round : ℕ) (whole : Bool) (b a : Kept)
     (t0 t1 : Option (List AtHost)) → targets2 ≡ targets → events2 ≡ events → run2 ≡ run
     → GoesOnBy (λ log. IsSpan (IsOfRun targets events run) alarms round whole b a log) t0 t1
     → GoesOnBy (λ log. IsSpan (IsOfRun targets2 events2 run2) alarms round whole b a log) t0 t1
@@ -183,7 +183,7 @@ span_of targets targets2 events events2 run run2 alarms round whole b a t0 t1 on
     (subst (λ (n : List Addr). GoesOnBy (λ log. IsSpan (IsOfRun n events run) alarms round whole b a log) t0 t1) (sym one) span))
 
 -- a clock failed, and nothing was run
-pub span_stops : (IsReport : RoundReport → Type 0) (alarms : List (List ℕ)) (round : ℕ) (whole : Bool) (b a : Kept) (failure : Failure) (r : Result Unit Failure)
+pub span_stops : (IsReport : RoundReport → Type 0) (alarms : Bool → List (List ℕ)) (round : ℕ) (whole : Bool) (b a : Kept) (failure : Failure) (r : Result Unit Failure)
     (t0 t1 : Option (List AtHost)) → r ≡ Err failure → a ≡ b → GoesOnBy (λ log. IsStopped log failure) t0 t1
     → GoesOnBy (λ log. IsSpanRun IsReport alarms round whole b a log r) t0 t1
 span_stops IsReport alarms round whole b a failure r t0 t1 is same stop =
@@ -251,24 +251,24 @@ pub no_troubles : (round : ℕ) (t : Option (List AtHost)) → GoesOnBy (λ log.
 no_troubles round t = record { more = []; holds = (refl, refl); on = stays t }
 
 -- troubles, and then alarms
-pub changes_are : (alarms : List (List ℕ)) (round : ℕ) (whole : Bool) (done : Unit) (r : Result Unit Failure) (t0 t1 t2 : Option (List AtHost))
-    → GoesOnBy (λ log. AreTroubles whole round log (Ok done)) t0 t1 → GoesOnBy (λ log. AreAlarms alarms log r) t1 t2 → GoesOnBy (λ log. AreChanges alarms round whole log r) t0 t2
+pub changes_are : (alarms : Bool → List (List ℕ)) (round : ℕ) (whole : Bool) (done : Unit) (r : Result Unit Failure) (t0 t1 t2 : Option (List AtHost))
+    → GoesOnBy (λ log. AreTroubles whole round log (Ok done)) t0 t1 → GoesOnBy (λ log. AreAlarms (alarms whole) log r) t1 t2 → GoesOnBy (λ log. AreChanges alarms round whole log r) t0 t2
 changes_are alarms round whole done r t0 t1 t2 first second =
-    then_follows (AreTroubles whole round) (λ (said : Unit {0}). AreAlarms alarms) (Ok done) r t0 t1 t2 first second
+    then_follows (AreTroubles whole round) (λ (said : Unit {0}). AreAlarms (alarms whole)) (Ok done) r t0 t1 t2 first second
 
-pub no_changes : (alarms : List (List ℕ)) (round : ℕ) (whole : Bool) (failure : Failure) (r : Result Unit Failure) (t0 t1 : Option (List AtHost)) → r ≡ Err failure
+pub no_changes : (alarms : Bool → List (List ℕ)) (round : ℕ) (whole : Bool) (failure : Failure) (r : Result Unit Failure) (t0 t1 : Option (List AtHost)) → r ≡ Err failure
     → GoesOnBy (λ log. AreTroubles whole round log (Err failure)) t0 t1 → GoesOnBy (λ log. AreChanges alarms round whole log r) t0 t1
 no_changes alarms round whole failure r t0 t1 is first =
     subst (λ (e : Result Unit Failure). GoesOnBy (λ log. AreChanges alarms round whole log e) t0 t1) (sym is)
-    (then_fails (AreTroubles whole round) (λ (said : Unit {0}). AreAlarms alarms) failure t0 t1 first)
+    (then_fails (AreTroubles whole round) (λ (said : Unit {0}). AreAlarms (alarms whole)) failure t0 t1 first)
 
 -- the same span with names alarms by what stayed
-pub span_shown : (IsReport : RoundReport → Type 0) (alarms other : List (List ℕ)) (round : ℕ) (whole : Bool) (b a : Kept) (t0 t1 : Option (List AtHost)) → alarms ≡ other
+pub span_shown : (IsReport : RoundReport → Type 0) (alarms other : Bool → List (List ℕ)) (round : ℕ) (whole : Bool) (b a : Kept) (t0 t1 : Option (List AtHost)) → alarms ≡ other
     → GoesOnBy (λ log. IsSpan IsReport alarms round whole b a log) t0 t1 → GoesOnBy (λ log. IsSpan IsReport other round whole b a log) t0 t1
-span_shown IsReport alarms other round whole b a t0 t1 same = subst (λ (f : List (List ℕ)). GoesOnBy (λ log. IsSpan IsReport f round whole b a log) t0 t1) same
+span_shown IsReport alarms other round whole b a t0 t1 same = subst (λ (f : Bool → List (List ℕ)). GoesOnBy (λ log. IsSpan IsReport f round whole b a log) t0 t1) same
 
 -- a clock that failed in a span
-pub span_stopped : (IsReport : RoundReport → Type 0) (alarms : List (List ℕ)) (round : ℕ) (whole : Bool) (b a : Kept) (failure : Failure) (t0 t1 : Option (List AtHost))
+pub span_stopped : (IsReport : RoundReport → Type 0) (alarms : Bool → List (List ℕ)) (round : ℕ) (whole : Bool) (b a : Kept) (failure : Failure) (t0 t1 : Option (List AtHost))
     → GoesOnBy (λ log. IsSpanRun IsReport alarms round whole b a log (Err failure)) t0 t1 → GoesOnBy (λ log. IsStopped log failure) t0 t1
 span_stopped IsReport alarms round whole b a failure t0 t1 =
     weaker (λ log. IsSpanRun IsReport alarms round whole b a log (Err failure)) (λ log. IsStopped log failure) t0 t1 (λ log is. is.0)

@@ -31,6 +31,7 @@ use Rattle.mon_station_commands.specs.Station.{IsRunOf, IsSeen, IsStarted, IsUns
 use Rattle.mon_station_commands.specs.Steps.{SomeOr, only}
 use Rattle.mon_station_commands.specs.Telling.{AreNoted, IsOpening, http_line, short_lines_of}
 use Rattle.mon_station_commands.specs.declared.live.Kept.{Kept}
+use Rattle.mon_station_commands.specs.declared.live.Paths.{Paths}
 use Rattle.mon_station_commands.specs.declared.live.Reports.{Reports}
 use Rattle.mon_udp.specs.declared.addr.Addr.{Addr}
 
@@ -262,13 +263,13 @@ module _ (timing : Timing) (reports : Reports) (s : StationSettings) where
 
   -- the rounds of a station whose reports are those of its arguments
   pub run_of : (own : Reports) (before : Kept) (r : Result Unit Failure) (t0 t1 : Option (List AtHost)) → own.printing ≡ reports.printing
-      → own.out ≡ reports.out → before ≡ nothing_kept
-      → GoesOnBy (λ log. IsRun timing.rounds timing.report_every own.printing (option_map string_bytes own.out) before log r) t0 t1
+      → own.paths ≡ reports.paths → before ≡ nothing_kept
+      → GoesOnBy (λ log. IsRun timing.rounds timing.report_every own.printing own.paths before log r) t0 t1
       → GoesOnBy (λ log. IsRunOf timing reports log r) t0 t1
   run_of own before r t0 t1 printing out nothing run =
-      subst (λ (p : Printing). GoesOnBy (λ log. IsRun timing.rounds timing.report_every p (option_map string_bytes reports.out) nothing_kept log r) t0 t1) printing
-      (subst (λ (o : Option (String Global)). GoesOnBy (λ log. IsRun timing.rounds timing.report_every own.printing (option_map string_bytes o) nothing_kept log r) t0 t1) out
-      (subst (λ (k : Kept). GoesOnBy (λ log. IsRun timing.rounds timing.report_every own.printing (option_map string_bytes own.out) k log r) t0 t1) nothing run))
+      subst (λ (p : Printing). GoesOnBy (λ log. IsRun timing.rounds timing.report_every p reports.paths nothing_kept log r) t0 t1) printing
+      (subst (λ (o : Paths). GoesOnBy (λ log. IsRun timing.rounds timing.report_every own.printing o nothing_kept log r) t0 t1) out
+      (subst (λ (k : Kept). GoesOnBy (λ log. IsRun timing.rounds timing.report_every own.printing own.paths k log r) t0 t1) nothing run))
 
   -- a station without HTTP
   module _ where

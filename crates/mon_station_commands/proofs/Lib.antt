@@ -1,6 +1,9 @@
 mod Accounts
+mod Ages
 mod Changes
+mod Checked
 mod Joined
+mod Keepings
 mod Notes
 mod Openings
 mod Rounding

@@ -1,5 +1,5 @@
 -- Lines that are sent to standard error.
-use Rattle.std.proofs.Common.{◌≡◌, ◌≢◌, ◌∙◌, ◌<◌, ◌+◌, ◌++◌, ◌∷◌, Bool, List, ℕ, [], ap, append_assoc, arith, false, length, map, refl, subst, sym, take, true}
+use Rattle.std.proofs.Common.{◌≡◌, ◌≢◌, ◌∙◌, ◌<◌, ◌≤◌, ◌+◌, ◌++◌, ◌∷◌, Bool, List, ℕ, [], ap, append_assoc, arith, false, length, map, refl, subst, sym, take, true}
 use Rattle.std.proofs.Math.ListN.{get_or}
 use Rattle.std.proofs.lemmas.Bool.Decides.{nat_tests}
 use Rattle.std.proofs.lemmas.List.{flat_map_more, map-append, take-map, take_more}
@@ -96,3 +96,21 @@ module _ {X : Type 0} (f : X → List ℕ) where
 pub unsaid : (lines : List (List ℕ)) (r : Result Unit AllocError) (told : Option (List AtHost)) → IsErr r → GoesOnBy (λ log. AreSaid lines log r) told told
 unsaid lines (Ok u) told is = absurd (let never : ⊥ = cc in never)
 unsaid lines (Err fault) told is = record { more = []; holds = record { many = 0; log_is = refl; all = tt }; on = stays told }
+
+none_more : (n : ℕ) → n ≤ 0 → nat_lt 0 n ≡ false
+none_more n is = grind (arith, nat_tests)
+
+-- the line of a station's start, and what its peers need
+pub begun_new : (n peers : ℕ) (line : List ℕ) (more : List (Option (List ℕ))) (before between after : Option (List AtHost)) → n ≡ peers → 0 < n
+    → GoesOnBy (IsNoted (Some line)) before between → GoesOnBy (AreNoted more) between after
+    → GoesOnBy (AreNoted (Some line ∷ (if nat_lt 0 peers then more else []))) before after
+begun_new n peers line more before between after same some note noted =
+    subst (λ (b : Bool). GoesOnBy (AreNoted (Some line ∷ (if b then more else []))) before after) (sym (less 0 peers (subst (λ (k : ℕ). 0 < k) same some)))
+    (noted_on (Some line ∷ []) more before between after (line_noted line line before between refl note) noted)
+
+-- the line of the start of a station without peers
+pub begun_old : (n peers : ℕ) (line : List ℕ) (more : List (Option (List ℕ))) (before after : Option (List AtHost)) → n ≡ peers → n ≤ 0
+    → GoesOnBy (IsNoted (Some line)) before after → GoesOnBy (AreNoted (Some line ∷ (if nat_lt 0 peers then more else []))) before after
+begun_old n peers line more before after same none note =
+    subst (λ (b : Bool). GoesOnBy (AreNoted (Some line ∷ (if b then more else []))) before after) (sym (none_more peers (subst (λ (k : ℕ). k ≤ 0) same none)))
+    (line_noted line line before after refl note)

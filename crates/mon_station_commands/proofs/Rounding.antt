@@ -1,7 +1,8 @@
 -- Rounds of a station, one after another.
-use Rattle.std.proofs.Common.{◌≡◌, ◌∙◌, ◌≢◌, ◌≤◌, ◌++◌, List, ℕ, [], zero, suc, refl, subst, sym, arith, ◌<◌, ◌-◌, ◌⊎◌, inl, inr, ◌+◌, option_map, string_bytes, true}
+use Rattle.std.proofs.Common.{◌≡◌, ◌∙◌, ◌≢◌, ◌≤◌, ◌++◌, Bool, List, ℕ, [], zero, suc, refl, subst, sym, arith, ◌<◌, ◌-◌, ◌⊎◌, inl, inr, ◌+◌, option_map, string_bytes, true}
 use Rattle.std.specs.Prelude.{Option, Result, Ok, Err, String}
 use Rattle.std.specs.Global.{Global}
+use Rattle.mon_alarms.specs.Announcing.{Announcer}
 use Rattle.mon_console.specs.Shown.{shown_by}
 use Rattle.mon_console.specs.declared.failure.Failure.{Failure}
 use Rattle.mon_console.specs.declared.printing.Printing.{Printing}
@@ -13,24 +14,27 @@ use Rattle.mon_rounds.specs.Course.{IsDue}
 use Rattle.mon_rounds.specs.Order.{RoundEvent}
 use Rattle.mon_station.specs.declared.running.Run.{Run}
 use Rattle.mon_station_commands.specs.Ending.{IsEnded}
+use Rattle.mon_station_commands.specs.Keeping.{IsFileKept}
 use Rattle.mon_station_commands.specs.Pace.{IsStopped}
 use Rattle.mon_station_commands.specs.Quiet.{AreQuiet}
 use Rattle.mon_station_commands.specs.Reporting.{IsOut, IsReported}
 use Rattle.mon_station_commands.specs.Rounds.{AreRounds, AreRun, IsBetween, IsFinish, IsLastRun, IsReportAt, IsRound, IsRoundRun, IsRun, Moment}
 use Rattle.mon_station_commands.specs.Spans.{IsOfRun, IsSpan}
 use Rattle.mon_station_commands.specs.Steps.{IsKeptOf}
-use Rattle.mon_station_commands.specs.Telling.{changed_notes}
+use Rattle.mon_station_commands.specs.Telling.{announced_notes}
 use Rattle.mon_station_commands.specs.declared.live.Kept.{Kept}
+use Rattle.mon_station_commands.specs.declared.live.Paths.{Paths}
 use Rattle.mon_udp.specs.declared.addr.Addr.{Addr}
 
--- a span, and then a report
-pub round_is : (round : ℕ) (printing : Printing) (out : Option (List ℕ)) (targets : List Addr) (events : List RoundEvent) (run : Run) (b ran a : Kept) (moment : Moment)
-    (seen : List (List ℕ)) (before between after : Option (List AtHost)) → moment.reports.printing ≡ printing → moment.round_at ≡ ran.round_at
+-- a look at the station's file, a span, and then a report
+pub round_is : (round : ℕ) (printing : Printing) (paths : Paths) (targets : List Addr) (events : List RoundEvent) (run : Run) (b ran a : Kept) (moment : Moment)
+    (seen : List (List ℕ)) (announcer : Announcer) (strayed : Bool) (start before between after : Option (List AtHost)) → moment.reports.printing ≡ printing → moment.round_at ≡ ran.round_at
     → a ≡ record ran { unwritten = a.unwritten }
-    → GoesOnBy (λ log. IsSpan (IsOfRun targets events run) (changed_notes (shown_by printing.names) moment.state.board seen) round true b ran log) before between
-    → GoesOnBy (λ log. IsOut round out (IsReportAt moment) ran.unwritten log a.unwritten) between after → GoesOnBy (λ log. IsRound round printing out b a log) before after
-round_is round printing out targets events run b ran a moment seen before between after format at kept first second = record {
-  more = first.more ++ second.more;
+    → GoesOnBy (λ log. IsFileKept round (string_bytes paths.file) b.strayed log strayed) start before
+    → GoesOnBy (λ log. IsSpan (IsOfRun targets events run) (announced_notes (shown_by printing.names) moment.state.board seen announcer) round true (let k : Kept = record b { strayed = strayed } in k) ran log) before between
+    → GoesOnBy (λ log. IsOut round (option_map string_bytes paths.out) (IsReportAt moment) ran.unwritten log a.unwritten) between after → GoesOnBy (λ log. IsRound round printing paths b a log) start after
+round_is round printing paths targets events run b ran a moment seen announcer strayed start before between after format at kept look first second = record {
+  more = look.more ++ (first.more ++ second.more);
   holds = record {
     targets = targets;
     events = events;
@@ -39,6 +43,10 @@ round_is round printing out targets events run b ran a moment seen before betwee
     format = format;
     at = at ∙ (λ i. (sym kept i).round_at);
     seen = seen;
+    announcer = announcer;
+    strayed = strayed;
+    look = look.more;
+    looked = look.holds;
     ran = ran;
     begin = first.more;
     said = first.holds;
@@ -47,36 +55,36 @@ round_is round printing out targets events run b ran a moment seen before betwee
     kept = kept;
     log_is = refl;
   };
-  on = goes_on first.more second.more before between after first.on second.on;
+  on = goes_on look.more (first.more ++ second.more) start before after look.on (goes_on first.more second.more before between after first.on second.on);
 }
 
 -- a clock that failed
-pub round_fails : (round : ℕ) (printing : Printing) (out : Option (List ℕ)) (b a : Kept) (failure : Failure) (r : Result Unit Failure)
+pub round_fails : (round : ℕ) (printing : Printing) (paths : Paths) (b a : Kept) (failure : Failure) (r : Result Unit Failure)
     (before after : Option (List AtHost)) → r ≡ Err failure → GoesOnBy (λ log. IsStopped log failure) before after
-    → GoesOnBy (λ log. IsRoundRun round printing out b a log r) before after
-round_fails round printing out b a failure r before after is stop =
-    subst (λ (e : Result Unit Failure). GoesOnBy (λ log. IsRoundRun round printing out b a log e) before after) (sym is) stop
+    → GoesOnBy (λ log. IsRoundRun round printing paths b a log r) before after
+round_fails round printing paths b a failure r before after is stop =
+    subst (λ (e : Result Unit Failure). GoesOnBy (λ log. IsRoundRun round printing paths b a log e) before after) (sym is) stop
 
 -- the last round
-pub last_is : (rounds : ℕ) (printing : Printing) (out : Option (List ℕ)) (b a : Kept) (r : Result Unit Failure)
-    (before after : Option (List AtHost)) → rounds ≢ 0 → GoesOnBy (λ log. IsRoundRun rounds printing out b a log r) before after
-    → GoesOnBy (λ log. IsLastRun rounds printing out b a log r) before after
-last_is zero printing out b a r before after some run = absurd (some refl)
-last_is (suc n) printing out b a (Ok done) before after some run = run
-last_is (suc n) printing out b a (Err failure) before after some run = run
+pub last_is : (rounds : ℕ) (printing : Printing) (paths : Paths) (b a : Kept) (r : Result Unit Failure)
+    (before after : Option (List AtHost)) → rounds ≢ 0 → GoesOnBy (λ log. IsRoundRun rounds printing paths b a log r) before after
+    → GoesOnBy (λ log. IsLastRun rounds printing paths b a log r) before after
+last_is zero printing paths b a r before after some run = absurd (some refl)
+last_is (suc n) printing paths b a (Ok done) before after some run = run
+last_is (suc n) printing paths b a (Err failure) before after some run = run
 
 last_of_all : (n rounds : ℕ) → (suc n ≤ rounds) ⊎ (suc n ≡ 1) → rounds ≤ suc n → n ≡ rounds - 1
-last_of_all n rounds (inl within) out = grind arith
-last_of_all n rounds (inr first) out = grind arith
+last_of_all n rounds (inl within) paths = grind arith
+last_of_all n rounds (inr first) paths = grind arith
 
-module _ (every : ℕ) (printing : Printing) (out : Option (String Global)) (start : Kept) where
+module _ (every : ℕ) (printing : Printing) (paths : Paths) (start : Kept) where
   -- a round more, what is after it, and the wait
-  pub one_more : (n number : ℕ) (p1 p2 : Printing) (out1 : Option (String Global)) (k0 k1 k2 k3 : Kept) (u : Unit)
-      (t0 t1 t2 t3 t4 : Option (List AtHost)) → number ≡ suc n → p1 ≡ printing → out1 ≡ out → p2 ≡ printing → k3 ≡ k2
-      → GoesOnBy (λ log. AreRounds every printing (option_map string_bytes out) start n log k0) t0 t1
-      → GoesOnBy (λ log. IsRoundRun number p1 (option_map string_bytes out1) k0 k1 log (Ok u)) t1 t2 → GoesOnBy (λ log. IsBetween number every p2 k1 log k2) t2 t3
-      → GoesOnBy AreQuiet t3 t4 → GoesOnBy (λ log. AreRounds every printing (option_map string_bytes out) start (suc n) log k3) t0 t4
-  one_more n number p1 p2 out1 k0 k1 k2 k3 u t0 t1 t2 t3 t4 count same1 sameo same2 last first ran due quiet = record {
+  pub one_more : (n number : ℕ) (p1 p2 : Printing) (paths1 : Paths) (k0 k1 k2 k3 : Kept) (u : Unit)
+      (t0 t1 t2 t3 t4 : Option (List AtHost)) → number ≡ suc n → p1 ≡ printing → paths1 ≡ paths → p2 ≡ printing → k3 ≡ k2
+      → GoesOnBy (λ log. AreRounds every printing paths start n log k0) t0 t1
+      → GoesOnBy (λ log. IsRoundRun number p1 paths1 k0 k1 log (Ok u)) t1 t2 → GoesOnBy (λ log. IsBetween number every p2 k1 log k2) t2 t3
+      → GoesOnBy AreQuiet t3 t4 → GoesOnBy (λ log. AreRounds every printing paths start (suc n) log k3) t0 t4
+  one_more n number p1 p2 paths1 k0 k1 k2 k3 u t0 t1 t2 t3 t4 count same1 sameo same2 last first ran due quiet = record {
     more = ((first.more ++ ran.more) ++ due.more) ++ quiet.more;
     holds = record {
       before = k0;
@@ -84,9 +92,9 @@ module _ (every : ℕ) (printing : Printing) (out : Option (String Global)) (sta
       earlier = first.holds;
       ran = k1;
       run = ran.more;
-      round_is = subst (λ (k : ℕ). IsRound k printing (option_map string_bytes out) k0 k1 ran.more) count
-          (subst (λ (p : Printing). IsRound number p (option_map string_bytes out) k0 k1 ran.more) same1
-          (subst (λ (o : Option (String Global)). IsRound number p1 (option_map string_bytes o) k0 k1 ran.more) sameo ran.holds));
+      round_is = subst (λ (k : ℕ). IsRound k printing paths k0 k1 ran.more) count
+          (subst (λ (p : Printing). IsRound number p paths k0 k1 ran.more) same1
+          (subst (λ (o : Paths). IsRound number p1 o k0 k1 ran.more) sameo ran.holds));
       told = due.more;
       between = subst (λ (k : ℕ). IsBetween k every printing k1 due.more k3) count
           (subst (λ (p : Printing). IsBetween number every p k1 due.more k3) same2
@@ -109,7 +117,7 @@ due_is number every printing moment before kept t0 t1 due format at same done = 
   on = done.on;
 }
 
-module _ (every : ℕ) (p : Printing) (o : Option (List ℕ)) (start : Kept) where
+module _ (every : ℕ) (p : Printing) (o : Paths) (start : Kept) where
   -- before the first round
   pub none_yet : (k : Kept) (t0 t1 : Option (List AtHost)) → k ≡ start → GoesOnBy AreQuiet t0 t1 → GoesOnBy (λ log. AreRounds every p o start zero log k) t0 t1
   none_yet k t0 t1 is quiet = record { more = quiet.more; holds = (quiet.holds, is); on = quiet.on }
@@ -203,14 +211,14 @@ pub from_zero : (n : ℕ) → 0 ≤ n
 from_zero n = omega arith
 
 at_last : (n number rounds : ℕ) → number ≡ suc n → (suc n ≤ rounds) ⊎ (suc n ≡ 1) → rounds ≤ number → n ≡ rounds - 1
-at_last n number rounds is so out = last_of_all n rounds so (subst (λ (k : ℕ). rounds ≤ k) is out)
+at_last n number rounds is so paths = last_of_all n rounds so (subst (λ (k : ℕ). rounds ≤ k) is paths)
 
-pub all_run_as : (every : ℕ) (p : Printing) (out : Option (String Global)) (start : Kept) (rounds n number : ℕ) (p1 : Printing) (out1 : Option (String Global)) (k after : Kept)
-    (r : Result Unit Failure) (t0 t1 t2 : Option (List AtHost)) → number ≡ suc n → (suc n ≤ rounds) ⊎ (suc n ≡ 1) → rounds ≤ number → p1 ≡ p → out1 ≡ out
-    → GoesOnBy (λ log. AreRounds every p (option_map string_bytes out) start n log k) t0 t1
-    → GoesOnBy (λ log. IsLastRun rounds p1 (option_map string_bytes out1) k after log r) t1 t2
-    → GoesOnBy (λ log. AreRun rounds every p (option_map string_bytes out) start log after r) t0 t2
-all_run_as every p out start rounds n number p1 out1 k after r t0 t1 t2 count so over same sameo first last =
-    all_run every p (option_map string_bytes out) start rounds n k after r t0 t1 t2 (at_last n number rounds count so over) first
-    (subst (λ (q : Printing). GoesOnBy (λ log. IsLastRun rounds q (option_map string_bytes out) k after log r) t1 t2) same
-    (subst (λ (q : Option (String Global)). GoesOnBy (λ log. IsLastRun rounds p1 (option_map string_bytes q) k after log r) t1 t2) sameo last))
+pub all_run_as : (every : ℕ) (p : Printing) (paths : Paths) (start : Kept) (rounds n number : ℕ) (p1 : Printing) (paths1 : Paths) (k after : Kept)
+    (r : Result Unit Failure) (t0 t1 t2 : Option (List AtHost)) → number ≡ suc n → (suc n ≤ rounds) ⊎ (suc n ≡ 1) → rounds ≤ number → p1 ≡ p → paths1 ≡ paths
+    → GoesOnBy (λ log. AreRounds every p paths start n log k) t0 t1
+    → GoesOnBy (λ log. IsLastRun rounds p1 paths1 k after log r) t1 t2
+    → GoesOnBy (λ log. AreRun rounds every p paths start log after r) t0 t2
+all_run_as every p paths start rounds n number p1 paths1 k after r t0 t1 t2 count so over same sameo first last =
+    all_run every p paths start rounds n k after r t0 t1 t2 (at_last n number rounds count so over) first
+    (subst (λ (q : Printing). GoesOnBy (λ log. IsLastRun rounds q paths k after log r) t1 t2) same
+    (subst (λ (q : Paths). GoesOnBy (λ log. IsLastRun rounds p1 q k after log r) t1 t2) sameo last))

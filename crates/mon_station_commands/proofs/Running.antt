@@ -24,7 +24,7 @@ module _ (words : StationArgs) where
   Reads = IsLabelled words.settings.now (option_map (λ l. l.now) words.labels) words.printed
 
   abbrev Makes : StationSettings → Printing → Result Reports Failure → Type 0
-  Makes s printing = OrMemory (AreReports words s.core.station printing)
+  Makes s printing = OrMemory (AreReports words s printing)
 
   abbrev AfterReports : Option Addr → StationSettings → Reports → List AtHost → Result Unit Failure → Type 0
   AfterReports door s reports = IsSeenIf door words.timing reports s

@@ -3,13 +3,14 @@ use Rattle.std.proofs.Common.{◌≡◌, ◌∙◌, ◌++◌, ◌∷◌, List, �
 use Rattle.std.specs.Prelude.{false, IfOk, IsErrAnd, Option, Some, None, Result, Ok, Err}
 use Rattle.std.specs.Global.{Vec}
 use Rattle.std.specs.declared.alloc.AllocError.{AllocError}
+use Rattle.mon_alarms.specs.declared.alarm.AlarmState.{AlarmState}
 use Rattle.mon_board.specs.declared.board.Board.{Board}
 use Rattle.mon_console.specs.Failure.{IsMemory, IsTold}
-use Rattle.mon_console.specs.Files.{IsPrint, IsReplacing}
+use Rattle.mon_console.specs.Files.{IsPrint, IsPublishing}
 use Rattle.mon_console.specs.Shown.{shown_by}
 use Rattle.mon_console.specs.declared.failure.Failure.{Failure}
 use Rattle.mon_board.specs.Board.{window_of}
-use Rattle.mon_formats.specs.Formats.{report_in}
+use Rattle.mon_formats.specs.Formats.{formatted, report_in}
 use Rattle.mon_formats.specs.declared.format.Format.TheVariants.{Text}
 use Rattle.mon_console.specs.declared.printing.Printing.{Printing}
 use Rattle.mon_host.specs.AtHost.{AtHost, IsNoted, Noted}
@@ -17,7 +18,9 @@ use Rattle.mon_host.specs.Log.{GoesOnBy}
 use Rattle.mon_host.specs.Then.{Quietly, Then}
 use Rattle.mon_host.proofs.Promised.{goes_on, quietly, then_fails, then_follows, weaker}
 use Rattle.mon_page.specs.declared.figures.Figures.{Figures}
-use Rattle.mon_station_commands.specs.Reporting.{IsChangeOut, IsFiled, IsOut, IsReport, IsUnwritten, failed_by, report_by, unwritten_line}
+use Rattle.mon_report.specs.Report.{Entry}
+use Rattle.mon_station_commands.specs.Age.{IsAge, IsAgeSaid}
+use Rattle.mon_station_commands.specs.Reporting.{IsChangeOut, IsFiled, IsOut, IsReport, IsUnwritten, entries_by, failed_by, unwritten_line}
 use Rattle.mon_station_commands.specs.Steps.{IsKeptOf, IsSaidOf, IsTried, OrMemory, kept_after}
 
 -- there was no memory for a value
@@ -38,9 +41,9 @@ printed Holds text octets r told after holds same done = made Holds IsPrint text
 
 -- a text was made, and a file replaced by it
 pub filed : (Holds : List ℕ → Type 0) (path text octets : List ℕ) (r : Result Unit Failure) (told after : Option (List AtHost)) → Holds text → octets ≡ text
-    → GoesOnBy (λ log. IsReplacing path octets log r) told after → GoesOnBy (λ log. Then (Quietly (OrMemory Holds)) (IsReplacing path) log r) told after
+    → GoesOnBy (λ log. IsPublishing path octets log r) told after → GoesOnBy (λ log. Then (Quietly (OrMemory Holds)) (IsPublishing path) log r) told after
 filed Holds path text octets r told after holds same done =
-    made Holds (IsReplacing path) text r told after holds (subst (λ (o : List ℕ). GoesOnBy (λ log. IsReplacing path o log r) told after) same done)
+    made Holds (IsPublishing path) text r told after holds (subst (λ (o : List ℕ). GoesOnBy (λ log. IsPublishing path o log r) told after) same done)
 
 -- a step, and its failure, if there is one, was said
 pub tried : (Step : List AtHost → Result Unit Failure → Type 0) (given : Result Unit Failure) (failure : Option Failure) (before between after : Option (List AtHost))
@@ -51,16 +54,18 @@ tried Step given failure before between after step said = record {
   on = goes_on step.more said.more before between after step.on said.on;
 }
 
--- the report of a board and of figures
-pub report_is : (Holds : Figures → Type 0) (printing : Printing) (board other : Board) (figures : Figures) (r : Result (Vec ℕ) AllocError) → Holds figures → other ≡ board
-    → IfOk r (λ text. text.items ≡ report_by printing other (Some figures)) → IfOk r (λ text. IsReport Holds printing board text.items)
-report_is Holds printing board other figures (Ok text) holds same is = record {
+-- the report of a board, of states and of figures
+pub report_is : (Holds : Figures → Type 0) (printing : Printing) (board : Board) (states : List AlarmState) (entries : List Entry) (figures : Figures)
+    (r : Result (Vec ℕ) AllocError) → Holds figures → entries ≡ entries_by board states
+    → IfOk r (λ text. text.items ≡ formatted printing.format (shown_by printing.names) entries (Some figures) printing.labels.items)
+    → IfOk r (λ text. IsReport Holds printing board states text.items)
+report_is Holds printing board states entries figures (Ok text) holds same is = record {
   figures = Some figures;
   holds = holds;
   needed = λ none. absurd (let not : Some figures ≡ None = none in let never : ⊥ = cc in never);
-  text_is = is ∙ ap (λ (b : Board). report_by printing b (Some figures)) same;
+  text_is = is ∙ ap (λ (es : List Entry). formatted printing.format (shown_by printing.names) es (Some figures) printing.labels.items) same;
 }
-report_is Holds printing board other figures (Err fault) holds same is = tt
+report_is Holds printing board states entries figures (Err fault) holds same is = tt
 
 -- a failure that a `?` made
 pub failure_is : {A : Type 0} → (r : Result A Failure) (failure : Failure) → IsErrAnd r (λ f. f ≡ failure) → r ≡ Err failure
@@ -68,9 +73,9 @@ failure_is (Ok a) failure is = absurd is
 failure_is (Err f) failure is = ap Err is
 
 -- lines of text with names in numbers, which say nothing of figures
-pub plain : (Holds : Figures → Type 0) (printing : Printing) (board other : Board) (text : List ℕ) → printing.format ≡ Text → printing.names ≡ None → other ≡ board
-    → text ≡ report_in Text (shown_by None) other.watch (window_of other) None [] → IsReport Holds printing board text
-plain Holds printing board other text format names same is = record {
+pub plain : (Holds : Figures → Type 0) (printing : Printing) (board other : Board) (states : List AlarmState) (text : List ℕ) → printing.format ≡ Text → printing.names ≡ None → other ≡ board
+    → text ≡ report_in Text (shown_by None) other.watch (window_of other) None [] → IsReport Holds printing board states text
+plain Holds printing board other states text format names same is = record {
   figures = None;
   holds = tt;
   needed = λ none. format;
@@ -123,3 +128,9 @@ unwritten_said round path failure before between after note told =
       holds = (told.more, told.holds, ap (λ (l : List AtHost). l ++ told.more) line.holds);
       on = goes_on line.more told.more before between after line.on told.on;
     }
+
+-- the age of a file was said, as a step
+pub aged : (path own : List ℕ) (before after : Option (List AtHost)) → own ≡ path → GoesOnBy (IsAgeSaid own) before after
+    → GoesOnBy (λ log. IsAge path log (let r : Result Unit Failure = Ok tt in r)) before after
+aged path own before after same said = weaker (IsAgeSaid path) (λ log. IsAge path log (let r : Result Unit Failure = Ok tt in r)) before after (λ log is. (is, refl))
+    (subst (λ (p : List ℕ). GoesOnBy (IsAgeSaid p) before after) same said)

@@ -1,6 +1,8 @@
+pub mod Age
 pub mod Checking
 pub mod Ending
 pub mod Figures
+pub mod Keeping
 pub mod Limits
 pub mod Opening
 pub mod Pace

@@ -1,25 +1,11 @@
 -- How long a round waits, and what else limits a station.
-use Rattle.std.specs.Prelude.{Bool, true, false, ℕ, ◌+◌, ◌*◌, ◌/◌, List, [], ◌∷◌, ◌++◌, if◌then◌else◌, max, ◌==◌, codes, decimal, length, nat_le, string_bytes, sum_by}
-use Rattle.std.specs.List.{fold}
+use Rattle.std.specs.Prelude.{ℕ, ◌+◌, ◌*◌, ◌/◌, List, [], ◌∷◌, ◌++◌, if◌then◌else◌, ◌==◌, codes, decimal, length, nat_le, string_bytes, sum_by}
 use Rattle.mon_board.specs.declared.instance.Watched.{Watched}
 use Rattle.mon_poller.specs.declared.target.Target.{Target}
+use Rattle.mon_settings.specs.RoundTime.{greatest_tries, has_some, waits}
 use Rattle.mon_settings.specs.declared.station.StationSettings.{StationSettings}
 use Rattle.mon_udp.specs.Addr.{addr_text}
 use Rattle.mon_udp.specs.declared.addr.Addr.{Addr}
-
--- The milliseconds that a round waits if it waits once after its polls, once after each quiet wait
--- with open polls, and with peers once after its shares.
-abbrev pub waits : (wait_ms quiet : ℕ) (has_peers : Bool) → ℕ
-waits wait_ms quiet has_peers = wait_ms * (1 + quiet + (if has_peers then 1 else 0))
-
--- how often a poll is sent at most, over all targets: so many waits are quiet if none answers
-abbrev pub greatest_tries : List Target → ℕ
-greatest_tries targets = fold (λ most t. max most t.tries) 0 targets
-
--- whether a list has an element
-abbrev pub has_some : List ℕ → Bool
-has_some [] = false
-has_some (x ∷ xs) = true
 
 -- how many milliseconds of an interval, in seconds, each of these stations has to itself if they
 -- poll one after another
@@ -58,6 +44,17 @@ turn_lines silent interval peers = if interval == 0 then []
     else if peers == 0 then []
     else (turn_line (peers + 1) (turn_of interval (peers + 1))
     ++ outlasting_line silent (turn_of interval (peers + 1)))
+
+-- what to do about agents that renew their counters less often than samples are taken, which come
+-- this many milliseconds apart
+abbrev pub sample_line : (apart : ℕ) → List ℕ
+sample_line apart = if nat_le 5000 apart then [] else
+    (codes "samples: one every " ++ decimal apart
+    ++ codes " ms; an agent that renews its counters less often (net-snmp's every 3 s) makes rates of 0 and too high ones: a longer --interval mends that, and --alarm-after 4 keeps most such alarms from being announced\n")
+
+-- that line for a station with these peers, if there is an interval
+abbrev pub sample_lines : (interval peers : ℕ) → List ℕ
+sample_lines interval peers = if interval == 0 then [] else sample_line (turn_of interval (peers + 1))
 
 -- of a target: its number, its address, how many objects it is asked for, and how often
 abbrev pub target_text : (number : ℕ) (at : Addr) (objects tries : ℕ) → List ℕ
@@ -100,6 +97,7 @@ limits_text s interval =
     round_line (waits s.wait_ms 0 (has_some s.core.peers)) (silent_in s) (4 * silent_in s) s.wait_ms
     ++ interval_line (4 * silent_in s) interval
     ++ turn_lines (silent_in s) interval (length s.core.peers)
+    ++ sample_lines interval (length s.core.peers)
     ++ target_lines 1 s.core.targets
     ++ kept_lines (length s.core.watch.instances) (samples_of s.core.watch.instances)
     (string_bytes s.file)

@@ -1,18 +1,21 @@
 -- The reports of a station.
 use Rattle.std.specs.Prelude.{◌≡◌, ◌∷◌, ◌++◌, ℕ, Bool, true, false, not, if◌then◌else◌, List, [], IfSome, Option, Some, None, is_some, Result, Ok, Err, codes, decimal}
 use Rattle.std.specs.Global.{Vec}
+use Rattle.mon_alarms.specs.Announcing.{announced_states}
+use Rattle.mon_alarms.specs.declared.alarm.AlarmState.{AlarmState}
 use Rattle.mon_board.specs.Board.{window_of}
 use Rattle.mon_board.specs.declared.board.Board.{Board}
 use Rattle.mon_console.specs.Failure.{IsTold, is_memory}
-use Rattle.mon_console.specs.Files.{IsPrint, IsReplacing}
+use Rattle.mon_console.specs.Files.{IsPrint, IsPublishing}
 use Rattle.mon_console.specs.Shown.{shown_by}
 use Rattle.mon_console.specs.declared.failure.Failure.{Failure}
 use Rattle.mon_console.specs.declared.printing.Printing.{Printing}
-use Rattle.mon_formats.specs.Formats.{report_in}
+use Rattle.mon_formats.specs.Formats.{formatted}
 use Rattle.mon_formats.specs.declared.format.Format.TheVariants.{Text}
 use Rattle.mon_host.specs.AtHost.{AtHost, Noted}
 use Rattle.mon_host.specs.Then.{Quietly, Then}
 use Rattle.mon_page.specs.declared.figures.Figures.{Figures}
+use Rattle.mon_report.specs.Report.{Entry, announced_from}
 use Rattle.mon_rounds.specs.declared.course.Course.{Course}
 use Rattle.mon_rounds.specs.declared.freshness.Freshness.{Freshness}
 use Rattle.mon_station.specs.State.{State}
@@ -20,36 +23,48 @@ use Rattle.mon_station_commands.specs.Figures.{AreFigures}
 use Rattle.mon_station_commands.specs.Steps.{OrMemory}
 use Rattle.mon_station_commands.specs.declared.live.Reports.{Reports}
 
--- the report of a board and of these figures
-abbrev pub report_by : Printing → Board → Option Figures → List ℕ
-report_by printing board figures =
-    report_in printing.format (shown_by printing.names) board.watch (window_of board) figures
-    printing.labels.items
+-- the instances of a board, with these states of its alarms in the order of the rules; those that are
+-- not there follow from the windows
+abbrev pub entries_by : Board → (states : List AlarmState) → List Entry
+entries_by board states =
+    announced_from states board.watch.rules (window_of board) 0 board.watch.instances
 
--- A text is the report of a board and of figures for which this holds. Lines of text say nothing of
--- figures, and may be made without them.
-pub record IsReport (Holds : Figures → Type 0) (printing : Printing) (board : Board) (text : List ℕ) : Type 0 where
+-- the report of a board, of these states of its alarms, and of these figures
+abbrev pub report_by : Printing → Board → (states : List AlarmState) → Option Figures → List ℕ
+report_by printing board states figures = formatted printing.format (shown_by printing.names)
+    (entries_by board states) figures printing.labels.items
+
+-- states that go with figures; without these there are none
+abbrev pub states_with : Option Figures → List AlarmState → List AlarmState
+states_with None states = []
+states_with (Some figures) states = states
+
+-- A text is the report of a board, of these states of its alarms and of figures for which this holds.
+-- Lines of text say nothing of figures and of what was announced, and may be made without them.
+pub record IsReport (Holds : Figures → Type 0) (printing : Printing) (board : Board)
+    (states : List AlarmState) (text : List ℕ) : Type 0 where
   pub figures : Option Figures
   pub holds : IfSome figures Holds
   pub needed : figures ≡ None → printing.format ≡ Text
-  pub text_is : text ≡ report_by printing board figures
+  pub text_is : text ≡ report_by printing board (states_with figures states) figures
 
--- A text is the report of a station: of its board as it is, and of what it says of itself, as
--- AreFigures has it.
+-- A text is the report of a station: of its board as it is, of what was announced of its alarms, and of
+-- what it says of itself, as AreFigures has it.
 abbrev pub IsReportOf : State → Course → Freshness → (peers : List ℕ) (engines : List (Vec ℕ))
     (now : ℕ) (round_at : Option ℕ) → Reports → List ℕ → Type 0
 IsReportOf state course fresh peers engines now round_at reports =
     IsReport (AreFigures state course fresh peers engines now round_at reports) reports.printing state.board
+    (announced_states course.announcer)
 
 -- a report for which this holds is printed
 abbrev pub IsReported : (List ℕ → Type 0) → List AtHost → Result Unit Failure → Type 0
 IsReported Holds = Then (Quietly (OrMemory Holds)) IsPrint
 
--- a file is replaced by a report for which this holds
+-- a file is replaced by a report for which this holds, and which all users may read
 abbrev pub IsFiled : List ℕ → (List ℕ → Type 0) → List AtHost → Result Unit Failure → Type 0
-IsFiled path Holds = Then (Quietly (OrMemory Holds)) (IsReplacing path)
+IsFiled path Holds = Then (Quietly (OrMemory Holds)) (IsPublishing path)
 
--- whether a failure was said before: the one before it is for want of memory too, or neither is
+-- whether a failure was said before: memory was refused both times, or neither time
 abbrev pub is_known : Option Failure → Failure → Bool
 is_known None failure = false
 is_known (Some before) failure =

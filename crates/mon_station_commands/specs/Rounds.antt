@@ -1,6 +1,7 @@
 -- What a station does from its first round to its last one.
-use Rattle.std.specs.Prelude.{◌≡◌, ◌⊎◌, ◌≤◌, ◌-◌, ℕ, zero, suc, true, List, [], ◌++◌, Option, Some, None, Result, Ok, Err}
+use Rattle.std.specs.Prelude.{◌≡◌, ◌⊎◌, ◌≤◌, ◌-◌, ℕ, zero, suc, Bool, false, true, List, [], ◌++◌, Option, Some, None, Result, Ok, Err, option_map, string_bytes}
 use Rattle.std.specs.Global.{Vec}
+use Rattle.mon_alarms.specs.Announcing.{Announcer}
 use Rattle.mon_console.specs.Shown.{shown_by}
 use Rattle.mon_console.specs.declared.failure.Failure.{Failure}
 use Rattle.mon_console.specs.declared.printing.Printing.{Printing}
@@ -13,13 +14,15 @@ use Rattle.mon_rounds.specs.declared.freshness.Freshness.{Freshness}
 use Rattle.mon_station.specs.State.{State}
 use Rattle.mon_station.specs.declared.running.Run.{Run}
 use Rattle.mon_station_commands.specs.Ending.{IsEnded}
+use Rattle.mon_station_commands.specs.Keeping.{IsFileKept}
 use Rattle.mon_station_commands.specs.Pace.{IsStopped}
 use Rattle.mon_station_commands.specs.Quiet.{AreQuiet}
 use Rattle.mon_station_commands.specs.Reporting.{IsOut, IsReportOf, IsReported}
 use Rattle.mon_station_commands.specs.Spans.{IsOfRun, IsSpan}
 use Rattle.mon_station_commands.specs.Steps.{IsKeptOf}
-use Rattle.mon_station_commands.specs.Telling.{changed_notes}
+use Rattle.mon_station_commands.specs.Telling.{announced_notes}
 use Rattle.mon_station_commands.specs.declared.live.Kept.{Kept}
+use Rattle.mon_station_commands.specs.declared.live.Paths.{Paths}
 use Rattle.mon_station_commands.specs.declared.live.Reports.{Reports}
 use Rattle.mon_udp.specs.declared.addr.Addr.{Addr}
 
@@ -40,11 +43,13 @@ IsReportAt m = IsReportOf m.state m.course m.fresh m.peers m.engines m.now m.rou
 
 -- what a station keeps before its first round
 abbrev pub nothing_kept : Kept
-nothing_kept = record { round_at = None; unsaved = None; unprinted = None; unwritten = None }
+nothing_kept = record { round_at = None; unsaved = None; unprinted = None; unwritten = None; strayed = false }
 
--- A round. Its lines are said, and its report is written to the file for reports, if there is one.
--- `before` and `after` are what is kept, and `seen` is what the windows of alarms were before.
-pub record IsRound (round : ℕ) (printing : Printing) (out : Option (List ℕ)) (before after : Kept)
+-- A round, before which it is seen that the station's file is at its path. Its lines are said, and its
+-- report is written to the file for reports, if there is one.
+-- `before` and `after` are what is kept; `seen` is what the windows of alarms were before, and
+-- `announcer` what was announced.
+pub record IsRound (round : ℕ) (printing : Printing) (paths : Paths) (before after : Kept)
     (log : List AtHost) : Type 0 where
   pub targets : List Addr
   pub events : List RoundEvent
@@ -53,20 +58,25 @@ pub record IsRound (round : ℕ) (printing : Printing) (out : Option (List ℕ))
   pub format : moment.reports.printing ≡ printing
   pub at : moment.round_at ≡ after.round_at
   pub seen : List (List ℕ)
+  pub announcer : Announcer
+  pub strayed : Bool
+  pub look : List AtHost
+  pub looked : IsFileKept round (string_bytes paths.file) before.strayed look strayed
   pub ran : Kept
   pub begin : List AtHost
   pub said : IsSpan (IsOfRun targets events run)
-      (changed_notes (shown_by printing.names) moment.state.board seen) round true before ran begin
+      (announced_notes (shown_by printing.names) moment.state.board seen announcer) round true
+      record before { strayed = strayed } ran begin
   pub rest : List AtHost
-  pub written : IsOut round out (IsReportAt moment) ran.unwritten rest after.unwritten
+  pub written : IsOut round (option_map string_bytes paths.out) (IsReportAt moment) ran.unwritten rest after.unwritten
   pub kept : after ≡ record ran { unwritten = after.unwritten }
-  pub log_is : log ≡ begin ++ rest
+  pub log_is : log ≡ look ++ (begin ++ rest)
 
 -- A round was run; or a clock failed, which the failure says, and no report was made.
-abbrev pub IsRoundRun : (round : ℕ) → Printing → (out : Option (List ℕ)) → (before after : Kept)
+abbrev pub IsRoundRun : (round : ℕ) → Printing → (paths : Paths) → (before after : Kept)
     → List AtHost → Result Unit Failure → Type 0
-IsRoundRun round printing out before after log (Ok done) = IsRound round printing out before after log
-IsRoundRun round printing out before after log (Err failure) = IsStopped log failure
+IsRoundRun round printing paths before after log (Ok done) = IsRound round printing paths before after log
+IsRoundRun round printing paths before after log (Err failure) = IsStopped log failure
 
 -- a report between two rounds is printed, and a failure of that is kept
 pub record IsPrinted (printing : Printing) (before : Kept) (log : List AtHost) (after : Kept)
@@ -85,13 +95,13 @@ IsBetween round every printing before log after =
 
 -- after earlier ones a round more, the report after it, and the wait for the next one
 pub record IsOneMore (Earlier : List AtHost → Kept → Type 0) (round every : ℕ) (printing : Printing)
-    (out : Option (List ℕ)) (log : List AtHost) (after : Kept) : Type 0 where
+    (paths : Paths) (log : List AtHost) (after : Kept) : Type 0 where
   pub before : Kept
   pub begin : List AtHost
   pub earlier : Earlier begin before
   pub ran : Kept
   pub run : List AtHost
-  pub round_is : IsRound round printing out before ran run
+  pub round_is : IsRound round printing paths before ran run
   pub told : List AtHost
   pub between : IsBetween round every printing ran told after
   pub rest : List AtHost
@@ -100,53 +110,53 @@ pub record IsOneMore (Earlier : List AtHost → Kept → Type 0) (round every : 
 
 -- So many rounds were run, each with what is between it and the next. `start` and `after` are what is
 -- kept before and after them.
-abbrev pub AreRounds : (every : ℕ) → Printing → (out : Option (List ℕ)) → (start : Kept) → ℕ
+abbrev pub AreRounds : (every : ℕ) → Printing → (paths : Paths) → (start : Kept) → ℕ
     → List AtHost → (after : Kept) → Type 0
-AreRounds every printing out start zero log after = AreQuiet log × (after ≡ start)
-AreRounds every printing out start (suc n) log after =
-    IsOneMore (AreRounds every printing out start n) (suc n) every printing out log after
+AreRounds every printing paths start zero log after = AreQuiet log × (after ≡ start)
+AreRounds every printing paths start (suc n) log after =
+    IsOneMore (AreRounds every printing paths start n) (suc n) every printing paths log after
 
 -- the last of so many rounds, if there are any
-abbrev pub IsLast : (rounds : ℕ) → Printing → (out : Option (List ℕ)) → (before after : Kept)
+abbrev pub IsLast : (rounds : ℕ) → Printing → (paths : Paths) → (before after : Kept)
     → List AtHost → Type 0
-IsLast zero printing out before after log = (log ≡ []) × (after ≡ before)
-IsLast (suc n) printing out before after log = IsRound (suc n) printing out before after log
+IsLast zero printing paths before after log = (log ≡ []) × (after ≡ before)
+IsLast (suc n) printing paths before after log = IsRound (suc n) printing paths before after log
 
 -- the last of so many rounds, in which a clock may fail
-abbrev pub IsLastRun : (rounds : ℕ) → Printing → (out : Option (List ℕ)) → (before after : Kept)
+abbrev pub IsLastRun : (rounds : ℕ) → Printing → (paths : Paths) → (before after : Kept)
     → List AtHost → Result Unit Failure → Type 0
-IsLastRun rounds printing out before after log (Ok done) = IsLast rounds printing out before after log
-IsLastRun rounds printing out before after log (Err failure) = IsStopped log failure
+IsLastRun rounds printing paths before after log (Ok done) = IsLast rounds printing paths before after log
+IsLastRun rounds printing paths before after log (Err failure) = IsStopped log failure
 
 -- all rounds were run: those with another one after them, and the last
-pub record AreAll (rounds every : ℕ) (printing : Printing) (out : Option (List ℕ)) (start : Kept)
+pub record AreAll (rounds every : ℕ) (printing : Printing) (paths : Paths) (start : Kept)
     (log : List AtHost) (after : Kept) : Type 0 where
   pub before : Kept
   pub begin : List AtHost
-  pub earlier : AreRounds every printing out start (rounds - 1) begin before
+  pub earlier : AreRounds every printing paths start (rounds - 1) begin before
   pub rest : List AtHost
-  pub last : IsLast rounds printing out before after rest
+  pub last : IsLast rounds printing paths before after rest
   pub log_is : log ≡ begin ++ rest
 
 -- A clock failed after some of the rounds, which the failure says.
-pub record AreCutShort (rounds every : ℕ) (printing : Printing) (out : Option (List ℕ))
+pub record AreCutShort (rounds every : ℕ) (printing : Printing) (paths : Paths)
     (start : Kept) (log : List AtHost) (failure : Failure) : Type 0 where
   pub ran : ℕ
   pub within : ran ≤ rounds
   pub after : Kept
   pub begin : List AtHost
-  pub earlier : AreRounds every printing out start ran begin after
+  pub earlier : AreRounds every printing paths start ran begin after
   pub rest : List AtHost
   pub stopped : IsStopped rest failure
   pub log_is : log ≡ begin ++ rest
 
 -- all rounds were run, or a clock failed
-abbrev pub AreRun : (rounds every : ℕ) → Printing → (out : Option (List ℕ)) → (start : Kept)
+abbrev pub AreRun : (rounds every : ℕ) → Printing → (paths : Paths) → (start : Kept)
     → List AtHost → (after : Kept) → Result Unit Failure → Type 0
-AreRun rounds every printing out start log after (Ok done) =
-    AreAll rounds every printing out start log after
-AreRun rounds every printing out start log after (Err failure) =
-    AreCutShort rounds every printing out start log failure
+AreRun rounds every printing paths start log after (Ok done) =
+    AreAll rounds every printing paths start log after
+AreRun rounds every printing paths start log after (Err failure) =
+    AreCutShort rounds every printing paths start log failure
 
 -- after the rounds one report is printed, and the run ends as what was kept has it
 abbrev pub IsFinish : Moment → Kept → List AtHost → Result Unit Failure → Type 0
@@ -155,12 +165,12 @@ IsFinish moment after = Then (IsReported (IsReportAt moment))
 
 -- A station's run from its first round on: so many rounds, each with its report, and at the end one
 -- report more. Nothing but these reports is printed or written, and nothing is read.
-pub record IsRun (rounds every : ℕ) (printing : Printing) (out : Option (List ℕ)) (start : Kept)
+pub record IsRun (rounds every : ℕ) (printing : Printing) (paths : Paths) (start : Kept)
     (log : List AtHost) (result : Result Unit Failure) : Type 0 where
   pub after : Kept
   pub ran : Result Unit Failure
   pub begin : List AtHost
-  pub rounds_are : AreRun rounds every printing out start begin after ran
+  pub rounds_are : AreRun rounds every printing paths start begin after ran
   pub moment : Moment
   pub format : moment.reports.printing ≡ printing
   pub at : moment.round_at ≡ after.round_at

@@ -17,6 +17,7 @@ use Rattle.mon_settings.specs.declared.station.StationSettings.{StationSettings}
 use Rattle.mon_disk.specs.Keeper.{found_body}
 use Rattle.mon_station.specs.Found.{IsBoardOf, IsFaultOfOctets}
 use Rattle.mon_station.specs.declared.fault.StationFault.{StationFault}
+use Rattle.mon_station_commands.specs.Age.{IsAge}
 use Rattle.mon_station_commands.specs.Reporting.{report_by}
 use Rattle.mon_station_commands.specs.Steps.{OrMemory}
 
@@ -83,13 +84,14 @@ IsBoardIn s octets (Err failure) = (fault : StationFault) × IsFaultOfOctets s.c
 abbrev pub IsSavedIn : StationSettings → List AtHost → Result Board Failure → Type 0
 IsSavedIn s = Then (IsSteadyRead (string_bytes s.file) 15) (λ octets. Quietly (IsBoardIn s octets.items))
 
--- the report of the windows in the file of these settings is printed
+-- the file of these settings is read, it is said how old it is, and the report of its windows is printed
 abbrev pub IsSavedReport : StationSettings → Printing → List AtHost → Result Unit Failure → Type 0
 IsSavedReport s printing = Then (IsSavedIn s) (λ board.
-    Then (Quietly (OrMemory (λ (text : List ℕ). text ≡ report_by printing board None))) IsPrint)
+    Then (IsAge (string_bytes s.file)) (λ (aged : Unit {0}).
+    Then (Quietly (OrMemory (λ (text : List ℕ). text ≡ report_by printing board [] None))) IsPrint))
 
--- The command `report`: the settings and labels are read, then the file that the settings name. Then
--- one report is printed, and nothing is replaced.
+-- The command `report`: the settings and labels are read, then the file that the settings name, whose
+-- age is said. Then one report is printed, and nothing is replaced.
 abbrev pub IsReportCommand : (path : List ℕ) (labels : Option (List ℕ)) → Printed → List AtHost → Result Unit Failure → Type 0
 IsReportCommand path labels printed =
     Then (IsLabelled path labels printed) (λ both. IsSavedReport both.0 both.1)

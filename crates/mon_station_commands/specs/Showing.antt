@@ -1,17 +1,18 @@
 -- What a running station shows over HTTP.
 use Rattle.std.specs.Prelude.{◌≡◌, ℕ, List, Option, Some, IfSome, option_map}
 use Rattle.std.specs.Global.{Vec}
-use Rattle.mon_board.specs.Board.{window_of}
+use Rattle.mon_alarms.specs.Announcing.{announced_states}
 use Rattle.mon_console.specs.Shown.{shown_by}
 use Rattle.mon_formats.specs.Formats.{formatted}
 use Rattle.mon_formats.specs.declared.format.Format.TheVariants.{Html, Json, Prometheus}
 use Rattle.mon_page.specs.declared.figures.Figures.{Figures}
 use Rattle.mon_page.specs.declared.extras.InstanceLabels.{InstanceLabels}
-use Rattle.mon_report.specs.Report.{Entry, entries_from}
+use Rattle.mon_report.specs.Report.{Entry}
 use Rattle.mon_rounds.specs.declared.course.Course.{Course}
 use Rattle.mon_rounds.specs.declared.freshness.Freshness.{Freshness}
 use Rattle.mon_station.specs.State.{State}
 use Rattle.mon_station_commands.specs.Figures.{AreFigures}
+use Rattle.mon_station_commands.specs.Reporting.{entries_by}
 use Rattle.mon_station_commands.specs.declared.live.Reports.{Reports}
 use Rattle.mon_web.specs.Site.{with_texts}
 use Rattle.mon_web.specs.declared.site.Site.{Site}
@@ -26,12 +27,13 @@ pub record AreTexts (Holds : Figures → Type 0) (shown : List ℕ → List ℕ)
   pub report : texts.report.items ≡ formatted Json shown entries (Some figures) labels
   pub page : texts.page.items ≡ formatted Html shown entries (Some figures) labels
 
--- The texts of a station: of its board as it is, and of what it says of itself, as AreFigures has it.
+-- The texts of a station: of its board as it is, of what was announced of its alarms, and of what it
+-- says of itself, as AreFigures has it.
 abbrev pub AreTextsOf : State → Course → Freshness → (peers : List ℕ) (engines : List (Vec ℕ))
     (now : ℕ) (round_at : Option ℕ) → Reports → Texts → Type 0
 AreTextsOf state course fresh peers engines now round_at reports =
     AreTexts (AreFigures state course fresh peers engines now round_at reports) (shown_by reports.printing.names)
-    (entries_from state.board.watch.rules (window_of state.board) 0 state.board.watch.instances)
+    (entries_by state.board (announced_states course.announcer))
     reports.printing.labels.items
 
 -- A site, if there is one, shows texts for which this holds; or none, if there was no memory for

@@ -75,14 +75,16 @@ AreAlarms lines log (Ok done) = log ≡ map Noted lines
 AreAlarms lines log (Err failure) =
     IsMemory failure × ((many : ℕ) × (log ≡ map Noted (take many lines)))
 
--- what is said after the lines of a round: troubles and alarms that changed
-abbrev pub AreChanges : (alarms : List (List ℕ)) → (round : ℕ) → (whole : Bool) → List AtHost
+-- What is said after the lines of a round: troubles, and the lines of alarms, which differ by whether
+-- it is a whole round.
+abbrev pub AreChanges : (alarms : Bool → List (List ℕ)) → (round : ℕ) → (whole : Bool) → List AtHost
     → Result Unit Failure → Type 0
-AreChanges alarms round whole = Then (AreTroubles whole round) (λ (said : Unit {0}). AreAlarms alarms)
+AreChanges alarms round whole =
+    Then (AreTroubles whole round) (λ (said : Unit {0}). AreAlarms (alarms whole))
 
 -- A report was made. Its lines are said, then which agents restarted, and what changed: `alarms` are
 -- the lines of alarms. `before` and `after` are what is kept of the last save.
-pub record IsReportSaid (IsReport : RoundReport → Type 0) (alarms : List (List ℕ)) (round : ℕ)
+pub record IsReportSaid (IsReport : RoundReport → Type 0) (alarms : Bool → List (List ℕ)) (round : ℕ)
     (whole : Bool) (before after : Option KeeperFault) (log : List AtHost)
     (result : Result Unit Failure) : Type 0 where
   pub report : RoundReport
@@ -100,7 +102,7 @@ abbrev pub IsNoReport : (Failure → Type 0) → List AtHost → Result Unit Fai
 IsNoReport IsWhy log result = (log ≡ []) × IsErrAnd result IsWhy
 
 -- The account of what was run: its report is said, unless there was no memory for that.
-abbrev pub IsReportOr : (IsReport : RoundReport → Type 0) → (alarms : List (List ℕ)) → (round : ℕ)
+abbrev pub IsReportOr : (IsReport : RoundReport → Type 0) → (alarms : Bool → List (List ℕ)) → (round : ℕ)
     → (whole : Bool) → (before after : Option KeeperFault) → List AtHost → Result Unit Failure → Type 0
 IsReportOr IsReport alarms round whole before after log result =
     (IsNoReport IsMemory log result × (after ≡ before))
@@ -108,7 +110,7 @@ IsReportOr IsReport alarms round whole before after log result =
 
 -- The account of a spell; or there was no memory to run it.
 abbrev pub IsAccountOf : Result Spell StationFault → (IsReport : RoundReport → Type 0)
-    → (alarms : List (List ℕ)) → (round : ℕ) → (before after : Option KeeperFault) → List AtHost
+    → (alarms : Bool → List (List ℕ)) → (round : ℕ) → (before after : Option KeeperFault) → List AtHost
     → Result Unit Failure → Type 0
 IsAccountOf (Ok spell) IsReport alarms round before after log result =
     IsReportOr IsReport alarms round (is_round spell.span) before after log result
@@ -116,7 +118,7 @@ IsAccountOf (Err fault) IsReport alarms round before after log result =
     IsNoReport (IsPlain (station_fault fault)) log result × (after ≡ before)
 
 -- the account of a span; or there was no memory to run it
-abbrev pub IsAccount : (IsReport : RoundReport → Type 0) → (alarms : List (List ℕ)) → (round : ℕ)
+abbrev pub IsAccount : (IsReport : RoundReport → Type 0) → (alarms : Bool → List (List ℕ)) → (round : ℕ)
     → (whole : Bool) → (before after : Option KeeperFault) → List AtHost → Result Unit Failure → Type 0
 IsAccount IsReport alarms round whole before after log result =
     IsReportOr IsReport alarms round whole before after log result
@@ -129,7 +131,7 @@ round_after false date before = before
 
 -- A span was run between two looks at the clock. Then its account is given, and a failure of that is
 -- said. `before` and `after` are what is kept.
-pub record IsSpan (IsReport : RoundReport → Type 0) (alarms : List (List ℕ)) (round : ℕ)
+pub record IsSpan (IsReport : RoundReport → Type 0) (alarms : Bool → List (List ℕ)) (round : ℕ)
     (whole : Bool) (before after : Kept) (log : List AtHost) : Type 0 where
   pub began : Instant
   pub ended : Instant
@@ -142,7 +144,7 @@ pub record IsSpan (IsReport : RoundReport → Type 0) (alarms : List (List ℕ))
   pub log_is : log ≡ Timed began ∷ Timed ended ∷ Dated date ∷ rest
 
 -- a span was run; or a clock failed, and no account was given
-abbrev pub IsSpanRun : (IsReport : RoundReport → Type 0) → (alarms : List (List ℕ)) → (round : ℕ)
+abbrev pub IsSpanRun : (IsReport : RoundReport → Type 0) → (alarms : Bool → List (List ℕ)) → (round : ℕ)
     → (whole : Bool) → (before after : Kept) → List AtHost → Result Unit Failure → Type 0
 IsSpanRun IsReport alarms round whole before after log (Ok done) =
     IsSpan IsReport alarms round whole before after log

@@ -16,16 +16,24 @@ use Rattle.mon_station_commands.specs.Places.{IsDoor, IsNoSocket, IsShownOpened,
 use Rattle.mon_station_commands.specs.Rounds.{IsRun, nothing_kept}
 use Rattle.mon_station_commands.specs.Steps.{OrMemory, SomeOr}
 use Rattle.mon_station_commands.specs.Telling.{IsOpening, http_line}
+use Rattle.mon_station_commands.specs.declared.live.Paths.{Paths}
 use Rattle.mon_station_commands.specs.declared.live.Reports.{Reports}
 use Rattle.mon_udp.specs.declared.addr.Addr.{Addr}
 
--- How the reports of the station of this number are printed, and what else the arguments say of them.
-pub record AreReports (words : StationArgs) (station : ℕ) (printing : Printing) (reports : Reports)
-    : Type 0 where
-  pub station_is : reports.station ≡ station
+-- the paths of the file for each round's report, if there is one, and of the station's own
+pub record ArePaths (out : Option (List ℕ)) (file : List ℕ) (paths : Paths) : Type 0 where
+  pub out_is : option_map string_bytes paths.out ≡ out
+  pub file_is : string_bytes paths.file ≡ file
+
+-- How the reports of the station of these settings are printed, and what else the arguments say of
+-- them.
+pub record AreReports (words : StationArgs) (s : StationSettings) (printing : Printing)
+    (reports : Reports) : Type 0 where
+  pub station_is : reports.station ≡ s.core.station
   pub printed : reports.printing ≡ printing
-  pub out : option_map string_bytes reports.out ≡ option_copied words.out
+  pub paths : ArePaths (option_copied words.out) (string_bytes s.file) reports.paths
   pub stale_after : reports.stale_after ≡ words.stale_after
+  pub alarm_after : reports.alarm_after ≡ words.alarm_after
   pub interval : reports.interval ≡ words.timing.interval
 
 -- The station of settings begins at this address, and says so; or it doesn't.
@@ -42,7 +50,7 @@ IsWebSaid (Some at) log result = (log ≡ Noted (http_line at) ∷ []) × (resul
 -- the rounds of a station that has begun
 abbrev pub IsRunOf : Timing → Reports → List AtHost → Result Unit Failure → Type 0
 IsRunOf timing reports = IsRun timing.rounds timing.report_every reports.printing
-    (option_map string_bytes reports.out) nothing_kept
+    reports.paths nothing_kept
 
 -- A station whose socket and file are open begins to receive. It says where it is, which alarms are
 -- raised, and where it serves HTTP, if it does. Then come its rounds.
@@ -73,7 +81,7 @@ IsSeenIf (Some door) timing reports s log result = IsSeen door timing reports s 
 abbrev pub IsRunning : StationArgs → List AtHost → Result Unit Failure → Type 0
 IsRunning words = Then (Quietly (IsDoor (option_copied words.http))) (λ door.
     Then (IsLabelled words.settings.now (option_map (λ l. l.now) words.labels) words.printed) (λ both.
-    Then (Quietly (OrMemory (AreReports words both.0.core.station both.1))) (λ reports.
+    Then (Quietly (OrMemory (AreReports words both.0 both.1))) (λ reports.
     IsSeenIf door words.timing reports both.0)))
 
 -- only what limits a station is printed, or it is run

@@ -1,9 +1,10 @@
 -- What a running station says on standard error.
-use Rattle.std.specs.Prelude.{◌≡◌, ◌⊎◌, ℕ, ◌+◌, ◌/◌, ◌%◌, List, [], ◌∷◌, ◌++◌, if◌then◌else◌, ◌==◌, nat_lt, IfSome, Option, Some, None, Result, Ok, Err, codes, decimal, map, min, take, OnOk}
+use Rattle.std.specs.Prelude.{◌≡◌, ◌⊎◌, ℕ, ◌+◌, ◌/◌, ◌%◌, Bool, List, [], ◌∷◌, ◌++◌, if◌then◌else◌, ◌==◌, nat_lt, IfSome, Option, Some, None, Result, Ok, Err, codes, decimal, map, min, take, OnOk}
 use Rattle.std.specs.List.{flat_map, fold}
 use Rattle.std.specs.declared.alloc.AllocError.{AllocError}
 use Rattle.std.specs.Net.Text.{socket_text}
 use Rattle.std.specs.declared.net.socket_addr.SocketAddr.{SocketAddr}
+use Rattle.mon_alarms.specs.Announcing.{Announcer, announced_of}
 use Rattle.mon_alarms.specs.declared.change.AlarmChange.{AlarmChange}
 use Rattle.mon_board.specs.Watch.{Watch}
 use Rattle.mon_board.specs.declared.board.Board.{Board}
@@ -12,7 +13,8 @@ use Rattle.mon_console.specs.declared.failure.Failure.{Failure}
 use Rattle.mon_formats.specs.Changes.{change_line}
 use Rattle.mon_host.specs.AtHost.{AtHost, Noted}
 use Rattle.mon_poller.specs.declared.fault.ResponseFault.TheVariants.{OtherEngine, Stray}
-use Rattle.mon_report.specs.Alarms.{changes_from, raised_from}
+use Rattle.mon_report.specs.Alarms.{raised_from}
+use Rattle.mon_rounds.specs.Course.{changes_since}
 use Rattle.mon_rounds.specs.declared.clock.Restart.{Restart}
 use Rattle.mon_rounds.specs.declared.freshness.TargetAge.{TargetAge}
 use Rattle.mon_rounds.specs.declared.reporting.Notice.{Notice}
@@ -137,10 +139,12 @@ pub record AreSaid (lines : List (List ℕ)) (log : List AtHost) (result : Resul
   pub log_is : log ≡ map Noted (take many lines)
   pub all : OnOk result (take many lines ≡ lines)
 
--- the lines of what became of a board's alarms since its windows were looked at, in order
-abbrev pub changed_notes : (List ℕ → List ℕ) → Board → (seen : List (List ℕ)) → List (List ℕ)
-changed_notes shown board seen =
-    map (alarm_note shown board.watch) (changes_from board 0 board.watch.rules seen)
+-- the lines of what is announced of a board's alarms, whose windows were seen so before: at a look, or
+-- between two
+abbrev pub announced_notes : (List ℕ → List ℕ) → Board → (seen : List (List ℕ)) → Announcer
+    → (looks : Bool) → List (List ℕ)
+announced_notes shown board seen announcer looks =
+    map (alarm_note shown board.watch) (announced_of looks (changes_since board seen) announcer)
 
 -- the lines of the alarms of a board that are raised, in order
 abbrev pub raised_notes : (List ℕ → List ℕ) → Board → List (List ℕ)
@@ -152,6 +156,19 @@ start_line number at incarnation file targets peers =
     codes "snmpmon: station " ++ decimal number ++ codes " at " ++ socket_text at
     ++ codes ", incarnation " ++ decimal incarnation ++ codes ", file " ++ file
     ++ codes ", targets: " ++ decimal targets ++ codes ", peers: " ++ decimal peers ++ codes "\n"
+
+-- the line of what the peers of a station need whose file is new, as its first incarnation says
+abbrev pub new_lines : (number incarnation : ℕ) → List (Option (List ℕ))
+new_lines number incarnation = if incarnation == 1
+    then (Some (codes "snmpmon: station " ++ decimal number ++ codes " has a new file: a peer that knows it from before must be started again, or it offers nothing old\n") ∷ [])
+    else []
+
+-- the lines of a station that begins: where it is, and if it has peers what these need
+abbrev pub start_lines : (number : ℕ) (at : SocketAddr) (incarnation : ℕ) (file : List ℕ) (targets peers : ℕ)
+    → List (Option (List ℕ))
+start_lines number at incarnation file targets peers =
+    Some (start_line number at incarnation file targets peers)
+    ∷ (if nat_lt 0 peers then new_lines number incarnation else [])
 
 -- the line of where a station serves HTTP
 abbrev pub http_line : SocketAddr → List ℕ
@@ -187,13 +204,15 @@ abbrev pub opened_to : Result Unit AllocError → State → Option State
 opened_to (Ok done) state = Some state
 opened_to (Err fault) state = None
 
--- A station was opened: the line of where it is was said, and then those of its raised alarms.
+-- A station was opened: the lines of its start were said, and then those of its raised alarms.
 pub record IsOpened (number : ℕ) (at : SocketAddr) (file : List ℕ) (targets peers : ℕ) (shown : List ℕ → List ℕ) (log : List AtHost) (found : Option State) : Type 0 where
   pub state : State
   pub told : Result Unit AllocError
+  pub begin : List AtHost
+  pub begun : AreNoted (start_lines number at state.incarnation file targets peers) begin
   pub rest : List AtHost
   pub raised : AreSaid (raised_notes shown state.board) rest told
-  pub log_is : log ≡ Noted (start_line number at state.incarnation file targets peers) ∷ rest
+  pub log_is : log ≡ begin ++ rest
   pub found_is : found ≡ opened_to told state
 
 -- A station was opened; or it could not be, and nothing was said; or memory ran out for the line of an

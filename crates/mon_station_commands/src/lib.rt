@@ -1,7 +1,9 @@
 //! The commands of stations: running one, what limits it, and the report of its file.
 #![tactic(auto)]
 
+mod age;
 mod figures;
+mod keeping;
 mod limits;
 mod live;
 mod opening;

@@ -1,32 +1,21 @@
 //! What limits a station of some settings.
 
-ghost use Rattle.std.specs.Prelude.{◌≡◌, ◌≤◌, ◌<◌, ◌+◌, ◌*◌, ◌/◌, ◌++◌, IfOk, OnOk, length, string_bytes};
+ghost use Rattle.std.specs.Prelude.{◌≡◌, ◌≤◌, ◌<◌, ◌++◌, IfOk, OnOk, length, string_bytes};
 ghost use Rattle.mon_board.specs.Instance.{AreSized};
 ghost use Rattle.mon_host.specs.Log.{GoesOnBy};
 ghost use Rattle.mon_station_commands.specs.Checking.{AreLimits};
-ghost use Rattle.mon_station_commands.specs.Limits.{greatest_tries, has_some, interval_line, kept_lines, limits_text, longest_gap, outlasting_line, round_line, samples_of, target_line, target_lines, turn_line, turn_lines, turn_of, waits};
+ghost use Rattle.mon_station_commands.specs.Limits.{interval_line, kept_lines, limits_text, longest_gap, outlasting_line, round_line, sample_line, sample_lines, samples_of, target_line, target_lines, turn_line, turn_lines, turn_of};
 
 use mon_board::Watched;
 use mon_console::{Failure, print};
 use mon_disk::SLOT_SIZE;
 use mon_host::Host;
 use mon_poller::Target;
-use mon_settings::StationSettings;
+use mon_settings::{RoundTime, StationSettings, round_time};
 use std::alloc::{AllocError, Global};
 
-/// How many times its length a wait lasts at most, whatever comes.
-const MOST: u64 = 4;
-
-/// How long a round may take, in milliseconds. What it takes to handle datagrams is not among it.
-#[derive(Clone, Copy)]
-struct RoundTime {
-    /// If all targets answer.
-    least: u64,
-    /// If none does.
-    silent: u64,
-    /// Whatever comes.
-    most: u64,
-}
+/// From how many milliseconds between two samples on no warning of cached counters is printed.
+const APART: u64 = 5_000;
 
 /// Prints how long a round of a station of these settings may take, with this interval in seconds
 /// (0 for none), and what else limits it. Nothing is opened.
@@ -59,6 +48,7 @@ fn limits(alloc: Global, settings: &StationSettings, interval: u32) -> Result<St
         interval,
         settings.core.peers().len(),
     )?;
+    put_samples(&mut text, interval, settings.core.peers().len())?;
     put_targets(&mut text, settings.core.targets())?;
     put_kept(&mut text, instances.len(), samples, &settings.file)?;
     Ok(text)
@@ -149,49 +139,39 @@ fn put_outlasting(text: &mut String, silent: u64, turn: u64) -> Result<(), Alloc
     )
 }
 
+/// Adds what to do about agents that renew their counters less often than samples are taken, if these
+/// come closer together than such agents want.
+fn put_samples(text: &mut String, interval: u32, peers: usize) -> Result<(), AllocError>
+    requires { peers ≤ 15 }
+    ensures { OnOk result (string_bytes text.new
+        ≡ string_bytes text.old ++ sample_lines interval peers) }
+{
+    if interval == 0 {
+        return Ok(());
+    }
+    put_sample_line(text, turn_of(interval, peers + 1))
+}
+
+/// Adds the same for samples that come this many milliseconds apart.
+fn put_sample_line(text: &mut String, apart: u64) -> Result<(), AllocError>
+    ensures { OnOk result (string_bytes text.new
+        ≡ string_bytes text.old ++ sample_line apart) }
+{
+    if apart >= APART {
+        return Ok(());
+    }
+    write!(
+        text,
+        "samples: one every {apart} ms; an agent that renews its counters less often (net-snmp's every 3 s) makes rates of 0 and too high ones: a longer --interval mends that, and --alarm-after 4 keeps most such alarms from being announced\n"
+    )
+}
+
 /// Returns how many milliseconds of the interval, in seconds, each of these stations has to itself.
 fn turn_of(interval: u32, stations: usize) -> u64
     requires { 0 < stations }
     ensures { result ≡ turn_of interval stations }
 {
     u64::from(interval) * 1000 / stations as u64
-}
-
-/// Returns how long a round may take.
-fn round_time(settings: &StationSettings) -> RoundTime
-    ensures least { result.least ≡ waits settings.now.wait_ms 0 (has_some settings.now.core.peers) }
-    ensures silent { result.silent ≡ waits settings.now.wait_ms (greatest_tries settings.now.core.targets) (has_some settings.now.core.peers) }
-    ensures most { result.most ≡ 4 * waits settings.now.wait_ms (greatest_tries settings.now.core.targets) (has_some settings.now.core.peers) }
-    ensures short { result.most ≤ 4415226380288 }
-{
-    let has_peers = !settings.core.peers().is_empty();
-    let tries = u32::from(greatest_tries(settings.core.targets()));
-    let silent = waits(settings.wait_ms, tries, has_peers);
-    RoundTime {
-        least: waits(settings.wait_ms, 0, has_peers),
-        silent,
-        most: MOST * silent,
-    }
-}
-
-/// Returns how many milliseconds a round waits in which this many waits with open polls are quiet.
-fn waits(wait_ms: u32, quiet: u32, has_peers: bool) -> u64
-    ensures { result ≡ waits wait_ms quiet has_peers }
-{
-    u64::from(wait_ms) * (1 + u64::from(quiet) + u64::from(has_peers))
-}
-
-/// Returns how often a poll is sent at most, over all targets.
-pub(crate) fn greatest_tries(targets: &[Target]) -> u8
-    ensures { result ≡ greatest_tries targets.now }
-{
-    let mut most = 0;
-    for target in targets {
-        if target.tries > most {
-            most = target.tries;
-        }
-    }
-    most
 }
 
 /// Adds a line for each target: how many objects its poll asks for, and how often it is sent.

@@ -1,11 +1,12 @@
 //! A running station: what it works with, and a round of it.
 
 ghost use Rattle.std.specs.Prelude.{◌≡◌, ◌≤◌, ◌/◌, ℕ, IfErr, IfOk, IfSome, None, OnOk, Some, is_some, length, map, string_bytes};
+ghost use Rattle.mon_alarms.specs.Announcing.{announcer_of};
 ghost use Rattle.mon_console.specs.Shown.{shown_by};
 ghost use Rattle.mon_disk.specs.Fault.{number_of};
-ghost use Rattle.mon_host.specs.AtHost.{IsNoted};
 ghost use Rattle.mon_host.specs.Log.{GoesOnBy};
-ghost use Rattle.mon_rounds.specs.Changes.{changes_between, told_by, troubles_after};
+ghost use Rattle.mon_report.specs.Alarms.{states_of};
+ghost use Rattle.mon_rounds.specs.Changes.{changes_between, others_of, told_by, troubles_after};
 ghost use Rattle.mon_rounds.specs.Kept.{kept_in};
 ghost use Rattle.mon_rounds.specs.Orderly.{begun};
 ghost use Rattle.mon_rounds.specs.Whole.{HasRun, IsWhole, view_of};
@@ -14,11 +15,10 @@ ghost use Rattle.mon_station_commands.specs.Places.{IsNoSocket};
 ghost use Rattle.mon_station_commands.specs.Rounds.{nothing_kept};
 ghost use Rattle.mon_station_commands.specs.Spans.{AreAlarms, AreChanges, AreTroubles, AreTroublesOf, IsAccountOf, IsOfRun, IsReportOr, IsSavedAfter, IsSpanRun, IsTimedRun, is_round};
 ghost use Rattle.mon_station_commands.specs.Steps.{OrMemory, SomeOr, only};
-ghost use Rattle.mon_station_commands.specs.Telling.{IsOpening, changed_notes, start_line};
+ghost use Rattle.mon_station_commands.specs.Telling.{AreNoted, IsOpening, announced_notes, new_lines, start_lines};
 ghost use Rattle.mon_station.specs.Seen.{seen};
 ghost use Rattle.mon_station.specs.State.{state_of};
 
-use crate::limits::greatest_tries;
 use crate::opening::{or_socket_failure, unopened};
 use crate::pace::{passed, wall_time};
 use crate::printing::said;
@@ -32,9 +32,9 @@ use mon_host::Host;
 use mon_poller::Target;
 use mon_rounds::{
     Addresses, Course, Freshness, Notice, Receiver, RoundEvent, RoundReport, Rounds, Sends,
-    SocketOutbox, Span, Spell, Troubles, polled_targets,
+    SocketOutbox, Span, Spell, Troubles, other_engines, polled_targets,
 };
-use mon_settings::StationSettings;
+use mon_settings::{StationSettings, greatest_tries};
 use mon_station::{Outbox, Run, Station, StationFault};
 use mon_web_receiver::Shows;
 use std::alloc::{AllocError, Global};
@@ -53,8 +53,6 @@ pub(crate) struct Live<S: Receiver + Drop, O: Outbox + Drop> {
     /// What was said to be wrong with targets, peers and instances.
     pub(crate) troubles: Troubles,
     pub(crate) reports: Reports,
-    /// The path of the station's file.
-    pub(crate) file: String,
     /// When it was started.
     pub(crate) origin: Instant,
     /// When the last round, or the time after it, ended, in milliseconds since then.
@@ -73,7 +71,6 @@ impl<S: Receiver + Drop, O: Outbox + Drop> Drop for Live<S, O> {
             freshness: _,
             troubles: _,
             reports: _,
-            file: _,
             origin: _,
             ended: _,
             kept: _,
@@ -91,6 +88,9 @@ pub(crate) struct Kept {
     pub(crate) unprinted: Option<Failure>,
     /// Why the last round's report could not be written to the file for it, if it could not.
     pub(crate) unwritten: Option<Failure>,
+    /// `true` if the station's file was not at its path before the last round, and could not be made
+    /// there.
+    pub(crate) strayed: bool,
 }
 
 impl Kept {
@@ -103,6 +103,7 @@ impl Kept {
             unsaved: None,
             unprinted: None,
             unwritten: None,
+            strayed: false,
         }
     }
 }
@@ -115,6 +116,7 @@ impl Drop for Kept {
             unsaved: _,
             unprinted: _,
             unwritten: _,
+            strayed: _,
         } = self;
     }
 }
@@ -148,14 +150,25 @@ impl<S: Receiver + Drop, O: Outbox + Drop> Drop for Transport<S, O> {
     }
 }
 
-/// How a station's reports are printed, the file that each round's report is written to, from how many
-/// rounds without a new sample on an instance is stale, and how many seconds lie between two rounds.
+/// Which files a station writes.
+#[derive(Drop)]
+pub(crate) struct Paths {
+    /// The file that each round's report is written to, if there is one.
+    pub(crate) out: Option<String>,
+    /// The station's own file.
+    pub(crate) file: String,
+}
+
+/// How a station's reports are printed, which files it writes, from how many
+/// rounds without a new sample on an instance is stale, in how many looks a change of an alarm has held
+/// before it is announced, and how many seconds lie between two rounds.
 pub(crate) struct Reports {
     /// The station's number.
     pub(crate) station: u32,
     pub(crate) printing: Printing,
-    pub(crate) out: Option<String>,
+    pub(crate) paths: Paths,
     pub(crate) stale_after: u32,
+    pub(crate) alarm_after: u32,
     pub(crate) interval: u32,
     /// The buffer for reports as lines of text with names in numbers. It has its capacity from the
     /// station's start on, so that such a report needs no memory later; it grows if it must.
@@ -168,8 +181,9 @@ impl Drop for Reports {
         let Reports {
             station: _,
             printing: _,
-            out: _,
+            paths: _,
             stale_after: _,
+            alarm_after: _,
             interval: _,
             lines: _,
         } = self;
@@ -271,11 +285,14 @@ pub(crate) fn start_station<H: Host, S: Receiver + Drop, O: Outbox + Drop>(
         (only (λ live. state_of live.station.life) result)) (H.log host.old) (H.log host.new) }
     ensures reports { IfOk result (λ live. live.reports ≡ setup.reports) }
     ensures kept { IfOk result (λ live. live.kept ≡ nothing_kept) }
+    ensures announcer { IfOk result (λ live. live.course.announcer
+        ≡ announcer_of setup.reports.alarm_after (states_of (state_of live.station.life).board)) }
 {
     let Setup { settings, reports } = setup;
     let StationSettings { core, file, .. } = settings;
     let Place { disk, at, origin } = place;
-    let opened = open_station(alloc, core, disk, &file, &transport)?;
+    let station = open_station(alloc, core, disk, &file)?;
+    let opened = watched(alloc, station, &transport, reports.alarm_after)?;
     tell_start(host, opened.station.incarnation(), &transport, at, &file);
     let live = Live {
         station: opened.station,
@@ -285,7 +302,6 @@ pub(crate) fn start_station<H: Host, S: Receiver + Drop, O: Outbox + Drop>(
         freshness: opened.freshness,
         troubles: Troubles::new(alloc),
         reports,
-        file,
         origin,
         ended: 0,
         kept: Kept::nothing(),
@@ -294,7 +310,7 @@ pub(crate) fn start_station<H: Host, S: Receiver + Drop, O: Outbox + Drop>(
     Ok(live)
 }
 
-/// Prints where a station is and what it polls.
+/// Prints where a station is and what it polls, and what its peers need if its file is new.
 fn tell_start<H: Host, S: Receiver + Drop, O: Outbox + Drop>(
     host: &mut H,
     incarnation: u32,
@@ -302,8 +318,8 @@ fn tell_start<H: Host, S: Receiver + Drop, O: Outbox + Drop>(
     at: SocketAddr,
     file: &str,
 )
-    ensures { GoesOnBy (IsNoted (Some (start_line transport.now.number at incarnation file.now
-        (length transport.now.engines.items) (length transport.now.peers.items))))
+    ensures { GoesOnBy (AreNoted (start_lines transport.now.number at incarnation file.now
+        (length transport.now.engines.items) (length transport.now.peers.items)))
         (H.log host.old) (H.log host.new) }
 {
     let number = transport.number;
@@ -311,20 +327,33 @@ fn tell_start<H: Host, S: Receiver + Drop, O: Outbox + Drop>(
     host.note(format_args!(
         "snmpmon: station {number} at {at}, incarnation {incarnation}, file {file}, targets: {targets}, peers: {peers}\n"
     ));
+    if peers > 0 {
+        tell_new(host, number, incarnation);
+    }
+}
+
+/// Prints what the peers of a station need if its file is new, which its first incarnation says.
+fn tell_new<H: Host>(host: &mut H, number: u32, incarnation: u32)
+    ensures { GoesOnBy (AreNoted (new_lines number incarnation)) (H.log host.old) (H.log host.new) }
+{
+    if incarnation == 1 {
+        host.note(format_args!(
+            "snmpmon: station {number} has a new file: a peer that knows it from before must be started again, or it offers nothing old\n"
+        ));
+    }
 }
 
 /// Opens the station of these settings over the file's disk.
-fn open_station<S: Receiver + Drop, O: Outbox + Drop>(
+fn open_station(
     alloc: Global,
     core: Core,
     disk: FileDisk,
     file: &str,
-    transport: &Transport<S, O>,
-) -> Result<Opened, Failure>
+) -> Result<Station<FileDisk>, Failure>
     ensures { IfErr result IsNoStation }
 {
     match Station::open(alloc, core, disk) {
-        Ok(station) => Ok(watched(alloc, station, transport)?),
+        Ok(station) => Ok(station),
         Err((fault, disk)) => Err(unopened(alloc, file, fault, &disk)),
     }
 }
@@ -337,14 +366,20 @@ struct Opened {
     freshness: Freshness,
 }
 
-/// Returns a station with what is known of it before its first round.
+/// Returns a station with what is known of it before its first round. A change of its alarms is
+/// announced once it has held in `after` looks.
 fn watched<S: Receiver + Drop, O: Outbox + Drop>(
     alloc: Global,
     station: Station<FileDisk>,
     transport: &Transport<S, O>,
-) -> Result<Opened, AllocError> {
+    after: u32,
+) -> Result<Opened, AllocError>
+    ensures station { IfOk result (λ opened. opened.station ≡ station) }
+    ensures announcer { IfOk result (λ opened. opened.course.announcer
+        ≡ announcer_of after (states_of (state_of station.life).board)) }
+{
     let (addresses, polled) = (&transport.addresses, transport.polled.as_slice());
-    let course = Course::new(alloc, station.board())?;
+    let course = Course::new(alloc, station.board(), after)?;
     let freshness = Freshness::new(alloc, addresses, polled, station.board())?;
     Ok(Opened {
         station,
@@ -363,11 +398,12 @@ pub(crate) fn run_span<H: Host, S: Shows + Drop, O: Outbox + Drop>(
     span: Span,
 ) -> Result<(), Failure>
     ensures run { GoesOnBy (λ log. IsSpanRun (IsOfRun live.new.transport.rounds.round.targets
-        live.new.transport.rounds.round.events live.new.run) (changed_notes (shown_by live.old.reports.printing.names)
-        (state_of live.new.station.life).board (map (λ w. w.items) live.old.course.windows.items))
+        live.new.transport.rounds.round.events live.new.run) (announced_notes (shown_by live.old.reports.printing.names)
+        (state_of live.new.station.life).board (map (λ w. w.items) live.old.course.windows.items)
+        live.old.course.announcer)
         number (is_round span) live.old.kept live.new.kept log result) (H.log host.old) (H.log host.new) }
     ensures printing { live.new.reports.printing ≡ live.old.reports.printing }
-    ensures out { live.new.reports.out ≡ live.old.reports.out }
+    ensures paths { live.new.reports.paths ≡ live.old.reports.paths }
 {
     let ran = run_timed(alloc, host, live, span)?;
     let told = report_run(alloc, host, live, number, ran);
@@ -397,7 +433,7 @@ fn run_timed<H: Host, S: Receiver + Drop, O: Outbox + Drop>(
     ensures span { IfOk result (λ ran. IfOk ran (λ spell. spell.span ≡ span)) }
     ensures fault { IfOk result (λ ran. IfErr ran (λ fault. fault ≡ StationFault.OutOfMemory)) }
     ensures printing { live.new.reports.printing ≡ live.old.reports.printing }
-    ensures out { live.new.reports.out ≡ live.old.reports.out }
+    ensures paths { live.new.reports.paths ≡ live.old.reports.paths }
     ensures kept { live.new.kept ≡ record live.old.kept { round_at = live.new.kept.round_at } }
     ensures course { live.new.course ≡ live.old.course }
 {
@@ -445,11 +481,12 @@ fn report_run<H: Host, S: Receiver + Drop, O: Outbox + Drop>(
     ran: Result<Spell, StationFault>,
 ) -> Result<(), Failure>
     ensures account { GoesOnBy (λ log. IsAccountOf ran (IsOfRun live.old.transport.rounds.round.targets
-        live.old.transport.rounds.round.events live.old.run) (changed_notes (shown_by live.old.reports.printing.names)
-        (state_of live.old.station.life).board (map (λ w. w.items) live.old.course.windows.items))
+        live.old.transport.rounds.round.events live.old.run) (announced_notes (shown_by live.old.reports.printing.names)
+        (state_of live.old.station.life).board (map (λ w. w.items) live.old.course.windows.items)
+        live.old.course.announcer)
         number live.old.kept.unsaved live.new.kept.unsaved log result) (H.log host.old) (H.log host.new) }
     ensures printing { live.new.reports.printing ≡ live.old.reports.printing }
-    ensures out { live.new.reports.out ≡ live.old.reports.out }
+    ensures paths { live.new.reports.paths ≡ live.old.reports.paths }
     ensures kept { live.new.kept ≡ record live.old.kept { unsaved = live.new.kept.unsaved } }
     ensures round { live.new.transport.rounds.round ≡ live.old.transport.rounds.round }
     ensures ran { live.new.run ≡ live.old.run }
@@ -470,12 +507,13 @@ fn report_round<H: Host, S: Receiver + Drop, O: Outbox + Drop>(
     spell: Spell,
 ) -> Result<(), Failure>
     ensures account { GoesOnBy (λ log. IsReportOr (IsOfRun live.old.transport.rounds.round.targets
-        live.old.transport.rounds.round.events live.old.run) (changed_notes (shown_by live.old.reports.printing.names)
-        (state_of live.old.station.life).board (map (λ w. w.items) live.old.course.windows.items))
+        live.old.transport.rounds.round.events live.old.run) (announced_notes (shown_by live.old.reports.printing.names)
+        (state_of live.old.station.life).board (map (λ w. w.items) live.old.course.windows.items)
+        live.old.course.announcer)
         number (is_round spell.span) live.old.kept.unsaved live.new.kept.unsaved log result)
         (H.log host.old) (H.log host.new) }
     ensures printing { live.new.reports.printing ≡ live.old.reports.printing }
-    ensures out { live.new.reports.out ≡ live.old.reports.out }
+    ensures paths { live.new.reports.paths ≡ live.old.reports.paths }
     ensures kept { live.new.kept ≡ record live.old.kept { unsaved = live.new.kept.unsaved } }
     ensures round { live.new.transport.rounds.round ≡ live.old.transport.rounds.round }
     ensures ran { live.new.run ≡ live.old.run }
@@ -504,7 +542,7 @@ fn unsaved_after(
     }
 }
 
-/// Prints what changed in a round or after it: troubles and alarms.
+/// Prints what changed in a round or after it: troubles, and what is announced of alarms.
 fn tell_changes<H: Host, S: Receiver + Drop, O: Outbox + Drop>(
     alloc: Global,
     host: &mut H,
@@ -512,38 +550,51 @@ fn tell_changes<H: Host, S: Receiver + Drop, O: Outbox + Drop>(
     number: u32,
     span: Span,
 ) -> Result<(), Failure>
-    ensures said { GoesOnBy (λ log. AreChanges (changed_notes (shown_by live.old.reports.printing.names)
-        (state_of live.old.station.life).board (map (λ w. w.items) live.old.course.windows.items)) number
+    ensures said { GoesOnBy (λ log. AreChanges (announced_notes (shown_by live.old.reports.printing.names)
+        (state_of live.old.station.life).board (map (λ w. w.items) live.old.course.windows.items)
+        live.old.course.announcer) number
         (is_round span) log result) (H.log host.old) (H.log host.new) }
     ensures printing { live.new.reports.printing ≡ live.old.reports.printing }
-    ensures out { live.new.reports.out ≡ live.old.reports.out }
+    ensures paths { live.new.reports.paths ≡ live.old.reports.paths }
     ensures kept { live.new.kept ≡ live.old.kept }
     ensures round { live.new.transport.rounds.round ≡ live.old.transport.rounds.round }
     ensures ran { live.new.run ≡ live.old.run }
     ensures station { live.new.station ≡ live.old.station }
 {
     tell_troubles(alloc, host, live, number, span)?;
-    tell_alarm_changes(alloc, host, live)
+    tell_alarm_changes(alloc, host, live, is_round(span))
 }
 
-/// Prints the alarms that changed.
+/// Returns `true` if a span is a round, and not the time between two.
+fn is_round(span: Span) -> bool
+    ensures { result ≡ is_round span }
+{
+    match span {
+        Span::Round => true,
+        Span::Between(_) => false,
+    }
+}
+
+/// Prints what is announced of the alarms, at a look or between two.
 fn tell_alarm_changes<H: Host, S: Receiver + Drop, O: Outbox + Drop>(
     alloc: Global,
     host: &mut H,
     live: &mut Live<S, O>,
+    looks: bool,
 ) -> Result<(), Failure>
-    ensures said { GoesOnBy (λ log. AreAlarms (changed_notes (shown_by live.old.reports.printing.names)
-        (state_of live.old.station.life).board (map (λ w. w.items) live.old.course.windows.items)) log result)
+    ensures said { GoesOnBy (λ log. AreAlarms (announced_notes (shown_by live.old.reports.printing.names)
+        (state_of live.old.station.life).board (map (λ w. w.items) live.old.course.windows.items)
+        live.old.course.announcer looks) log result)
         (H.log host.old) (H.log host.new) }
     ensures printing { live.new.reports.printing ≡ live.old.reports.printing }
-    ensures out { live.new.reports.out ≡ live.old.reports.out }
+    ensures paths { live.new.reports.paths ≡ live.old.reports.paths }
     ensures kept { live.new.kept ≡ live.old.kept }
     ensures round { live.new.transport.rounds.round ≡ live.old.transport.rounds.round }
     ensures ran { live.new.run ≡ live.old.run }
     ensures station { live.new.station ≡ live.old.station }
 {
     let board = live.station.board();
-    let changes = live.course.take_changes(alloc, board)?;
+    let changes = live.course.take_changes(alloc, board, looks)?;
     tell_alarms(
         alloc,
         host,
@@ -564,7 +615,7 @@ fn tell_troubles<H: Host, S: Receiver + Drop, O: Outbox + Drop>(
 ) -> Result<(), Failure>
     ensures said { GoesOnBy (λ log. AreTroubles (is_round span) number log result) (H.log host.old) (H.log host.new) }
     ensures printing { live.new.reports.printing ≡ live.old.reports.printing }
-    ensures out { live.new.reports.out ≡ live.old.reports.out }
+    ensures paths { live.new.reports.paths ≡ live.old.reports.paths }
     ensures kept { live.new.kept ≡ live.old.kept }
     ensures round { live.new.transport.rounds.round ≡ live.old.transport.rounds.round }
     ensures ran { live.new.run ≡ live.old.run }
@@ -586,10 +637,12 @@ fn report_troubles<H: Host, S: Receiver + Drop, O: Outbox + Drop>(
 ) -> Result<(), Failure>
     ensures said { GoesOnBy (λ log. AreTroublesOf live.old.freshness number
         (changes_between (told_by live.old.troubles)
-        (troubles_after live.old.reports.stale_after (told_by live.old.troubles) live.old.freshness))
+        (troubles_after live.old.reports.stale_after (told_by live.old.troubles)
+        (others_of live.old.transport.rounds.latest.datagrams.items live.old.freshness.targets.items
+        live.old.transport.engines.items (length live.old.freshness.targets.items)) live.old.freshness))
         log result) (H.log host.old) (H.log host.new) }
     ensures printing { live.new.reports.printing ≡ live.old.reports.printing }
-    ensures out { live.new.reports.out ≡ live.old.reports.out }
+    ensures paths { live.new.reports.paths ≡ live.old.reports.paths }
     ensures kept { live.new.kept ≡ live.old.kept }
     ensures round { live.new.transport.rounds.round ≡ live.old.transport.rounds.round }
     ensures ran { live.new.run ≡ live.old.run }
@@ -597,11 +650,16 @@ fn report_troubles<H: Host, S: Receiver + Drop, O: Outbox + Drop>(
     ensures course { live.new.course ≡ live.old.course }
 {
     let limit = live.reports.stale_after;
-    let changes = live.troubles.take_changes(alloc, &live.freshness, limit)?;
+    let latest = live.transport.rounds.latest();
+    let engines = live.transport.engines.as_slice();
+    let others = other_engines(alloc, latest, live.freshness.targets(), engines)?;
+    let changes = live
+        .troubles
+        .take_changes(alloc, &live.freshness, others, limit)?;
     let facts = Facts {
         freshness: &live.freshness,
-        engines: live.transport.engines.as_slice(),
-        latest: live.transport.rounds.latest(),
+        engines,
+        latest,
         board: live.station.board(),
         printing: &live.reports.printing,
     };

@@ -9,6 +9,7 @@ ghost use Rattle.mon_station_commands.specs.Places.{AreSavedIf, IsFile, IsHad, I
 ghost use Rattle.mon_station_commands.specs.Saved.{AreLooks, IsBoardIn, IsLook, IsReportCommand, IsSameHead, IsSavedIn, IsSavedReport, IsSteadyRead};
 ghost use Rattle.mon_station_commands.specs.Telling.{AreNoted, short_lines, short_lines_of};
 
+use crate::age::tell_age;
 use mon_board::Board;
 use mon_cli::ReportArgs;
 use mon_console::{Failure, Fault, Printing, print, read_labelled_station, read_part};
@@ -145,8 +146,8 @@ fn is_short(size: u64) -> bool
     size > 0 && size < 2 * SLOT_SIZE
 }
 
-/// Prints the report of the windows in the file of the settings. The station is not started, and
-/// the file is only read.
+/// Prints the report of the windows in the file of the settings, and says on standard error how long
+/// ago it was saved. The station is not started, and the file is only read.
 pub fn print_saved_report<H: Host>(
     alloc: Global,
     host: &mut H,
@@ -166,7 +167,7 @@ pub fn print_saved_report<H: Host>(
     print_saved(alloc, host, &settings, &printing)
 }
 
-/// Prints the report of the windows in the file of these settings.
+/// Prints the report of the windows in the file of these settings, and says how old it is.
 fn print_saved<H: Host>(
     alloc: Global,
     host: &mut H,
@@ -177,6 +178,7 @@ fn print_saved<H: Host>(
         (H.log host.old) (H.log host.new) }
 {
     let board = saved_in(alloc, host, settings)?;
+    tell_age(host, &settings.file);
     let text = printing.report(alloc, &board, None)?;
     print(alloc, host, text.as_slice())
 }
@@ -267,7 +269,7 @@ fn is_head_at(octets: &[u8], at: u64, head: &[u8]) -> bool
 }
 
 /// Returns what the opening of the station's file gave.
-fn or_file_failure<T: Drop>(
+pub(crate) fn or_file_failure<T: Drop>(
     alloc: Global,
     path: &str,
     given: Result<T, OpenFault>,

@@ -44,7 +44,7 @@ pub(crate) fn start_pace<H: Host, S: Shows + Drop, O: Outbox + Drop>(
 ) -> Result<Pace, Failure>
     ensures quiet { GoesOnBy (λ log. IsWait log result) (H.log host.old) (H.log host.new) }
     ensures printing { live.new.reports.printing ≡ live.old.reports.printing }
-    ensures out { live.new.reports.out ≡ live.old.reports.out }
+    ensures paths { live.new.reports.paths ≡ live.old.reports.paths }
     ensures kept { live.new.kept ≡ live.old.kept }
 {
     let interval = u64::from(timing.interval) * 1000;
@@ -108,7 +108,7 @@ pub(crate) fn wait_for_next<H: Host, S: Shows + Drop, O: Outbox + Drop>(
 ) -> Result<Pace, Failure>
     ensures quiet { GoesOnBy (λ log. IsWait log result) (H.log host.old) (H.log host.new) }
     ensures printing { live.new.reports.printing ≡ live.old.reports.printing }
-    ensures out { live.new.reports.out ≡ live.old.reports.out }
+    ensures paths { live.new.reports.paths ≡ live.old.reports.paths }
     ensures kept { live.new.kept ≡ live.old.kept }
 {
     if pace.interval == 0 {
@@ -147,7 +147,7 @@ fn pause<H: Host, S: Shows + Drop, O: Outbox + Drop>(
 ) -> Result<(), Failure>
     ensures quiet { GoesOnBy (λ log. IsWait log result) (H.log host.old) (H.log host.new) }
     ensures printing { live.new.reports.printing ≡ live.old.reports.printing }
-    ensures out { live.new.reports.out ≡ live.old.reports.out }
+    ensures paths { live.new.reports.paths ≡ live.old.reports.paths }
     ensures kept { live.new.kept ≡ live.old.kept }
 {
     let due = Duration::from_millis(pace.due);

@@ -13,9 +13,9 @@ ghost use Rattle.mon_station_commands.specs.Steps.{IsKeptOf, IsSaidOf, IsTried, 
 use crate::figures::make_figures;
 use crate::live::Live;
 use mon_board::Board;
-use mon_console::{Failure, print, replace_file};
+use mon_console::{Failure, print, publish_file};
 use mon_host::Host;
-use mon_report::write_report;
+use mon_report::{announced_entries, write_report};
 use mon_rounds::Receiver;
 use mon_station::Outbox;
 use std::alloc::{AllocError, Global};
@@ -33,7 +33,7 @@ pub(crate) fn print_between<H: Host, S: Receiver + Drop, O: Outbox + Drop>(
         live.old.kept.unprinted log live.new.kept.unprinted) (H.log host.old) (H.log host.new) }
     ensures kept { live.new.kept ≡ record live.old.kept { unprinted = live.new.kept.unprinted } }
     ensures format { live.new.reports.printing ≡ live.old.reports.printing }
-    ensures out { live.new.reports.out ≡ live.old.reports.out }
+    ensures paths { live.new.reports.paths ≡ live.old.reports.paths }
 {
     let failure = try_print(alloc, host, live);
     live.kept.unprinted = kept_after(live.kept.unprinted.take(), failure);
@@ -67,7 +67,7 @@ fn try_print<H: Host, S: Receiver + Drop, O: Outbox + Drop>(
         log result) (H.log host.old) (H.log host.new) }
     ensures kept { live.new.kept ≡ live.old.kept }
     ensures format { live.new.reports.printing ≡ live.old.reports.printing }
-    ensures out { live.new.reports.out ≡ live.old.reports.out }
+    ensures paths { live.new.reports.paths ≡ live.old.reports.paths }
 {
     let done = print_report(alloc, host, live);
     said(host, done)
@@ -99,7 +99,7 @@ pub(crate) fn print_report<H: Host, S: Receiver + Drop, O: Outbox + Drop>(
         log result) (H.log host.old) (H.log host.new) }
     ensures kept { live.new.kept ≡ live.old.kept }
     ensures format { live.new.reports.printing ≡ live.old.reports.printing }
-    ensures out { live.new.reports.out ≡ live.old.reports.out }
+    ensures paths { live.new.reports.paths ≡ live.old.reports.paths }
 {
     if live.reports.printing.is_plain() {
         put_lines(&mut live.reports.lines, live.station.board())?;
@@ -122,7 +122,8 @@ fn put_lines(lines: &mut Vec<u8>, board: &Board) -> Result<(), AllocError>
     }
 }
 
-/// Makes the report of a station's windows and of what it says of itself.
+/// Makes the report of a station's windows, of what was announced of its alarms, and of what it says
+/// of itself.
 fn report_text<S: Receiver + Drop, O: Outbox + Drop>(
     alloc: Global,
     live: &Live<S, O>,
@@ -132,9 +133,11 @@ fn report_text<S: Receiver + Drop, O: Outbox + Drop>(
         live.now.ended live.now.kept.round_at live.now.reports text.items) }
 {
     let figures = make_figures(alloc, live)?;
+    let states = live.course.announced(alloc)?;
+    let entries = announced_entries(alloc, live.station.board(), states.as_slice())?;
     live.reports
         .printing
-        .report(alloc, live.station.board(), Some(&figures))
+        .text(alloc, entries.as_slice(), Some(&figures))
 }
 
 /// Writes the report to the file that the arguments name, if they name one, after the round of this
@@ -146,14 +149,14 @@ pub(crate) fn write_out<H: Host, S: Receiver + Drop, O: Outbox + Drop>(
     live: &mut Live<S, O>,
     round: u32,
 )
-    ensures written { GoesOnBy (λ log. IsOut round (option_map string_bytes live.old.reports.out)
+    ensures written { GoesOnBy (λ log. IsOut round (option_map string_bytes live.old.reports.paths.out)
         (IsReportOf (state_of live.old.station.life) live.old.course
         live.old.freshness live.old.transport.peers.items live.old.transport.engines.items
         live.old.ended live.old.kept.round_at live.old.reports)
         live.old.kept.unwritten log live.new.kept.unwritten) (H.log host.old) (H.log host.new) }
     ensures kept { live.new.kept ≡ record live.old.kept { unwritten = live.new.kept.unwritten } }
     ensures format { live.new.reports.printing ≡ live.old.reports.printing }
-    ensures out { live.new.reports.out ≡ live.old.reports.out }
+    ensures paths { live.new.reports.paths ≡ live.old.reports.paths }
 {
     let before = live.kept.unwritten.take();
     live.kept.unwritten = try_write(alloc, host, live, round, &before);
@@ -168,13 +171,13 @@ fn try_write<H: Host, S: Receiver + Drop, O: Outbox + Drop>(
     round: u32,
     before: &Option<Failure>,
 ) -> Option<Failure>
-    ensures { GoesOnBy (λ log. IsOut round (option_map string_bytes live.now.reports.out)
+    ensures { GoesOnBy (λ log. IsOut round (option_map string_bytes live.now.reports.paths.out)
         (IsReportOf (state_of live.now.station.life) live.now.course
         live.now.freshness live.now.transport.peers.items live.now.transport.engines.items
         live.now.ended live.now.kept.round_at live.now.reports)
         before.now log result) (H.log host.old) (H.log host.new) }
 {
-    match &live.reports.out {
+    match &live.reports.paths.out {
         Some(path) => {
             let done = write_file(alloc, host, live, path);
             tell_change(host, round, path, before, &done);
@@ -231,8 +234,7 @@ fn tell_unwritten<H: Host>(host: &mut H, round: u32, path: &str, failure: &Failu
     failure.tell(host);
 }
 
-/// Returns `true` if a failure was said before: the one before it is for want of memory too, or
-/// neither is.
+/// Returns `true` if a failure was said before: memory was refused both times, or neither time.
 fn is_known(before: &Option<Failure>, failure: &Failure) -> bool
     ensures { result ≡ is_known before.now failure.now }
 {
@@ -242,7 +244,7 @@ fn is_known(before: &Option<Failure>, failure: &Failure) -> bool
     }
 }
 
-/// Replaces the file at a path by the report.
+/// Replaces the file at a path by the report, which all users may read.
 fn write_file<H: Host, S: Receiver + Drop, O: Outbox + Drop>(
     alloc: Global,
     host: &mut H,
@@ -255,5 +257,5 @@ fn write_file<H: Host, S: Receiver + Drop, O: Outbox + Drop>(
         log result) (H.log host.old) (H.log host.new) }
 {
     let text = report_text(alloc, live)?;
-    replace_file(alloc, host, path, text.as_slice())
+    publish_file(alloc, host, path, text.as_slice())
 }

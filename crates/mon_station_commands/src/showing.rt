@@ -11,7 +11,7 @@ use crate::figures::make_figures;
 use crate::live::Live;
 use mon_console::Printing;
 use mon_formats::{Figures, Format};
-use mon_report::{Entry, entries_of};
+use mon_report::{Entry, announced_entries};
 use mon_rounds::{Receiver, Span};
 use mon_station::Outbox;
 use mon_web::Texts;
@@ -34,7 +34,7 @@ pub(crate) fn show_span<S: Shows + Drop, O: Outbox + Drop>(
     ensures shown { span ≡ Span.Round → IsShown (AreTextsOf (state_of live.old.station.life) live.old.course live.old.freshness live.old.transport.peers.items live.old.transport.engines.items live.old.ended live.old.kept.round_at live.old.reports)
         (option_map (with_round live.old.ended number) (S.shown live.old.transport.rounds.receiver)) (S.shown live.new.transport.rounds.receiver) }
     ensures printing { live.new.reports.printing ≡ live.old.reports.printing }
-    ensures out { live.new.reports.out ≡ live.old.reports.out }
+    ensures paths { live.new.reports.paths ≡ live.old.reports.paths }
     ensures kept { live.new.kept ≡ live.old.kept }
     ensures round { live.new.transport.rounds.round ≡ live.old.transport.rounds.round }
     ensures ran { live.new.run ≡ live.old.run }
@@ -57,7 +57,7 @@ pub(crate) fn show<S: Shows + Drop, O: Outbox + Drop>(alloc: Global, live: &mut 
     ensures shown { IsShown (AreTextsOf (state_of live.old.station.life) live.old.course live.old.freshness live.old.transport.peers.items live.old.transport.engines.items live.old.ended live.old.kept.round_at live.old.reports)
         (S.shown live.old.transport.rounds.receiver) (S.shown live.new.transport.rounds.receiver) }
     ensures printing { live.new.reports.printing ≡ live.old.reports.printing }
-    ensures out { live.new.reports.out ≡ live.old.reports.out }
+    ensures paths { live.new.reports.paths ≡ live.old.reports.paths }
     ensures kept { live.new.kept ≡ live.old.kept }
     ensures round { live.new.transport.rounds.round ≡ live.old.transport.rounds.round }
     ensures ran { live.new.run ≡ live.old.run }
@@ -76,11 +76,13 @@ fn make_texts<S: Receiver + Drop, O: Outbox + Drop>(
     live: &Live<S, O>,
     before: Option<Texts>,
 ) -> Result<Texts, AllocError>
-    // The texts are those of the board and of what the station says of itself, as they are now.
+    // The texts are those of the board, of what was announced of its alarms and of what the station
+    // says of itself, as they are now.
     ensures { IfOk result (AreTextsOf (state_of live.now.station.life) live.now.course live.now.freshness live.now.transport.peers.items live.now.transport.engines.items live.now.ended live.now.kept.round_at live.now.reports) }
 {
     let figures = make_figures(alloc, live)?;
-    let entries = entries_of(alloc, live.station.board())?;
+    let states = live.course.announced(alloc)?;
+    let entries = announced_entries(alloc, live.station.board(), states.as_slice())?;
     let entries = entries.as_slice();
     let printing = &live.reports.printing;
     let mut texts = before.unwrap_or(Texts::empty(alloc));

@@ -5,17 +5,18 @@ ghost use Rattle.mon_disk.specs.declared.fault.KeeperFault.{KeeperFault};
 ghost use Rattle.mon_faults.specs.declared.fault.Fault.TheVariants.{Keeper};
 ghost use Rattle.mon_host.specs.AtHost.{IsNoted};
 ghost use Rattle.mon_host.specs.Log.{GoesOnBy};
-ghost use Rattle.mon_station_commands.specs.Checking.{IsCheck};
+ghost use Rattle.mon_station_commands.specs.Checking.{HasFile, IsCheck};
 ghost use Rattle.mon_station_commands.specs.Ending.{IsEnded};
 ghost use Rattle.mon_station_commands.specs.Limits.{longest_gap};
 ghost use Rattle.mon_station_commands.specs.Places.{IsDoor, IsNoSocket, IsPlaceAt, IsShownOpened, IsUnseenOpened};
 ghost use Rattle.mon_station_commands.specs.Rounds.{AreRun, IsBetween, IsLastRun, IsRoundRun, IsRun};
-ghost use Rattle.mon_station_commands.specs.Station.{AreReports, IsRunning, IsSeen, IsSeenIf, IsStation, IsUnseen};
+ghost use Rattle.mon_station_commands.specs.Station.{ArePaths, AreReports, IsRunning, IsSeen, IsSeenIf, IsStation, IsUnseen};
 ghost use Rattle.mon_station_commands.specs.Steps.{OrMemory, SomeOr, only};
 ghost use Rattle.mon_station_commands.specs.Telling.{http_line};
 
+use crate::keeping::keep_file;
 use crate::limits::{longest_gap, print_limits};
-use crate::live::{Live, Place, Reports, Setup, open_transport, run_span, start_station};
+use crate::live::{Live, Paths, Place, Reports, Setup, open_transport, run_span, start_station};
 use crate::opening::{open_file, or_no_socket, or_socket_failure, unsaved};
 use crate::pace::{now, start_pace, wait_for_next};
 use crate::printing::{print_between, print_report, write_out};
@@ -103,7 +104,7 @@ fn reports_of(
     settings: &StationSettings,
     printing: Printing,
 ) -> Result<Reports, Failure>
-    ensures { OrMemory (AreReports words.entry settings.now.core.station printing) result }
+    ensures { OrMemory (AreReports words.entry settings.now printing) result }
 {
     let instances = if printing.is_plain() {
         settings.core.watch().instances().len()
@@ -113,8 +114,9 @@ fn reports_of(
     Ok(Reports {
         station: settings.core.station(),
         printing,
-        out: out_of(alloc, words.out)?,
+        paths: paths_of(alloc, words.out, &settings.file)?,
         stale_after: words.stale_after,
+        alarm_after: words.alarm_after,
         interval: words.timing.interval,
         lines: Vec::with_capacity(alloc, instances * LINE_SIZE)?,
     })
@@ -148,7 +150,18 @@ fn check_station<H: Host>(
         words.labels,
         words.printed,
     )?;
+    require_file(alloc, &settings.file)?;
     print_limits(alloc, host, &settings, words.timing.interval)
+}
+
+/// Returns the failure of settings that name no file, if they don't.
+fn require_file(alloc: Global, file: &str) -> Result<(), Failure>
+    ensures { HasFile file.now result }
+{
+    if !file.is_empty() {
+        return Ok(());
+    }
+    Err(Failure::text(alloc, "file = \"\"", "a path"))
 }
 
 /// Runs a station that serves no HTTP.
@@ -166,7 +179,7 @@ fn run_unseen<R: Clock + Files<File = File> + Net + AllocGlobal, H: Host>(
     let receiver = SocketReceiver::new(rt, alloc, &socket);
     let transport = open_transport(alloc, &setup.settings, &socket, receiver)?;
     let mut live = start_station(alloc, host, setup, place, transport)?;
-    run_rounds(alloc, host, &mut live, timing)
+    run_rounds(rt, host, &mut live, timing)
 }
 
 /// Opens the socket and the file of the settings.
@@ -207,7 +220,7 @@ fn run_shown<R: Clock + Files<File = File> + Net + AllocGlobal, H: Host>(
     let mut live = start_station(alloc, host, setup, place, transport)?;
     tell_http(host, at);
     show(alloc, &mut live);
-    run_rounds(alloc, host, &mut live, timing)
+    run_rounds(rt, host, &mut live, timing)
 }
 
 /// Prints where a station serves HTTP.
@@ -321,77 +334,81 @@ fn door_at(alloc: Global, text: &str) -> Result<Option<Addr>, Failure>
 
 /// Runs a station through its rounds, and prints its report. If a report between two rounds could not
 /// be printed, the last round's could not be written or its save failed, that is the failure.
-fn run_rounds<H: Host, S: Shows + Drop, O: Outbox + Drop>(
-    alloc: Global,
+fn run_rounds<R: Files<File = File> + AllocGlobal, H: Host, S: Shows + Drop, O: Outbox + Drop>(
+    rt: &R,
     host: &mut H,
     live: &mut Live<S, O>,
     timing: Timing,
 ) -> Result<(), Failure>
     ensures { GoesOnBy (λ log. IsRun timing.rounds timing.report_every live.old.reports.printing
-        (option_map string_bytes live.old.reports.out) live.old.kept log result) (H.log host.old) (H.log host.new) }
+        live.old.reports.paths live.old.kept log result) (H.log host.old) (H.log host.new) }
 {
-    run_all(alloc, host, live, timing)?;
+    let alloc = rt.alloc();
+    run_all(rt, host, live, timing)?;
     print_report(alloc, host, live)?;
     ended(alloc, live)
 }
 
 /// Runs a station's rounds, and what is between them.
-fn run_all<H: Host, S: Shows + Drop, O: Outbox + Drop>(
-    alloc: Global,
+fn run_all<R: Files<File = File> + AllocGlobal, H: Host, S: Shows + Drop, O: Outbox + Drop>(
+    rt: &R,
     host: &mut H,
     live: &mut Live<S, O>,
     timing: Timing,
 ) -> Result<(), Failure>
     ensures run { GoesOnBy (λ log. AreRun timing.rounds timing.report_every
-        live.old.reports.printing (option_map string_bytes live.old.reports.out)
+        live.old.reports.printing live.old.reports.paths
         live.old.kept log live.new.kept result)
         (H.log host.old) (H.log host.new) }
     ensures printing { live.new.reports.printing ≡ live.old.reports.printing }
-    ensures out { live.new.reports.out ≡ live.old.reports.out }
+    ensures paths { live.new.reports.paths ≡ live.old.reports.paths }
 {
+    let alloc = rt.alloc();
     let mut pace = start_pace(alloc, host, live, timing)?;
     for number in 1..timing.rounds {
-        run_round(alloc, host, live, number)?;
+        run_round(rt, host, live, number)?;
         print_due(alloc, host, live, number, timing.report_every);
         pace = wait_for_next(alloc, host, live, number, pace)?;
     }
-    run_last(alloc, host, live, timing.rounds)
+    run_last(rt, host, live, timing.rounds)
 }
 
 /// Runs the last of so many rounds, if there are any.
-fn run_last<H: Host, S: Shows + Drop, O: Outbox + Drop>(
-    alloc: Global,
+fn run_last<R: Files<File = File> + AllocGlobal, H: Host, S: Shows + Drop, O: Outbox + Drop>(
+    rt: &R,
     host: &mut H,
     live: &mut Live<S, O>,
     rounds: u32,
 ) -> Result<(), Failure>
     ensures run { GoesOnBy (λ log. IsLastRun rounds live.old.reports.printing
-        (option_map string_bytes live.old.reports.out) live.old.kept live.new.kept log result)
+        live.old.reports.paths live.old.kept live.new.kept log result)
         (H.log host.old) (H.log host.new) }
     ensures printing { live.new.reports.printing ≡ live.old.reports.printing }
-    ensures out { live.new.reports.out ≡ live.old.reports.out }
+    ensures paths { live.new.reports.paths ≡ live.old.reports.paths }
 {
     if rounds == 0 {
         return Ok(());
     }
-    run_round(alloc, host, live, rounds)
+    run_round(rt, host, live, rounds)
 }
 
-/// Runs a round, and writes its report to the file for reports.
-fn run_round<H: Host, S: Shows + Drop, O: Outbox + Drop>(
-    alloc: Global,
+/// Runs a round, once it is seen that the station's file is at its path, and writes its report to the
+/// file for reports.
+fn run_round<R: Files<File = File> + AllocGlobal, H: Host, S: Shows + Drop, O: Outbox + Drop>(
+    rt: &R,
     host: &mut H,
     live: &mut Live<S, O>,
     number: u32,
 ) -> Result<(), Failure>
     ensures run { GoesOnBy (λ log. IsRoundRun number live.old.reports.printing
-        (option_map string_bytes live.old.reports.out) live.old.kept live.new.kept log result)
+        live.old.reports.paths live.old.kept live.new.kept log result)
         (H.log host.old) (H.log host.new) }
     ensures printing { live.new.reports.printing ≡ live.old.reports.printing }
-    ensures out { live.new.reports.out ≡ live.old.reports.out }
+    ensures paths { live.new.reports.paths ≡ live.old.reports.paths }
 {
-    run_span(alloc, host, live, number, Span::Round)?;
-    write_out(alloc, host, live, number);
+    keep_file(rt, host, live, number);
+    run_span(rt.alloc(), host, live, number, Span::Round)?;
+    write_out(rt.alloc(), host, live, number);
     Ok(())
 }
 
@@ -406,7 +423,7 @@ fn print_due<H: Host, S: Shows + Drop, O: Outbox + Drop>(
     ensures run { GoesOnBy (λ log. IsBetween number every live.old.reports.printing live.old.kept log
         live.new.kept) (H.log host.old) (H.log host.new) }
     ensures printing { live.new.reports.printing ≡ live.old.reports.printing }
-    ensures out { live.new.reports.out ≡ live.old.reports.out }
+    ensures paths { live.new.reports.paths ≡ live.old.reports.paths }
 {
     if is_due(number, every) {
         print_between(alloc, host, live);
@@ -426,7 +443,7 @@ fn ended<S: Receiver + Drop, O: Outbox + Drop>(
     ensures done { live.old.kept.unsaved ≡ None → live.old.kept.unprinted ≡ None → live.old.kept.unwritten ≡ None → IsOk result }
 {
     if let Some(fault) = live.kept.unsaved {
-        return Err(unsaved(alloc, &live.file, fault, live.station.disk()));
+        return Err(unsaved(alloc, &live.reports.paths.file, fault, live.station.disk()));
     }
     if let Some(failure) = live.kept.unprinted.take() {
         return Err(failure);
@@ -437,9 +454,19 @@ fn ended<S: Receiver + Drop, O: Outbox + Drop>(
     }
 }
 
-/// Returns the file for each round's report, if there is one.
-fn out_of(alloc: Global, path: Option<&str>) -> Result<Option<String>, Failure>
-    ensures { OrMemory (λ out. option_map string_bytes out ≡ option_copied path.entry) result }
+/// Returns the paths of the file for each round's report, if there is one, and of the station's own.
+fn paths_of(alloc: Global, out: Option<&str>, file: &str) -> Result<Paths, Failure>
+    ensures { OrMemory (ArePaths (option_copied out.entry) file.now) result }
+{
+    Ok(Paths {
+        out: out_of(alloc, out)?,
+        file: String::from_str(alloc, file)?,
+    })
+}
+
+/// Returns the path of the file for each round's report, if there is one.
+fn out_of(alloc: Global, path: Option<&str>) -> Result<Option<String>, AllocError>
+    ensures { IfOk result (λ out. option_map string_bytes out ≡ option_copied path.entry) }
 {
     match path {
         Some(path) => Ok(Some(String::from_str(alloc, path)?)),

@@ -1,6 +1,71 @@
 """Bugs of mon_rounds for tests/wrong_bodies/planted: by name the file, what stands there once, and the bug in its place."""
 
 BUGS = {
+    "announces_each_alarm_at_once": (
+        "src/course.rt",
+        "            announcer: Announcer::new(alloc, after, states.as_slice())?,",
+        "            announcer: Announcer::new(alloc, after.min(1), states.as_slice())?,",
+    ),
+    "knows_no_alarm_at_the_start": (
+        "src/course.rt",
+        "            announcer: Announcer::new(alloc, after, states.as_slice())?,",
+        "            announcer: Announcer::new(alloc, after, &[])?,",
+    ),
+    "each_call_is_a_look": (
+        "src/course.rt",
+        "        self.announcer.announce(alloc, changes, looks)\n",
+        "        let _ = looks;\n        self.announcer.announce(alloc, changes, true)\n",
+    ),
+    "no_call_is_a_look": (
+        "src/course.rt",
+        "        self.announcer.announce(alloc, changes, looks)\n",
+        "        let _ = looks;\n        self.announcer.announce(alloc, changes, false)\n",
+    ),
+    "looks_without_the_changes": (
+        "src/course.rt",
+        "        self.announcer.announce(alloc, changes, looks)\n",
+        "        let _ = changes;\n        self.announcer.announce(alloc, Vec::new(alloc), looks)\n",
+    ),
+    "says_all_changes_though_they_must_hold": (
+        "src/course.rt",
+        "        self.announcer.announce(alloc, changes, looks)\n",
+        "        let _ = looks;\n        Ok(changes)\n",
+    ),
+    "shows_no_announced_alarm": (
+        "src/course.rt",
+        "        self.announcer.states(alloc)\n",
+        "        Ok(Vec::new(alloc))\n",
+    ),
+    "another_engine_is_never_known": (
+        "src/changes.rt",
+        "        return latest.other_engine(alloc, target.address, engine);\n",
+        "        let _ = (alloc, latest, engine);\n        return Ok(None);\n",
+    ),
+    "another_engine_is_known_of_each_target": (
+        "src/changes.rt",
+        "    if is_other(target) {\n        return latest.other_engine(alloc, target.address, engine);\n    }\n    Ok(None)\n",
+        "    latest.other_engine(alloc, target.address, engine)\n",
+    ),
+    "the_first_wrong_engine_stays": (
+        "src/changes.rt",
+        "        (Some(was), Some(is)) if was.as_slice() == is.as_slice() => return Ok(()),",
+        "        (Some(_), Some(_)) => return Ok(()),",
+    ),
+    "a_wrong_engine_is_said_in_each_round": (
+        "src/changes.rt",
+        "        (Some(was), Some(is)) if was.as_slice() == is.as_slice() => return Ok(()),\n",
+        "",
+    ),
+    "a_wrong_engine_never_goes": (
+        "src/changes.rt",
+        "        (_, is) => is.is_some(),",
+        "        (_, None) => return Ok(()),\n        (_, is) => is.is_some(),",
+    ),
+    "engines_of_one_target_only": (
+        "src/changes.rt",
+        "        others.push(other_at(alloc, latest, targets.get(place), engines.get(place))?)?;",
+        "        others.push(other_at(alloc, latest, targets.get(place), engines.first())?)?;",
+    ),
     "a_round_begins_with_the_second_target": (
         "src/round.rt",
         "            Span::Round => (Phase::Polling(0),",
@@ -283,8 +348,8 @@ BUGS = {
     ),
     "tells_no_alarm": (
         "src/course.rt",
-        "        Ok(changes)\n    }\n}",
-        "        let _ = changes;\n        Ok(Vec::new(alloc))\n    }\n}",
+        "        self.announcer.announce(alloc, changes, looks)\n",
+        "        let _ = self.announcer.announce(alloc, changes, looks)?;\n        Ok(Vec::new(alloc))\n",
     ),
     "owes_all_what_it_owes_the_first": (
         "src/course.rt",
@@ -678,8 +743,8 @@ BUGS = {
     ),
     "loses_alarm_changes_without_memory": (
         "src/course.rt",
-        "        let changes = alarm_changes(alloc, board, self.windows.as_slice())?;\n        self.windows = seen_windows(alloc, board)?;\n        Ok(changes)\n",
-        "        let now = seen_windows(alloc, board)?;\n        let changes = alarm_changes(alloc, board, self.windows.as_slice());\n        self.windows = now;\n        changes\n",
+        "        let changes = alarm_changes(alloc, board, self.windows.as_slice())?;\n        self.windows = seen_windows(alloc, board)?;\n",
+        "        let now = seen_windows(alloc, board)?;\n        let changes = alarm_changes(alloc, board, self.windows.as_slice());\n        self.windows = now;\n        let changes = changes?;\n",
     ),
     "keeps_the_alarms_without_memory_for_the_changes": (
         "src/course.rt",
@@ -688,8 +753,8 @@ BUGS = {
     ),
     "a_look_at_the_alarms_counts_anew": (
         "src/course.rt",
-        "        self.windows = seen_windows(alloc, board)?;\n        Ok(changes)\n",
-        "        self.windows = seen_windows(alloc, board)?;\n        if !changes.is_empty() {\n            self.taken = 0;\n            self.given_up = 0;\n        }\n        Ok(changes)\n",
+        "        self.windows = seen_windows(alloc, board)?;\n        self.announcer",
+        "        self.windows = seen_windows(alloc, board)?;\n        if !changes.is_empty() {\n            self.taken = 0;\n            self.given_up = 0;\n        }\n        self.announcer",
     ),
     "forgets_the_second_hearing": (
         "src/round.rt",
@@ -1112,6 +1177,8 @@ BUGS = {
 
 # Those that break a promise as a whole, each with its function: tests/bodies tries them in the gate.
 PROMISES = {
+    "says_all_changes_though_they_must_hold": "course::Course::take_changes",
+    "the_first_wrong_engine_stays": "changes::put_engine_change",
     "keeps_no_datagram_of_a_target": "source::Rounds::keep_latest",
     "begins_a_round_before_it_lends_the_receiver": "source::Rounds::receiver_mut",
     "counts_each_spell_of_a_peer": "freshness::peer_after",

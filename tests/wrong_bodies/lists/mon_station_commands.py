@@ -1,10 +1,131 @@
 """Bugs of mon_station_commands for tests/wrong_bodies/planted: by name the file, what stands there once, and the bug in its place."""
 
 BUGS = {
-    "all_targets_answer_at_once": ("src/limits.rt", "(1 + u64::from(quiet) + u64::from(has_peers))", "(1 + u64::from(has_peers))"),
-    "waits_for_no_peer": ("src/limits.rt", "(1 + u64::from(quiet) + u64::from(has_peers))", "(1 + u64::from(quiet))"),
-    "counts_each_target_once": ("src/limits.rt", "            most = target.tries;", "            most = 1 + target.tries - target.tries;"),
-    "the_longest_round_is_the_shortest": ("src/limits.rt", "        most: MOST * silent,", "        most: silent,"),
+    "a_report_that_only_the_station_may_read": (
+        "src/printing.rt",
+        "    publish_file(alloc, host, path, text.as_slice())",
+        "    mon_console::replace_file(alloc, host, path, text.as_slice())",
+    ),
+    "says_no_age": (
+        "src/opening.rt",
+        "    tell_age(host, &settings.file);\n",
+        "",
+    ),
+    "says_the_age_of_another_file": (
+        "src/opening.rt",
+        "    tell_age(host, &settings.file);\n",
+        '    tell_age(host, "station.mon");\n',
+    ),
+    "says_the_age_after_the_report": (
+        "src/opening.rt",
+        "    tell_age(host, &settings.file);\n    let text = printing.report(alloc, &board, None)?;\n    print(alloc, host, text.as_slice())\n",
+        "    let text = printing.report(alloc, &board, None)?;\n    let done = print(alloc, host, text.as_slice());\n    tell_age(host, &settings.file);\n    done\n",
+    ),
+    "ages_are_milliseconds": (
+        "src/age.rt",
+        "        Ok(passed) => Some(passed.as_secs()),",
+        "        Ok(passed) => Some(passed.as_millis() as u64),",
+    ),
+    "what_is_to_come_is_no_second_old": (
+        "src/age.rt",
+        "        Err(_) => None,\n    }\n}\n\n/// Says how many",
+        "        Err(_) => Some(0),\n    }\n}\n\n/// Says how many",
+    ),
+    "checks_settings_without_a_file": (
+        "src/station.rt",
+        "    require_file(alloc, &settings.file)?;\n",
+        "",
+    ),
+    "refuses_each_file": (
+        "src/station.rt",
+        "    if !file.is_empty() {\n        return Ok(());\n    }\n",
+        "    let _ = file;\n",
+    ),
+    "warns_of_no_cached_counters": (
+        "src/limits.rt",
+        "    put_sample_line(text, turn_of(interval, peers + 1))\n",
+        "    let _ = (text, peers);\n    Ok(())\n",
+    ),
+    "warns_of_the_whole_interval": (
+        "src/limits.rt",
+        "    put_sample_line(text, turn_of(interval, peers + 1))\n",
+        "    let _ = peers;\n    put_sample_line(text, u64::from(interval) * 1000)\n",
+    ),
+    "a_station_is_never_new": (
+        "src/live.rt",
+        "    if incarnation == 1 {",
+        "    if incarnation == 0 {",
+    ),
+    "a_station_is_new_to_nobody": (
+        "src/live.rt",
+        "    if peers > 0 {\n        tell_new(host, number, incarnation);\n    }\n",
+        "    tell_new(host, number, incarnation);\n",
+    ),
+    "announces_alarms_at_once": (
+        "src/live.rt",
+        "    let opened = watched(alloc, station, &transport, reports.alarm_after)?;",
+        "    let opened = watched(alloc, station, &transport, 1)?;",
+    ),
+    "looks_at_alarms_between_rounds": (
+        "src/live.rt",
+        "    tell_alarm_changes(alloc, host, live, is_round(span))\n",
+        "    tell_alarm_changes(alloc, host, live, true)\n",
+    ),
+    "shows_alarms_that_were_not_announced": (
+        "src/printing.rt",
+        "    let states = live.course.announced(alloc)?;\n",
+        "    let states = mon_report::alarm_states(alloc, live.station.board())?;\n",
+    ),
+    "serves_alarms_that_were_not_announced": (
+        "src/showing.rt",
+        "    let states = live.course.announced(alloc)?;\n",
+        "    let states = mon_report::alarm_states(alloc, live.station.board())?;\n",
+    ),
+    "knows_no_other_engine_of_a_target": (
+        "src/live.rt",
+        "    let others = other_engines(alloc, latest, live.freshness.targets(), engines)?;\n",
+        "    let others = Vec::new(alloc);\n",
+    ),
+    "never_looks_for_its_file": (
+        "src/station.rt",
+        "    keep_file(rt, host, live, number);\n",
+        "",
+    ),
+    "takes_each_file_for_its_own": (
+        "src/keeping.rt",
+        "                Found::Other\n",
+        "                Found::Own\n",
+    ),
+    "takes_its_own_file_for_another": (
+        "src/keeping.rt",
+        "            if at.0 == own.0 && at.1 == own.1 {",
+        "            if at.0 == own.0 && at.1 != own.1 {",
+    ),
+    "a_file_that_is_gone_is_there": (
+        "src/keeping.rt",
+        "        Ok(None) => Found::Nothing,",
+        "        Ok(None) => Found::Own,",
+    ),
+    "says_in_each_round_that_a_file_is_gone": (
+        "src/keeping.rt",
+        "    let known = live.kept.strayed;\n",
+        "    let known = false;\n",
+    ),
+    "never_says_that_a_file_is_gone": (
+        "src/keeping.rt",
+        "    let known = live.kept.strayed;\n",
+        "    let known = true;\n",
+    ),
+    "says_that_windows_are_saved_which_are_not": (
+        "src/keeping.rt",
+        "        Err((fault, disk)) => Err(unopened(rt.alloc(), path, fault, &disk)),",
+        "        Err(_) => Ok(()),",
+    ),
+    "forgets_that_a_file_could_not_be_made": (
+        "src/keeping.rt",
+        "                failure.tell(host);\n            }\n            true\n",
+        "                failure.tell(host);\n            }\n            false\n",
+    ),
     "a_damaged_file_for_a_full_disk": ("src/opening.rt", "        KeeperFault::DiskFault => disk_failure(alloc, path, Fault::Keeper(fault), disk),", "        KeeperFault::DiskFault => disk_failure(alloc, path, Fault::Keeper(KeeperFault::Damaged), disk),"),
     "ages_of_the_first_instance": ("src/figures.rt", "        ages.push(instance.rounds)?;", "        ages.push(instances[0].rounds)?;"),
     "the_first_target_vanishes": (
@@ -61,21 +182,6 @@ BUGS = {
         "        None => Failure::at(alloc, path, fault),",
         "        None => Failure::at(alloc, path, Fault::Keeper(KeeperFault::Reopen)),",
     ),
-    "counts_the_last_target_only": (
-        "src/limits.rt",
-        "        if target.tries > most {",
-        "        if target.tries != most {",
-    ),
-    "adds_the_waits_to_one": (
-        "src/limits.rt",
-        "    u64::from(wait_ms) * (1 + u64::from(quiet) + u64::from(has_peers))",
-        "    u64::from(wait_ms) + 1 + u64::from(quiet) + u64::from(has_peers)",
-    ),
-    "waits_for_peers_where_there_are_none": (
-        "src/limits.rt",
-        "    let has_peers = !settings.core.peers().is_empty();",
-        "    let has_peers = settings.core.peers().is_empty();",
-    ),
     "given_up_polls_for_samples_taken": (
         "src/figures.rt",
         "        taken: live.course.taken(),",
@@ -98,7 +204,7 @@ BUGS = {
     ),
     "ends_well_though_not_saved": (
         "src/station.rt",
-        "    if let Some(fault) = live.kept.unsaved {\n        return Err(unsaved(alloc, &live.file, fault, live.station.disk()));\n    }\n",
+        "    if let Some(fault) = live.kept.unsaved {\n        return Err(unsaved(alloc, &live.reports.paths.file, fault, live.station.disk()));\n    }\n",
         "    let _ = alloc;\n",
     ),
     "serves_no_http": (
@@ -186,8 +292,8 @@ BUGS = {
     ),
     "limits_of_no_labels": (
         "src/station.rt",
-        "        words.settings,\n        words.labels,\n        words.printed,\n    )?;\n    print_limits",
-        "        words.settings,\n        None,\n        words.printed,\n    )?;\n    print_limits",
+        "        words.settings,\n        words.labels,\n        words.printed,\n    )?;\n    require_file",
+        "        words.settings,\n        None,\n        words.printed,\n    )?;\n    require_file",
     ),
     "a_saved_report_is_printed_twice": (
         "src/opening.rt",
@@ -236,12 +342,12 @@ BUGS = {
     ),
     "a_report_replaces_another_file": (
         "src/printing.rt",
-        "    replace_file(alloc, host, path, text.as_slice())",
-        "    let _ = path;\n    replace_file(alloc, host, \"report\", text.as_slice())",
+        "    publish_file(alloc, host, path, text.as_slice())",
+        '    let _ = path;\n    publish_file(alloc, host, "report", text.as_slice())',
     ),
     "a_report_is_written_in_place": (
         "src/printing.rt",
-        "    replace_file(alloc, host, path, text.as_slice())",
+        "    publish_file(alloc, host, path, text.as_slice())",
         "    mon_console::write_file(alloc, host, path, text.as_slice())",
     ),
     "the_last_failure_to_print_is_forgotten": (
@@ -391,13 +497,13 @@ BUGS = {
     ),
     "a_station_without_rounds": (
         "src/station.rt",
-        "    let mut live = start_station(alloc, host, setup, place, transport)?;\n    run_rounds(alloc, host, &mut live, timing)",
+        "    let mut live = start_station(alloc, host, setup, place, transport)?;\n    run_rounds(rt, host, &mut live, timing)",
         "    let live = start_station(alloc, host, setup, place, transport)?;\n    let _ = (live, timing);\n    Ok(())",
     ),
     "the_last_save_is_forgotten": (
         "src/station.rt",
-        "    run_all(alloc, host, live, timing)?;\n",
-        "    run_all(alloc, host, live, timing)?;\n    live.kept.unsaved = None;\n",
+        "    run_all(rt, host, live, timing)?;\n",
+        "    run_all(rt, host, live, timing)?;\n    live.kept.unsaved = None;\n",
     ),
     "a_failed_clock_ends_the_wait": (
         "src/pace.rt",
@@ -528,6 +634,9 @@ BUGS = {
 
 # Those that break a promise as a whole, each with its function: tests/bodies tries them in the gate.
 PROMISES = {
+    "looks_at_alarms_between_rounds": "live::tell_changes",
+    "never_looks_for_its_file": "station::run_round",
+    "says_no_age": "opening::print_saved",
     "forgets_an_unwritten_report": "printing::write_out",
     "ends_well_with_an_unwritten_report": "station::ended",
     "the_last_save_is_forgotten": "station::run_rounds",

@@ -189,7 +189,7 @@ BUGS = {
     "answer_runs_agent": (
         "src/commands.rt",
         "        Asked::Answer(words) => print_answers(alloc, host, words),",
-        "        Asked::Answer(words) => serve_agent(\n            rt,\n            host,\n            mon_cli::AgentArgs {\n                settings: words.settings,\n                boots: words.boots,\n                count: words.scene.times,\n            },\n        ),",
+        "        Asked::Answer(words) => serve_agent(\n            alloc,\n            host,\n            net,\n            mon_cli::AgentArgs {\n                settings: words.settings,\n                boots: words.boots,\n                count: words.scene.times,\n            },\n        ),",
     ),
     "station_runs_report": (
         "src/commands.rt",

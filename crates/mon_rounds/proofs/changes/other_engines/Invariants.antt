@@ -1,7 +1,7 @@
-use Rattle.std.proofs.Common.{◌≡◌, map, take}
-use Rattle.mon_rounds.specs.Changes.{is_other}
+use Rattle.std.proofs.Common.{◌≡◌}
+use Rattle.mon_rounds.specs.Changes.{others_of}
 use Rattle.mon_rounds.proofs.changes.other_engines.Given as goal
 
 -- those so far
-abbrev pub invariant-loop-target : goal.invariant-loop-target
-invariant-loop-target l = l.others.items ≡ map is_other (take l.target-index l.targets)
+abbrev pub invariant-loop-place : goal.invariant-loop-place
+invariant-loop-place l = l.others.items ≡ others_of l.latest.datagrams.items l.targets l.engines l.place

@@ -1,8 +1,8 @@
-use Rattle.std.proofs.Common.{List, subst, sym}
+use Rattle.std.proofs.Common.{List, length, subst, sym}
 use Rattle.std.specs.Prelude.{Ok, Result}
 use Rattle.mon_console.specs.declared.failure.Failure.{Failure}
 use Rattle.mon_host.specs.Log.{GoesOnBy}
-use Rattle.mon_rounds.specs.Changes.{changes_between, told_by, troubles_after}
+use Rattle.mon_rounds.specs.Changes.{changes_between, others_of, told_by, troubles_after}
 use Rattle.mon_rounds.specs.declared.changes.Change.{Change}
 use Rattle.mon_rounds.specs.declared.round.Span.{Span}
 use Rattle.mon_station_commands.specs.Spans.{AreTroubles, is_round}
@@ -12,7 +12,7 @@ use Rattle.mon_station_commands.proofs.live.tell_troubles.Goals as goal
 pub returns-in-Round-clause-said : goal.returns-in-Round-clause-said
 returns-in-Round-clause-said g c =
     let live = c.args.live.now in
-    let changes : List Change = changes_between (told_by live.troubles) (troubles_after live.reports.stale_after (told_by live.troubles) live.freshness) in
+    let changes : List Change = changes_between (told_by live.troubles) (troubles_after live.reports.stale_after (told_by live.troubles) (others_of live.transport.rounds.latest.datagrams.items live.freshness.targets.items live.transport.engines.items (length live.freshness.targets.items)) live.freshness) in
     let start = g.H.Host.log c.args.host.now in
     let end = g.H.Host.log c.report_troubles.new.host in
     subst (λ (s : Span). GoesOnBy (λ log. AreTroubles (is_round s) c.args.number log c.report_troubles.result) start end) (sym c.in-Round.is)

@@ -2,7 +2,7 @@ use Rattle.std.proofs.Common.{◌∙◌, false, map, refl}
 use Rattle.std.specs.Prelude.{Ok, Err}
 use Rattle.mon_console.specs.Shown.{shown_by}
 use Rattle.mon_station.specs.State.{state_of}
-use Rattle.mon_station_commands.specs.Telling.{changed_notes}
+use Rattle.mon_station_commands.specs.Telling.{announced_notes}
 use Rattle.mon_station_commands.specs.Spans.{IsOfRun}
 use Rattle.mon_station_commands.proofs.Accounts.{between_kept, span_quiet}
 use Rattle.mon_station_commands.proofs.Quiets.{no_wait, quiet_on, still, stopped_on, time, untimed}
@@ -20,13 +20,13 @@ loop-preserved g c =
     let end = g.H.Host.log c.run_span.new.host in
     let after = c.run_span.new.live in
     let round = after.transport.rounds.round in
-    let shown = changed_notes (shown_by c.loop.live.reports.printing.names) (state_of after.station.life).board (map (λ w. w.items) c.loop.live.course.windows.items) in
+    let shown = announced_notes (shown_by c.loop.live.reports.printing.names) (state_of after.station.life).board (map (λ w. w.items) c.loop.live.course.windows.items) c.loop.live.course.announcer in
     let inv = c.loop.invariant in (
       quiet_on start timed end (quiet_on start before timed inv.0 (time before timed _ c.in_ok-now.ensures))
           (span_quiet (IsOfRun round.targets round.events after.run) shown c.args.number false c.loop.live.kept after.kept (Ok c.in_ok-run_span.field-0) timed end
           c.in_ok-run_span.ensures.run),
       c.run_span.ensures.printing ∙ inv.1,
-      c.run_span.ensures.out ∙ inv.2,
+      c.run_span.ensures.paths ∙ inv.2,
       between_kept (IsOfRun round.targets round.events after.run) shown c.args.number c.loop.live.kept after.kept c.run_span.result timed end c.run_span.ensures.run ∙ inv.3,
     )
 
@@ -43,8 +43,8 @@ returns-in_err-now-clause-quiet g c =
 pub returns-in_err-now-clause-printing : goal.returns-in_err-now-clause-printing
 returns-in_err-now-clause-printing g c = c.loop.invariant.1
 
-pub returns-in_err-now-clause-out : goal.returns-in_err-now-clause-out
-returns-in_err-now-clause-out g c = c.loop.invariant.2
+pub returns-in_err-now-clause-paths : goal.returns-in_err-now-clause-paths
+returns-in_err-now-clause-paths g c = c.loop.invariant.2
 
 pub returns-then-left-eq0-clause-quiet : goal.returns-then-left-eq0-clause-quiet
 returns-then-left-eq0-clause-quiet g c =
@@ -56,8 +56,8 @@ returns-then-left-eq0-clause-quiet g c =
 pub returns-then-left-eq0-clause-printing : goal.returns-then-left-eq0-clause-printing
 returns-then-left-eq0-clause-printing g c = c.loop.invariant.1
 
-pub returns-then-left-eq0-clause-out : goal.returns-then-left-eq0-clause-out
-returns-then-left-eq0-clause-out g c = c.loop.invariant.2
+pub returns-then-left-eq0-clause-paths : goal.returns-then-left-eq0-clause-paths
+returns-then-left-eq0-clause-paths g c = c.loop.invariant.2
 
 pub returns-in_err-run_span-clause-quiet : goal.returns-in_err-run_span-clause-quiet
 returns-in_err-run_span-clause-quiet g c =
@@ -67,7 +67,7 @@ returns-in_err-run_span-clause-quiet g c =
     let end = g.H.Host.log c.run_span.new.host in
     let after = c.run_span.new.live in
     let round = after.transport.rounds.round in
-    let shown = changed_notes (shown_by c.loop.live.reports.printing.names) (state_of after.station.life).board (map (λ w. w.items) c.loop.live.course.windows.items) in
+    let shown = announced_notes (shown_by c.loop.live.reports.printing.names) (state_of after.station.life).board (map (λ w. w.items) c.loop.live.course.windows.items) c.loop.live.course.announcer in
     let failure = c.in_err-run_span.field-0.0 in
     let r = c.from_residual-in_err-run_span.result in
     no_wait failure r start end (failure_is r failure c.from_residual-in_err-run_span.ensures.1)
@@ -77,8 +77,8 @@ returns-in_err-run_span-clause-quiet g c =
 pub returns-in_err-run_span-clause-printing : goal.returns-in_err-run_span-clause-printing
 returns-in_err-run_span-clause-printing g c = c.run_span.ensures.printing ∙ c.loop.invariant.1
 
-pub returns-in_err-run_span-clause-out : goal.returns-in_err-run_span-clause-out
-returns-in_err-run_span-clause-out g c = c.run_span.ensures.out ∙ c.loop.invariant.2
+pub returns-in_err-run_span-clause-paths : goal.returns-in_err-run_span-clause-paths
+returns-in_err-run_span-clause-paths g c = c.run_span.ensures.paths ∙ c.loop.invariant.2
 
 pub returns-clause-quiet : goal.returns-clause-quiet
 returns-clause-quiet g c = c.loop.invariant.0
@@ -86,8 +86,8 @@ returns-clause-quiet g c = c.loop.invariant.0
 pub returns-clause-printing : goal.returns-clause-printing
 returns-clause-printing g c = c.loop.invariant.1
 
-pub returns-clause-out : goal.returns-clause-out
-returns-clause-out g c = c.loop.invariant.2
+pub returns-clause-paths : goal.returns-clause-paths
+returns-clause-paths g c = c.loop.invariant.2
 
 pub returns-in_err-now-clause-kept : goal.returns-in_err-now-clause-kept
 returns-in_err-now-clause-kept g c = c.loop.invariant.3
@@ -99,7 +99,7 @@ pub returns-in_err-run_span-clause-kept : goal.returns-in_err-run_span-clause-ke
 returns-in_err-run_span-clause-kept g c =
     let after = c.run_span.new.live in
     let round = after.transport.rounds.round in
-    between_kept (IsOfRun round.targets round.events after.run) (changed_notes (shown_by c.loop.live.reports.printing.names) (state_of after.station.life).board (map (λ w. w.items) c.loop.live.course.windows.items)) c.args.number c.loop.live.kept after.kept c.run_span.result
+    between_kept (IsOfRun round.targets round.events after.run) (announced_notes (shown_by c.loop.live.reports.printing.names) (state_of after.station.life).board (map (λ w. w.items) c.loop.live.course.windows.items) c.loop.live.course.announcer) c.args.number c.loop.live.kept after.kept c.run_span.result
     (g.H.Host.log c.now.new.host) (g.H.Host.log c.run_span.new.host) c.run_span.ensures.run ∙ c.loop.invariant.3
 
 pub returns-clause-kept : goal.returns-clause-kept

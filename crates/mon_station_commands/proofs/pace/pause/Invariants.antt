@@ -6,5 +6,5 @@ use Rattle.mon_station_commands.proofs.pace.pause.Given as goal
 -- all was quiet so far, and what reports need is as it was
 abbrev pub invariant-loop : goal.invariant-loop
 invariant-loop g l = GoesOnBy AreQuiet (g.H.Host.log l.fn.host) (g.H.Host.log l.host)
-    × (l.live.reports.printing ≡ l.fn.live.reports.printing) × (l.live.reports.out ≡ l.fn.live.reports.out)
+    × (l.live.reports.printing ≡ l.fn.live.reports.printing) × (l.live.reports.paths ≡ l.fn.live.reports.paths)
     × (l.live.kept ≡ l.fn.live.kept)

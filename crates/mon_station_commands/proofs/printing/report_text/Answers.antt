@@ -1,5 +1,10 @@
+use Rattle.std.proofs.Common.{◌∙◌}
+use Rattle.mon_station_commands.specs.Reporting.{entries_by}
 use Rattle.mon_station_commands.proofs.Steps.{report_is}
 use Rattle.mon_station_commands.proofs.printing.report_text.Goals as goal
 
 pub returns : goal.returns
-returns g c = report_is _ _ _ c.board.result.now c.in_ok-figures.figures c.report.result c.in_ok-figures.ensures c.board.ensures c.report.ensures
+returns g c =
+    report_is _ _ _ _ c.as_slice-2.result.now c.in_ok-figures.figures c.text.result c.in_ok-figures.ensures
+    (c.as_slice-2.ensures.value ∙ c.in_ok-entries.ensures ∙ (λ i. entries_by (c.board.ensures i) ((c.as_slice.ensures.value ∙ c.in_ok-states.ensures) i)))
+    c.text.ensures

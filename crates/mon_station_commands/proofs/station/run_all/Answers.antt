@@ -9,15 +9,15 @@ loop-number-init g c =
     let every = c.args.timing.report_every in
     let live = c.args.live.now in
     let after = c.start_pace.new.live in
-    let out = option_map string_bytes live.reports.out in
+    let paths = live.reports.paths in
     let first = live.kept in
     let start = g.H.Host.log c.args.host.now in (
       0,
       refl,
       inr refl,
-      none_yet every live.reports.printing out first after.kept start (g.H.Host.log c.start_pace.new.host) c.start_pace.ensures.kept c.in_ok-pace.ensures.quiet,
+      none_yet every live.reports.printing paths first after.kept start (g.H.Host.log c.start_pace.new.host) c.start_pace.ensures.kept c.in_ok-pace.ensures.quiet,
       c.start_pace.ensures.printing,
-      c.start_pace.ensures.out,
+      c.start_pace.ensures.paths,
     )
 
 pub loop-number-preserved : goal.loop-number-preserved
@@ -38,7 +38,7 @@ loop-number-preserved g c =
     let three = c.print_due.new.live in
     let four = c.wait_for_next.new.live in
     let format = c.run_round.ensures.printing ∙ inv.4 in
-    let more = one_more every live.reports.printing live.reports.out first n c.loop-number.number one.reports.printing two.reports.printing one.reports.out
+    let more = one_more every live.reports.printing live.reports.paths first n c.loop-number.number one.reports.printing two.reports.printing one.reports.paths
     one.kept two.kept three.kept four.kept c.in_ok-run_round.field-0 start before ran told end inv.1 inv.4 inv.5 format
     c.wait_for_next.ensures.kept inv.3 c.in_ok-run_round.ensures.run c.print_due.ensures.run c.in_ok-pace-2.ensures.quiet in (
       suc n,
@@ -46,7 +46,7 @@ loop-number-preserved g c =
       inl (within_one n c.loop-number.number rounds inv.1 c.loop-number-test.true),
       more,
       c.wait_for_next.ensures.printing ∙ (c.print_due.ensures.printing ∙ format),
-      c.wait_for_next.ensures.out ∙ (c.print_due.ensures.out ∙ (c.run_round.ensures.out ∙ inv.5)),
+      c.wait_for_next.ensures.paths ∙ (c.print_due.ensures.paths ∙ (c.run_round.ensures.paths ∙ inv.5)),
     )
 
 pub returns-in_err-run_round-clause-run : goal.returns-in_err-run_round-clause-run
@@ -54,7 +54,7 @@ returns-in_err-run_round-clause-run g c =
     let every = c.args.timing.report_every in
     let rounds = c.args.timing.rounds in
     let live = c.args.live.now in
-    let out = option_map string_bytes live.reports.out in
+    let paths = live.reports.paths in
     let start = g.H.Host.log c.args.host.now in
     let inv = c.loop-number.invariant in
     let n = inv.0 in
@@ -64,7 +64,7 @@ returns-in_err-run_round-clause-run g c =
     let ran = g.H.Host.log c.run_round.new.host in
     let failure = c.in_err-run_round.field-0.0 in
     let r = c.from_residual-in_err-run_round.result in
-    stopped every live.reports.printing out live.kept rounds n one.kept two.kept failure r
+    stopped every live.reports.printing paths live.kept rounds n one.kept two.kept failure r
     start before ran (failure_is r failure c.from_residual-in_err-run_round.ensures.1) (within n c.loop-number.number rounds inv.1 c.loop-number-test.true) inv.3
     c.in_err-run_round.ensures.run
 
@@ -73,7 +73,7 @@ returns-in_err-pace-2-clause-run g c =
     let every = c.args.timing.report_every in
     let rounds = c.args.timing.rounds in
     let live = c.args.live.now in
-    let out = option_map string_bytes live.reports.out in
+    let paths = live.reports.paths in
     let first = live.kept in
     let start = g.H.Host.log c.args.host.now in
     let inv = c.loop-number.invariant in
@@ -87,12 +87,12 @@ returns-in_err-pace-2-clause-run g c =
     let three = c.print_due.new.live in
     let four = c.wait_for_next.new.live in
     let format = c.run_round.ensures.printing ∙ inv.4 in
-    let more = one_more every live.reports.printing live.reports.out first n c.loop-number.number one.reports.printing two.reports.printing one.reports.out
+    let more = one_more every live.reports.printing live.reports.paths first n c.loop-number.number one.reports.printing two.reports.printing one.reports.paths
     one.kept two.kept three.kept three.kept c.in_ok-run_round.field-0 start before ran told told inv.1 inv.4 inv.5 format
     refl inv.3 c.in_ok-run_round.ensures.run c.print_due.ensures.run (still told) in
     let failure = c.in_err-pace-2.field-0.0 in
     let r = c.from_residual-in_err-pace-2.result in
-    stopped every live.reports.printing out first rounds (suc n) three.kept four.kept failure r start told end
+    stopped every live.reports.printing paths first rounds (suc n) three.kept four.kept failure r start told end
     (failure_is r failure c.from_residual-in_err-pace-2.ensures.1) (within_less n c.loop-number.number rounds inv.1 c.loop-number-test.true) more c.in_err-pace-2.ensures.quiet
 
 pub returns-clause-run : goal.returns-clause-run
@@ -107,15 +107,15 @@ returns-clause-run g c =
     let two = c.run_last.new.live in
     let before = g.H.Host.log c.loop-number.host in
     let end = g.H.Host.log c.run_last.new.host in
-    all_run_as every live.reports.printing live.reports.out live.kept rounds n c.loop-number.number one.reports.printing one.reports.out
+    all_run_as every live.reports.printing live.reports.paths live.kept rounds n c.loop-number.number one.reports.printing one.reports.paths
     one.kept two.kept c.run_last.result start before end inv.1 inv.2 c.loop-number-test.false inv.4 inv.5
     inv.3 c.run_last.ensures.run
 
 pub returns-in_err-run_round-clause-printing : goal.returns-in_err-run_round-clause-printing
 returns-in_err-run_round-clause-printing g c = c.run_round.ensures.printing ∙ c.loop-number.invariant.4
 
-pub returns-in_err-run_round-clause-out : goal.returns-in_err-run_round-clause-out
-returns-in_err-run_round-clause-out g c = c.run_round.ensures.out ∙ c.loop-number.invariant.5
+pub returns-in_err-run_round-clause-paths : goal.returns-in_err-run_round-clause-paths
+returns-in_err-run_round-clause-paths g c = c.run_round.ensures.paths ∙ c.loop-number.invariant.5
 
 pub returns-in_err-pace-2-clause-printing : goal.returns-in_err-pace-2-clause-printing
 returns-in_err-pace-2-clause-printing g c = c.wait_for_next.ensures.printing ∙ (c.print_due.ensures.printing ∙ (c.run_round.ensures.printing ∙ c.loop-number.invariant.4))
@@ -123,11 +123,11 @@ returns-in_err-pace-2-clause-printing g c = c.wait_for_next.ensures.printing ∙
 pub returns-clause-printing : goal.returns-clause-printing
 returns-clause-printing g c = c.run_last.ensures.printing ∙ c.loop-number.invariant.4
 
-pub returns-in_err-pace-2-clause-out : goal.returns-in_err-pace-2-clause-out
-returns-in_err-pace-2-clause-out g c = c.wait_for_next.ensures.out ∙ (c.print_due.ensures.out ∙ (c.run_round.ensures.out ∙ c.loop-number.invariant.5))
+pub returns-in_err-pace-2-clause-paths : goal.returns-in_err-pace-2-clause-paths
+returns-in_err-pace-2-clause-paths g c = c.wait_for_next.ensures.paths ∙ (c.print_due.ensures.paths ∙ (c.run_round.ensures.paths ∙ c.loop-number.invariant.5))
 
-pub returns-clause-out : goal.returns-clause-out
-returns-clause-out g c = c.run_last.ensures.out ∙ c.loop-number.invariant.5
+pub returns-clause-paths : goal.returns-clause-paths
+returns-clause-paths g c = c.run_last.ensures.paths ∙ c.loop-number.invariant.5
 
 pub returns-in_err-pace-clause-run : goal.returns-in_err-pace-clause-run
 returns-in_err-pace-clause-run g c =
@@ -135,10 +135,10 @@ returns-in_err-pace-clause-run g c =
     let after = c.start_pace.new.live in
     let first = live.kept in
     let every = c.args.timing.report_every in
-    let out = option_map string_bytes live.reports.out in
+    let paths = live.reports.paths in
     let start = g.H.Host.log c.args.host.now in
     let failure = c.in_err-pace.field-0.0 in
     let r = c.from_residual.result in
-    stopped every live.reports.printing out first c.args.timing.rounds 0 first after.kept failure r start start
+    stopped every live.reports.printing paths first c.args.timing.rounds 0 first after.kept failure r start start
     (g.H.Host.log c.start_pace.new.host) (failure_is r failure c.from_residual.ensures.1) (from_zero c.args.timing.rounds)
-    (none_yet every live.reports.printing out first first start start refl (still start)) c.in_err-pace.ensures.quiet
+    (none_yet every live.reports.printing paths first first start start refl (still start)) c.in_err-pace.ensures.quiet

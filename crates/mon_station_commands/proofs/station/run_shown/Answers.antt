@@ -52,4 +52,4 @@ returns g c =
     (started (shown_by reports.printing.names) s c.in_ok-socket.field-0.place.at t.number (length t.engines.items) t.peers.items (Ok (state_of live.station.life)) opened begun
     is.number is.engines is.peers c.in_ok-live.ensures.opening) c.tell_http.ensures
     (run_of c.args.timing reports s after.reports after.kept c.run_rounds.result told end (c.show.ensures.printing ∙ (λ i. (same i).printing))
-    (c.show.ensures.out ∙ (λ i. (same i).out)) (c.show.ensures.kept ∙ c.in_ok-live.ensures.kept) c.run_rounds.ensures)
+    (c.show.ensures.paths ∙ (λ i. (same i).paths)) (c.show.ensures.kept ∙ c.in_ok-live.ensures.kept) c.run_rounds.ensures)

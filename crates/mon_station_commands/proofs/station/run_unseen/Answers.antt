@@ -48,5 +48,5 @@ returns g c =
     unseen_run c.args.timing reports s c.in_ok-socket.place.at (state_of live.station.life) c.run_rounds.result (g.H.Host.log c.args.host.now) opened begun end c.in_ok-socket.ensures
     (started (shown_by reports.printing.names) s c.in_ok-socket.place.at t.number (length t.engines.items) t.peers.items (Ok (state_of live.station.life)) opened begun
     is.number is.engines is.peers c.in_ok-live.ensures.opening)
-    (run_of c.args.timing reports s live.reports live.kept c.run_rounds.result begun end (λ i. (same i).printing) (λ i. (same i).out)
+    (run_of c.args.timing reports s live.reports live.kept c.run_rounds.result begun end (λ i. (same i).printing) (λ i. (same i).paths)
     c.in_ok-live.ensures.kept c.run_rounds.ensures)

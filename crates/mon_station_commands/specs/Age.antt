@@ -1,0 +1,38 @@
+-- How old a station's file is.
+use Rattle.std.specs.Prelude.{◌≡◌, ◌⊎◌, ◌-◌, ◌/◌, ℕ, nat_le, List, [], ◌∷◌, ◌++◌, if◌then◌else◌, Option, Some, None, Result, Ok, codes, decimal}
+use Rattle.std.specs.Time.{system_time_nanos}
+use Rattle.std.specs.declared.time.SystemTime.{SystemTime}
+use Rattle.mon_console.specs.declared.failure.Failure.{Failure}
+use Rattle.mon_host.specs.AtHost.{AtHost, Dated, FileDated, FileUndated, Undated}
+use Rattle.mon_host.specs.Reason.{Why}
+use Rattle.mon_station_commands.specs.Telling.{AreNoted}
+
+-- the whole seconds from one time to another; none if that is before the first
+abbrev pub seconds_between : (earlier later : SystemTime) → Option ℕ
+seconds_between earlier later =
+    if nat_le (system_time_nanos earlier) (system_time_nanos later)
+    then Some ((system_time_nanos later - system_time_nanos earlier) / 1_000_000_000) else None
+
+-- the line of how many seconds ago a file was saved, if that is known
+abbrev pub age_lines : (path : List ℕ) → Option ℕ → List (Option (List ℕ))
+age_lines path None = []
+age_lines path (Some seconds) =
+    Some (codes "snmpmon: " ++ (path ++ (codes " was saved " ++ (decimal seconds ++ codes " s ago\n")))) ∷ []
+
+-- of a file that was changed at this time the wall clock is asked, and it is said how long ago that was;
+-- nothing if the clock fails
+abbrev pub IsSinceSaid : (path : List ℕ) → SystemTime → List AtHost → Type 0
+IsSinceSaid path changed log = ((why : Why) × (log ≡ Undated why ∷ []))
+    ⊎ ((now : SystemTime) × (rest : List AtHost) × AreNoted (age_lines path (seconds_between changed now)) rest
+    × (log ≡ Dated now ∷ rest))
+
+-- it is asked when the file at a path was changed, and said how long ago that was; nothing if the system
+-- does not say it
+abbrev pub IsAgeSaid : (path : List ℕ) → List AtHost → Type 0
+IsAgeSaid path log = ((why : Why) × (log ≡ FileUndated path why ∷ []))
+    ⊎ ((changed : SystemTime) × (rest : List AtHost) × IsSinceSaid path changed rest
+    × (log ≡ FileDated path changed ∷ rest))
+
+-- saying how old a file is, as a step that cannot fail
+abbrev pub IsAge : (path : List ℕ) → List AtHost → Result Unit Failure → Type 0
+IsAge path log result = IsAgeSaid path log × (result ≡ Ok tt)
