@@ -12,6 +12,8 @@ from library.crates import TOP
 
 # How long a process may take for what is waited for.
 SECONDS = 180
+# What `report` says of a file's age.
+AGE = re.compile(r"^snmpmon: \S+ was saved \d+ s ago\n")
 
 
 def free_port():
@@ -76,6 +78,11 @@ class Lab:
     def run(self, *words, **more):
         done = subprocess.run([self.program, *words], cwd=self.folder, stdin=subprocess.DEVNULL, capture_output=True, timeout=SECONDS, **more)
         return done.stdout.decode(), done.stderr.decode(), done.returncode
+
+    def report(self, *words):
+        """What `report` prints, what else it says than how old the file is, and its status."""
+        out, err, status = self.run("report", *words)
+        return out, AGE.sub("", err, count=1), status
 
     def close(self):
         for process, *streams in self.running:
