@@ -95,9 +95,9 @@ _snmpmon() {
             operands=('@*')
             ;;
         station)
-            options=' --rounds --check --interval --phase --report-every --stale-after --out --http --http-host --labels --format --columns -m --module --names -h --help '
+            options=' --rounds --check --interval --phase --report-every --stale-after --alarm-after --out --http --http-host --labels --format --columns -m --module --names -h --help '
             again=' --http-host -m --module '
-            takes=([--rounds]='-' [--interval]='-' [--phase]='-' [--report-every]='-' [--stale-after]='-' [--out]='@*' [--http]='-' [--http-host]='-' [--labels]='@*' [--format]='text json prometheus columns html' [-m]='@*' [--module]='@*')
+            takes=([--rounds]='-' [--interval]='-' [--phase]='-' [--report-every]='-' [--stale-after]='-' [--alarm-after]='-' [--out]='@*' [--http]='-' [--http-host]='-' [--labels]='@*' [--format]='text json prometheus columns html' [-m]='@*' [--module]='@*')
             operands=('@*.toml')
             ;;
         report)
