@@ -1,6 +1,6 @@
 //! Surroundings in memory.
 
-ghost use Rattle.std.specs.Prelude.{◌≡◌, ◌∷◌, [], Err, IfErr, IfOk, None, Ok, Some, map, string_bytes};
+ghost use Rattle.std.specs.Prelude.{◌≡◌, ◌∷◌, [], Err, IfErr, IfNone, IfOk, IfSome, None, Ok, Some, map, string_bytes};
 ghost use Rattle.std.specs.declared.io.ErrorKind.TheVariants.{Unsupported};
 ghost use Rattle.mon_host.specs.AtHost.{IsNoted, dating_file, finding, finding_node, listing_arguments, permitting, printing, reading_file, reading_input, reading_part, renaming, writing};
 ghost use Rattle.mon_host.specs.Log.{GoesOn};
@@ -76,7 +76,11 @@ impl Recorder {
     }
 
     /// Returns what was done, or None if that is lost.
-    pub fn steps(&self) -> Option<&[Step]> {
+    pub fn steps(&self) -> Option<&[Step]>
+        ensures some { IfSome result
+            (λ steps. recorded self.now.is_lost self.now.steps.items ≡ Some (map step_of steps.now)) }
+        ensures none { IfNone result (recorded self.now.is_lost self.now.steps.items ≡ None) }
+    {
         if self.is_lost {
             return None;
         }

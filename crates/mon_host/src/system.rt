@@ -1,5 +1,7 @@
 //! The system's arguments, streams, files and clocks.
 
+ghost use Rattle.std.specs.Prelude.{◌≡◌};
+
 use crate::host::{Host, Part};
 use crate::reason::Reason;
 use std::alloc::Global;
@@ -30,7 +32,10 @@ pub struct System<'a, R> {
 
 impl<'a, R: AllocGlobal> System<'a, R> {
     /// Returns the surroundings of a runtime, whose standard input is a terminal or not.
-    pub fn new(rt: &'a R, is_at_terminal: bool) -> Self {
+    pub fn new(rt: &'a R, is_at_terminal: bool) -> Self
+        ensures runtime { result.rt.now ≡ rt.now }
+        ensures terminal { result.is_at_terminal ≡ is_at_terminal }
+    {
         System { rt, is_at_terminal }
     }
 
