@@ -1,6 +1,7 @@
 //! A station's file that was removed or replaced while it runs.
 
-ghost use Rattle.std.specs.Prelude.{◌≡◌, IfErr, codes, string_bytes};
+ghost use Rattle.std.specs.Prelude.{◌≡◌, false, IfErr, OnErr, OnOk, codes, string_bytes};
+ghost use Rattle.mon_disk.specs.Kept.{is_spoiled};
 ghost use Rattle.mon_host.specs.Log.{GoesOnBy};
 ghost use Rattle.mon_station_commands.specs.Keeping.{IsFileKept, IsKeptBy, IsMoveSaid, IsNoFile, IsTaken, found_at, found_by, strayed_lines};
 ghost use Rattle.mon_station_commands.specs.Telling.{AreNoted};
@@ -128,6 +129,9 @@ fn move_file<R: Files<File = File> + AllocGlobal, S: Receiver + Drop, O: Outbox 
     live: &mut Live<S, O>,
 ) -> Result<(), Failure>
     ensures refused { IfErr result (IsNoFile (string_bytes live.old.reports.paths.file)) }
+    // The station is on a file that was opened, so its next save needs no reopening; or it stays.
+    ensures moved { OnOk result (is_spoiled live.new.station.keeper ≡ false) }
+    ensures unmoved { OnErr result (live.new.station ≡ live.old.station) }
     ensures reports { live.new.reports ≡ live.old.reports }
     ensures kept { live.new.kept ≡ live.old.kept }
 {
