@@ -20,7 +20,7 @@ class Argument(NamedTuple):
     form: str  # Place, Long, Short or Both
     letter: str | None
     takes: str  # Nothing, One, Each or Many
-    value: str | None  # Text, Format, Kind, Number, Natural
+    value: str | None  # Text, Format, Kind, Sort, Number, Natural
     needed: bool
     shown: str
     help: str
@@ -117,7 +117,7 @@ def first_arguments():
 
 def names_of(value):
     """The texts of which a value of this sort must be one; nothing if it may be any."""
-    static = {"Format": "FORMATS", "Kind": "KINDS"}.get(value)
+    static = {"Format": "FORMATS", "Kind": "KINDS", "Sort": "SORTS"}.get(value)
     found = static and re.search(rf"static {static}: .*?= \[(.*?)\];", source("parser.rt"), re.S)
     return re.findall(TEXT, found[1]) if found else []
 

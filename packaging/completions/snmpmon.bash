@@ -95,15 +95,15 @@ _snmpmon() {
             operands=('@*')
             ;;
         station)
-            options=' --rounds --check --interval --phase --report-every --stale-after --alarm-after --out --http --http-host --labels --format --columns -m --module --names -h --help '
+            options=' --rounds --check --interval --phase --report-every --stale-after --alarm-after --out --http --http-host --labels --format --columns --sort -m --module --names -h --help '
             again=' --http-host -m --module '
-            takes=([--rounds]='-' [--interval]='-' [--phase]='-' [--report-every]='-' [--stale-after]='-' [--alarm-after]='-' [--out]='@*' [--http]='-' [--http-host]='-' [--labels]='@*' [--format]='text json prometheus columns html' [-m]='@*' [--module]='@*')
+            takes=([--rounds]='-' [--interval]='-' [--phase]='-' [--report-every]='-' [--stale-after]='-' [--alarm-after]='-' [--out]='@*' [--http]='-' [--http-host]='-' [--labels]='@*' [--format]='text json prometheus columns html' [--sort]='name rate alarm age' [-m]='@*' [--module]='@*')
             operands=('@*.toml')
             ;;
         report)
-            options=' --labels --format --columns -m --module --names -h --help '
+            options=' --labels --format --columns --sort -m --module --names -h --help '
             again=' -m --module '
-            takes=([--labels]='@*' [--format]='text json prometheus columns html' [-m]='@*' [--module]='@*')
+            takes=([--labels]='@*' [--format]='text json prometheus columns html' [--sort]='name rate alarm age' [-m]='@*' [--module]='@*')
             operands=('@*.toml')
             ;;
         selftest)

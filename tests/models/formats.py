@@ -202,6 +202,12 @@ class Station:
     failed_saves: int = 0
     strangers: int = 0
     stale_after: int = 3
+    # The number of each peer that is silent, and its rounds.
+    silent: list = field(default_factory=list)
+
+    @property
+    def heard(self):
+        return len(self.debts) - len(self.silent)
 
     def lines(self, instances):
         """Its metrics, by their names."""
@@ -267,24 +273,4 @@ def cells(it, stale):
     return value, rate, "stale" if stale else "RAISED" if raised else "clear" if it.alarms else "-"
 
 
-def columns(instances, station=None):
-    """The table; of a running `Station` with ages, and a line for each target that is down."""
-    wide = max([len("VALUE")] + [len(cells(it, False)[0]) for it in instances])
-    rates = max([len("RATE")] + [len(cells(it, False)[1]) for it in instances])
-
-    def line(value, rate, alarm, samples, age, name):
-        return f"{value:>{wide}}  {rate:>{rates}}  {alarm:<6}  {samples:>7}  {f'{age:>5}  ' if station else ''}{name}\n"
-
-    table, before = line("VALUE", "RATE", "ALARM", "SAMPLES", "AGE", "NAME"), None
-    for it, stale, age in zip(instances, stale_in(instances, station), station.ages if station else [""] * len(instances)):
-        table += f"engine {it.engine}\n" if it.engine != before else ""
-        table += line(*cells(it, stale), str(len(it.samples)), str(age), it.name)
-        before = it.engine
-    table += f"{len(instances)} instances, {sum(len(it.samples) for it in instances)} samples\n"
-    for target in station.targets if station else []:
-        silence = f"target {target.number} at {target.address} is down: no answer in {target.rounds} rounds, {target.seconds} s"
-        table += "" if target.up else silence + (f": {target.refusal}" if target.refusal is not None else "") + "\n"
-    return table
-
-
-FORMATS = {"text": text, "json": json_text, "prometheus": prometheus, "columns": columns}
+FORMATS = {"text": text, "json": json_text, "prometheus": prometheus}

@@ -8,6 +8,7 @@ from models import slots
 from models.claims import record, sample_of
 from models.formats import Alarm, Instance, raised, text
 from models.images import Watched, kept, some_sample, some_sizes, written
+from models.lines import raised_line
 from models.slots import HEAD, LONGEST, OPEN, SIZE, SLOT
 
 SETTINGS = """station = 1
@@ -90,14 +91,15 @@ def report_of(windows):
     return text(listed)
 
 
-def raised_lines(windows):
-    """What a station says at its start of the alarms that these windows raise."""
+def raised_lines(windows, targets):
+    """What a station says at its start of the alarms that these windows raise; its targets are at these addresses."""
     said = ""
     for place, thresholds in ALARMS.items():
-        stamp = raised(*thresholds, list(map(sample_of, windows[place])))
+        samples = list(map(sample_of, windows[place]))
+        stamp = raised(*thresholds, samples)
         if stamp:
             it = WATCH[place]
-            said += "snmpmon: {} {} alarm {}/{}=raised@{}:{}\n".format(it.engine.hex(), ".".join(map(str, it.name)), *thresholds, *stamp)
+            said += f"snmpmon: {raised_line(targets[it.engine == FIRST], it.name, samples, thresholds[0], stamp)}\n"
     return said
 
 
@@ -145,7 +147,7 @@ def station(octets, path, targets):
         return 3, "", failed(fault, path), slots.laid_out(octets)
     said = short(octets, path)
     said += f"snmpmon: station 1 at HERE, incarnation {incarnation}, file {path}, targets: {len(targets)}, peers: 0\n"
-    said += raised_lines(windows)
+    said += raised_lines(windows, targets)
     silent = "".join(f"snmpmon: round 1: target {number} at {address} gave up\n" for number, address in enumerate(targets, 1))
     try:
         return 0, report_of(windows), said + silent, slots.saved(file, image_of(incarnation, windows))

@@ -203,6 +203,7 @@ read_allowed : (c : List Rule) (id t : Text) (w : Value) → Fits c id w → IsR
 read_allowed c id t value.Text fits read = tt
 read_allowed c id t value.Format fits read = tt
 read_allowed c id t value.Kind fits read = tt
+read_allowed c id t value.Sort fits read = tt
 read_allowed c id t (value.Number (pos low) (negsuc high)) fits read = tt
 read_allowed c id t (value.Number (negsuc low) high) fits read = tt
 read_allowed c id t (value.Number (pos low) (pos high)) fits read =
@@ -271,8 +272,8 @@ fits lists commands.Settings = (tt, (tt, ((λ v e. or_false _ e, by_sign), (tt, 
 fits lists commands.Agent = (tt, ((λ v e. or_false _ e, by_sign), ((λ v e. or_false _ e, by_sign), tt)))
 fits lists commands.Answer = (tt, ((λ v e. or_false _ e, by_sign), ((λ v e. or_false _ e, by_itself), ((λ v e. or_false _ e, by_itself), ((λ v e. or_false _ e, by_sign), (tt, (tt, tt)))))))
 fits lists commands.Mib = (tt, (tt, tt))
-fits lists commands.Station = (tt, ((λ v e. or_false _ e, by_sign), (tt, ((λ v e. or_false _ e, by_sign), ((λ v e. or_false _ e, by_sign), ((λ v e. or_false _ e, by_sign), ((λ v e. or_false _ e, by_sign), ((λ v e. or_false _ e, by_sign), (tt, (tt, (tt, (tt, (tt, (tt, (tt, (tt, tt))))))))))))))))
-fits lists commands.Report = (tt, (tt, (tt, (tt, (tt, (tt, tt))))))
+fits lists commands.Station = (tt, ((λ v e. or_false _ e, by_sign), (tt, ((λ v e. or_false _ e, by_sign), ((λ v e. or_false _ e, by_sign), ((λ v e. or_false _ e, by_sign), ((λ v e. or_false _ e, by_sign), ((λ v e. or_false _ e, by_sign), (tt, (tt, (tt, (tt, (tt, (tt, (tt, (tt, (tt, tt)))))))))))))))))
+fits lists commands.Report = (tt, (tt, (tt, (tt, (tt, (tt, (tt, tt)))))))
 fits lists commands.SelfTest = tt
 fits lists commands.Rehearse = (tt, ((λ v e. or_false _ e, by_sign), tt))
 

@@ -9,6 +9,7 @@ use Rattle.clap.specs.Words.{Row, Text, all_of, first_of, one_of}
 use Rattle.clap.specs.Walk.{texts}
 use Rattle.std.specs.Borrow.{Bor}
 use Rattle.mon_cli.specs.Choice.{word_of}
+use Rattle.mon_cli.specs.SortWord.{sort_word}
 use Rattle.mon_formats.specs.FormatWord.{format_word}
 use Rattle.mon_cli.specs.Line.{Argument}
 use Rattle.mon_cli.specs.Table.{taken, value_of}
@@ -18,6 +19,7 @@ use Rattle.mon_cli.specs.declared.choice.Choice.{Choice}
 use Rattle.mon_cli.specs.declared.choice.Choice.TheVariants as commands
 use Rattle.mon_formats.specs.declared.format.Format.{Format}
 use Rattle.mon_formats.specs.declared.format.Format.TheVariants as report
+use Rattle.mon_page.specs.declared.extras.Sort.{Sort}
 use Rattle.mon_cli.specs.declared.meaning.Named.{Named}
 use Rattle.mon_cli.specs.declared.meaning.Printed.{Printed}
 use Rattle.mon_cli.specs.declared.meaning.Request.{Request}
@@ -79,13 +81,26 @@ abbrev pub IsFormat : Bool → Text → Format → Type 0
 IsFormat true t f = f ≡ report.Columns
 IsFormat false t f = IsFormatOf t f
 
+-- whether --columns or --format was given
+abbrev pub names_format : List Row → Bool
+names_format rows = is_on (codes "columns") rows || is_some (first_of (codes "format") rows)
+
+-- the order of rows that a word names, if there is a word and it names one
+abbrev pub IsSort : Option Text → Option Sort → Type 0
+IsSort None s = s ≡ None
+IsSort (Some t) (Some s) = t ≡ sort_word s
+IsSort (Some t) None = (s : Sort) → t ≢ sort_word s
+
 -- how a report is printed
 abbrev pub IsPrinted : List Row → Printed → Type 0
-IsPrinted rows p = IsFormat (is_on (codes "columns") rows) (text_in (codes "format") rows) p.format × IsNamed rows p.named
+IsPrinted rows p = IsFormat (is_on (codes "columns") rows) (text_in (codes "format") rows) p.format
+    × (p.chosen ≡ names_format rows)
+    × IsSort (first_of (codes "sort") rows) p.sort
+    × IsNamed rows p.named
 
 -- a replay's report is printed where any of these was given
 abbrev pub wants_report : List Row → Bool
-wants_report rows = is_on (codes "report") rows || (is_on (codes "columns") rows || is_some (first_of (codes "format") rows))
+wants_report rows = is_on (codes "report") rows || names_format rows
 
 -- ADDRESS, COMMUNITY and all NAMEs in the order of the command line
 abbrev pub IsRequest : List Row → Request → Type 0
@@ -261,3 +276,13 @@ LacksRounds _ = ⊥
 abbrev pub LacksInterval : Asked → Type 0
 LacksInterval (asked.Station w) = IsSome w.timing.phase × (w.timing.interval ≡ 0)
 LacksInterval _ = ⊥
+
+-- a report whose rows are sorted and which is no table
+abbrev pub SortsNoTable : Printed → Type 0
+SortsNoTable p = IsSome p.sort × (p.format ≢ report.Columns)
+
+-- the rows of a station's report or of a saved one are sorted, and it is no table
+abbrev pub LacksColumns : Asked → Type 0
+LacksColumns (asked.Station w) = SortsNoTable w.printed
+LacksColumns (asked.Report w) = SortsNoTable w.printed
+LacksColumns _ = ⊥

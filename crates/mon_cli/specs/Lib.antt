@@ -3,3 +3,4 @@ pub mod Line
 pub mod Table
 pub mod Program
 pub mod Asked
+pub mod SortWord

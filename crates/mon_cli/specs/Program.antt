@@ -26,11 +26,12 @@ use Rattle.mon_cli.specs.declared.lines.Form.TheVariants.{Place, Long, Short, Bo
 
 -- ---- the texts of which a value must be one
 
--- the texts for the formats and for the kinds
+-- the texts for the formats, for the kinds and for the orders of rows
 abbrev pub IsLists : Lists → Type 0
 IsLists lists = (texts lists.formats.now ≡ codes "text" ∷ codes "json" ∷ codes "prometheus" ∷ codes "columns" ∷ codes "html" ∷ [])
     × (texts lists.kinds.now ≡ codes "integer" ∷ codes "string" ∷ codes "hex" ∷ codes "oid" ∷ codes "ip"
     ∷ codes "counter32" ∷ codes "gauge32" ∷ codes "timeticks" ∷ codes "counter64" ∷ [])
+    × (texts lists.sorts.now ≡ codes "name" ∷ codes "rate" ∷ codes "alarm" ∷ codes "age" ∷ [])
 
 -- ---- arguments
 
@@ -39,6 +40,7 @@ abbrev pub parser_of : Lists → Value → ValueParser
 parser_of lists value.Text = parser.String
 parser_of lists value.Format = parser.Names lists.formats
 parser_of lists value.Kind = parser.Names lists.kinds
+parser_of lists value.Sort = parser.Names lists.sorts
 parser_of lists (value.Number low high) = parser.Signed low high
 parser_of lists (value.Natural low high) = parser.Unsigned low high
 

@@ -6,7 +6,7 @@ use Rattle.mon_cli.specs.Line.{Argument}
 use Rattle.mon_cli.specs.declared.choice.Choice.{Choice}
 use Rattle.mon_cli.specs.declared.choice.Choice.TheVariants as commands
 use Rattle.mon_cli.specs.declared.lines.Value.{Value}
-use Rattle.mon_cli.specs.declared.lines.Value.TheVariants.{Text, Format, Kind, Number, Natural}
+use Rattle.mon_cli.specs.declared.lines.Value.TheVariants.{Text, Format, Kind, Sort, Number, Natural}
 use Rattle.mon_cli.specs.declared.lines.Takes.{Takes}
 use Rattle.mon_cli.specs.declared.lines.Takes.TheVariants.{Nothing, One, Each, Many}
 use Rattle.mon_cli.specs.declared.lines.Form.TheVariants.{Place, Long, Short, Both}
@@ -58,6 +58,10 @@ named = or_letter 109 (repeated (codes "module")) ∷ flag (codes "names") ∷ [
 -- [--format FORMAT] [--columns] and the names: how a report is printed
 abbrev pub printed : List Argument
 printed = option (codes "format") Format ∷ flag (codes "columns") ∷ named
+
+-- [--format FORMAT] [--columns] [--sort ORDER] and the names: how a report is printed, and its rows sorted
+abbrev pub sorted : List Argument
+sorted = option (codes "format") Format ∷ flag (codes "columns") ∷ option (codes "sort") Sort ∷ named
 
 -- ADDRESS COMMUNITY: the agent that is asked, and under which community
 abbrev pub addressed : List Argument
@@ -116,8 +120,8 @@ arguments commands.Station = settings
     ∷ option (codes "http") Text
     ∷ repeated (codes "http-host")
     ∷ option (codes "labels") Text
-    ∷ printed
-arguments commands.Report = settings ∷ option (codes "labels") Text ∷ printed
+    ∷ sorted
+arguments commands.Report = settings ∷ option (codes "labels") Text ∷ sorted
 arguments commands.SelfTest = []
 arguments commands.Rehearse = settings ∷ word (codes "K") (up_to 1 16) ∷ []
 

@@ -15,6 +15,8 @@ pub(crate) enum Value {
     Format,
     /// The word for a kind of value.
     Kind,
+    /// The word for an order of rows.
+    Sort,
     /// A decimal number, from the first to the second.
     Number(i64, i64),
     /// A number without a sign, of up to 64 bits.
@@ -105,6 +107,16 @@ const COLUMNS: Line = Line {
     shown: "",
     help: "Prints the report as a table for people, as
 --format columns does",
+};
+
+const SORT: Line = Line {
+    id: "sort",
+    form: Form::Long,
+    takes: Takes::One(Value::Sort),
+    needed: false,
+    shown: "ORDER",
+    help: "The order of the rows of each device with
+--columns; by name if not given",
 };
 
 const MODULE: Line = Line {
@@ -415,8 +427,8 @@ const LABELS: Line = Line {
     needed: false,
     shown: "FILE",
     help: "A TOML file of ifName and ifAlias by engine id and
-ifIndex, for the labels of Prometheus' text and for
-the page for a browser",
+ifIndex, for Prometheus' text, the page, the table,
+and a station's lines of alarms",
 };
 
 const STATIONS: Line = Line {
@@ -618,7 +630,7 @@ static ANSWER: [Line; 7] = [AGENT_SETTINGS, BOOTS, AT, FUSES, TIMES, MODULE, NAM
 
 static MIB: [Line; 2] = [FILE, MODULE];
 
-static STATION: [Line; 16] = [
+static STATION: [Line; 17] = [
     SETTINGS,
     ROUNDS,
     CHECK,
@@ -633,11 +645,12 @@ static STATION: [Line; 16] = [
     LABELS,
     FORMAT,
     COLUMNS,
+    SORT,
     MODULE,
     NAMES,
 ];
 
-static SAVED: [Line; 6] = [SETTINGS, LABELS, FORMAT, COLUMNS, MODULE, NAMES];
+static SAVED: [Line; 7] = [SETTINGS, LABELS, FORMAT, COLUMNS, SORT, MODULE, NAMES];
 
 static REHEARSE: [Line; 2] = [SETTINGS, STATIONS];
 

@@ -1,10 +1,11 @@
 //! What the arguments ask for, by the matches that clap makes of them.
 
-ghost use Rattle.std.specs.Prelude.{◌≡◌, codes, option_map};
+ghost use Rattle.std.specs.Prelude.{◌≡◌, ◌≢◌, IfNone, IfSome, codes, option_map};
 ghost use Rattle.clap.specs.Words.{first_of, found_of, one_of, rows_of, subcommand_rows_of};
 ghost use Rattle.clap.specs.Walk.{texts};
-ghost use Rattle.mon_cli.specs.Asked.{AreAllowed, AreThere, AsksFor, IsAgent, IsAnswer, IsFormat, IsInteger, IsNamed, IsNumber, IsNumberOr, IsPrinted, IsRequest, IsScene, IsStation, IsSurvey, IsTiming, IsTimingIn, IsWithin, Says, all_in, is_on, text_in, wants_report};
+ghost use Rattle.mon_cli.specs.Asked.{AreAllowed, AreThere, AsksFor, IsAgent, IsAnswer, IsFormat, IsInteger, IsNamed, IsNumber, IsNumberOr, IsPrinted, IsRequest, IsScene, IsSort, IsStation, IsSurvey, IsTiming, IsTimingIn, IsWithin, Says, all_in, is_on, names_format, text_in, wants_report};
 ghost use Rattle.mon_cli.specs.Program.{IsParse};
+ghost use Rattle.mon_cli.specs.SortWord.{sort_word};
 ghost use Rattle.mon_cli.specs.Table.{arguments};
 ghost use Rattle.mon_cli.specs.declared.choice.Choice.TheVariants as commands;
 ghost use Rattle.mon_cli.specs.declared.meaning.Asked.TheVariants as asked;
@@ -15,7 +16,7 @@ use crate::meaning::{
     ReportArgs, Request, Scene, SetArgs, SettingsArgs, StationArgs, Timing, WalkArgs,
 };
 use clap::ArgMatches;
-use mon_formats::Format;
+use mon_formats::{Format, Sort};
 
 /// How many samples a window keeps if the arguments do not say.
 const USUAL_SIZE: u32 = 8;
@@ -111,12 +112,45 @@ fn format(matches: &ArgMatches<'_>) -> Format
     Format::from_word(text(matches, "format")).unwrap_or(Format::Text)
 }
 
+/// Returns `true` if the arguments name a format.
+fn names_format(matches: &ArgMatches<'_>) -> bool
+    ensures { result ≡ names_format (rows_of (found_of matches.now)) }
+{
+    is_on(matches, "columns") || find_value(matches, "format").is_some()
+}
+
+/// Returns the order of rows that this word names.
+fn sort_from(word: &str) -> Option<Sort>
+    ensures found { IfSome result (λ sort. word.now ≡ sort_word sort) }
+    ensures none { IfNone result ((sort : Sort) → word.now ≢ sort_word sort) }
+{
+    match word {
+        "name" => Some(Sort::Name),
+        "rate" => Some(Sort::Rate),
+        "alarm" => Some(Sort::Alarm),
+        "age" => Some(Sort::Age),
+        _ => None,
+    }
+}
+
+/// Returns the order of rows that the arguments give.
+fn sort(matches: &ArgMatches<'_>) -> Option<Sort>
+    ensures { IsSort (first_of (codes "sort") (rows_of (found_of matches.now))) result }
+{
+    match find_value(matches, "sort") {
+        Some(word) => sort_from(word),
+        None => None,
+    }
+}
+
 /// Returns how a report is printed.
 fn read_printed<'m, 'a>(matches: &'m ArgMatches<'a>) -> Printed<'m, 'a>
     ensures { IsPrinted (rows_of (found_of matches.now)) result }
 {
     Printed {
         format: format(matches),
+        chosen: names_format(matches),
+        sort: sort(matches),
         named: read_named(matches),
     }
 }
@@ -125,7 +159,7 @@ fn read_printed<'m, 'a>(matches: &'m ArgMatches<'a>) -> Printed<'m, 'a>
 fn reports(matches: &ArgMatches<'_>) -> bool
     ensures { result ≡ wants_report (rows_of (found_of matches.now)) }
 {
-    is_on(matches, "report") || is_on(matches, "columns") || find_value(matches, "format").is_some()
+    is_on(matches, "report") || names_format(matches)
 }
 
 /// Returns whom a client command asks about which variables.

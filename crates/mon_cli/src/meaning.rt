@@ -1,9 +1,9 @@
 //! What the arguments ask for.
 
 ghost use Rattle.std.specs.Prelude.{◌↔◌, IsTrue};
-ghost use Rattle.mon_cli.specs.Asked.{LacksInterval, LacksRounds};
+ghost use Rattle.mon_cli.specs.Asked.{LacksColumns, LacksInterval, LacksRounds, SortsNoTable};
 
-use mon_formats::Format;
+use mon_formats::{Format, Sort};
 
 /// Modules whose names are known, and whether names are printed by them.
 #[derive(Clone, Copy)]
@@ -17,7 +17,20 @@ pub struct Named<'m, 'a> {
 #[derive(Clone, Copy)]
 pub struct Printed<'m, 'a> {
     pub format: Format,
+    /// `true` if the arguments name the format.
+    pub chosen: bool,
+    /// The order of the rows of a table, if the arguments say so.
+    pub sort: Option<Sort>,
     pub named: Named<'m, 'a>,
+}
+
+impl Printed<'_, '_> {
+    /// Returns `true` if the arguments sort rows and the report is no table.
+    fn sorts_no_table(&self) -> bool
+        ensures { IsTrue result ↔ SortsNoTable self.now }
+    {
+        self.sort.is_some() && self.format != Format::Columns
+    }
 }
 
 /// Which agent is asked about which variables.
@@ -235,6 +248,17 @@ impl Asked<'_, '_> {
     {
         match self {
             Asked::Station(words) => words.timing.phase.is_some() && words.timing.interval == 0,
+            _ => false,
+        }
+    }
+
+    /// Returns `true` if the arguments sort the rows of a report that is no table.
+    pub fn lacks_columns(&self) -> bool
+        ensures { IsTrue result ↔ LacksColumns self.now }
+    {
+        match self {
+            Asked::Station(words) => words.printed.sorts_no_table(),
+            Asked::Report(words) => words.printed.sorts_no_table(),
             _ => false,
         }
     }

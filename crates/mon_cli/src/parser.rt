@@ -31,11 +31,15 @@ static KINDS: [&str; 9] = [
     "counter64",
 ];
 
+/// The names of the orders of rows.
+static SORTS: [&str; 4] = ["name", "rate", "alarm", "age"];
+
 /// The texts of which a value must be one.
 #[derive(Clone, Copy)]
 struct Lists<'a> {
     formats: &'a [&'a str],
     kinds: &'a [&'a str],
+    sorts: &'a [&'a str],
 }
 
 fn parser_of<'a>(lists: Lists<'a>, value: Value) -> ValueParser<'a>
@@ -45,6 +49,7 @@ fn parser_of<'a>(lists: Lists<'a>, value: Value) -> ValueParser<'a>
         Value::Text => ValueParser::String,
         Value::Format => ValueParser::Names(lists.formats),
         Value::Kind => ValueParser::Names(lists.kinds),
+        Value::Sort => ValueParser::Names(lists.sorts),
         Value::Number(low, high) => ValueParser::Signed(low, high),
         Value::Natural(low, high) => ValueParser::Unsigned(low, high),
     }
@@ -177,6 +182,7 @@ fn command<'a>(alloc: Global) -> Result<Command<'a>, AllocError>
     let lists = Lists {
         formats: FORMATS.as_slice(),
         kinds: KINDS.as_slice(),
+        sorts: SORTS.as_slice(),
     };
     let command = Command::new(alloc, "snmpmon").about(ABOUT).after_help(MORE);
     let command = with_lines(alloc, lists, command, FIRST.as_slice())?;

@@ -153,10 +153,11 @@ as --count says: Get, GetNext, GetBulk and Set requests of the communities in
 the settings.
 
 A fault in SETTINGS ends the command before it listens, with the line `snmpmon:
-mon_settings 4 BadValue`, say, and a second one that tells the line of SETTINGS,
-the key and what is wanted there. A datagram for which memory runs out is not
-answered and changes nothing: the line `snmpmon: mon_app 1 OutOfMemory` tells,
-and the agent goes on.
+mon_settings 4 BadValue`, say, and a second one that names SETTINGS, the key and
+what is wanted there: `agent.toml: access[2].model: 0 or 2 is wanted`. Of what is
+not TOML it has the line and the column. A datagram for which memory runs out is
+not answered and changes nothing: the line `snmpmon: mon_app 1 OutOfMemory` says
+so, and the agent goes on.
 
 Example: snmpmon agent examples/agent.toml --count 1000";
 
@@ -201,9 +202,9 @@ const STATION_MORE: &str =
 file in it or makes it, listens at its address and runs rounds. In a round the
 station polls each target, offers each peer the samples that it is owed, answers
 its peers and saves. At the end it prints the report of its windows, as `report`
-does; --out writes it to a file after each round, where Prometheus finds it
-(docs/OPERATING.md). --http serves it to Prometheus and browsers while the
-station runs.
+does, and at a terminal as a table if no format is given; --out writes it to a
+file after each round, where Prometheus finds it (docs/OPERATING.md). --http
+serves it to Prometheus and browsers while the station runs.
 
 With --interval rounds begin at fixed times, and stations with peers poll one
 after another by the wall clock; --phase sets when. A report that cannot be
@@ -213,8 +214,12 @@ these settings, and starts nothing.
 
 Standard error says where it listens and by which incarnation, which alarms are
 raised at the start, which are raised or cleared later, and for each round which
-targets gave up or were refused and why. What is refused ends no round;
-docs/OPERATING.md says what each line means.
+targets gave up or were refused and why. An alarm has its device, its interface
+if --labels FILE lists it, the value that was observed and the limit:
+
+  snmpmon: round 7: ALARM raised: 192.0.2.1 gi0/1 ifHCInOctets 10.0 Gbit/s (limit 8.00 Gbit/s), sample 1:35
+
+What is refused ends no round; docs/OPERATING.md says what each line means.
 
 A damaged file ends it with mon_disk 5 Damaged, one of other instances with
 mon_saved 4 OtherWatch, one that another station has open with mon_disk 7 InUse,
@@ -232,12 +237,14 @@ saved in the station's file, as `replay --report` does, with the alarms at its
 end. The station is not started: its incarnation stays.
 
 --format json prints an object, --format prometheus the text that Prometheus
-reads, --format html a page for a browser, --columns a table for people. With
---names names stand as ifInOctets.1, by the modules of the settings and those
-that -m gives. With --labels FILE Prometheus' text and the page have ifName and
-ifAlias of each interface that FILE lists.
+reads, --format html a page for a browser, --columns a table for people, whose
+rows --sort puts in an order: by name, or the greatest rate, raised alarms or
+the greatest age first. With --names names stand as ifInOctets.1, by the modules
+of the settings and those that -m gives. With --labels FILE Prometheus' text, the
+page and the table have ifName and ifAlias of each interface that FILE lists.
 
 Examples: snmpmon report examples/station.toml
+          snmpmon report examples/station.toml --columns --sort rate
           snmpmon report examples/station.toml --columns --names -m examples/served.mib
           snmpmon report examples/station.toml --format html > page.html";
 

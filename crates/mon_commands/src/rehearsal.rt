@@ -26,6 +26,8 @@ fn plain() -> Printed<'static, 'static>
     };
     Printed {
         format: Format::Text,
+        chosen: false,
+        sort: None,
         named,
     }
 }

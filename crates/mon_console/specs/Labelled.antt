@@ -1,13 +1,13 @@
 -- The settings of a station, and the labels of its instances.
-use Rattle.std.specs.Prelude.{◌≡◌, ℕ, List, [], false, map, Option, Some, None, Result, Ok, Err, String, codes, string_bytes}
+use Rattle.std.specs.Prelude.{◌≡◌, ℕ, List, [], false, map, Option, Some, None, Result, Ok, Err, String, codes, option_map, string_bytes}
 use Rattle.std.specs.Global.{Global}
 use Rattle.mon_cli.specs.declared.meaning.Printed.{Printed}
 use Rattle.mon_console.specs.Failure.{IsMemory}
 use Rattle.mon_console.specs.Files.{IsText}
+use Rattle.mon_console.specs.Printing.{with_labels}
 use Rattle.mon_console.specs.Settings.{Both, IsStationFile}
 use Rattle.mon_console.specs.declared.failure.Failure.{Failure}
 use Rattle.mon_console.specs.declared.printing.Printing.{Printing}
-use Rattle.mon_core.specs.StationCore.{Core}
 use Rattle.mon_faults.specs.Fault.{innermost_of}
 use Rattle.mon_host.specs.AtHost.{AtHost}
 use Rattle.mon_host.specs.Then.{Quietly, Then}
@@ -44,18 +44,21 @@ abbrev pub AreLabels : Option (List ℕ) → List AtHost → Result Labels Failu
 AreLabels None = Quietly AreNone
 AreLabels (Some path) = Then (IsText path) (λ text. Quietly (AreSaid (string_bytes text)))
 
--- the labels of a station's instances: of their targets' addresses, and of interfaces
-pub record AreLabelsOf (core : Core) (labels : Labels) (all : List Given) : Type 0 where
+-- the labels of a station's instances: of their targets' addresses, their targets' own, and of
+-- interfaces
+pub record AreLabelsOf (settings : StationSettings) (labels : Labels) (all : List Given) : Type 0 where
   pub addresses : List (String Global)
-  pub written : map string_bytes addresses ≡ map (λ t. addr_text t.address) core.targets
-  pub labelled : all ≡ given_from labels.interfaces.items core.targets addresses 0
-      core.watch.instances
+  pub written : map string_bytes addresses ≡ map (λ t. addr_text t.address) settings.core.targets
+  pub labelled : all ≡ given_from labels.interfaces.items settings.core.targets addresses
+      settings.target_labels.items 0 settings.core.watch.instances
 
--- settings, and a way to print reports, to which labels were added; or memory ran out
+-- settings, and a way to print reports, to which labels and that of the station were added; or memory
+-- ran out
 abbrev pub AreLabelled : StationSettings → Printing → Labels → Both → Type 0
 AreLabelled settings printing labels (Ok both) = (both.0 ≡ settings)
-    × (both.1.format ≡ printing.format) × (both.1.names ≡ printing.names)
-    × AreLabelsOf settings.core labels (map given both.1.labels.items)
+    × (both.1 ≡ with_labels both.1.labels both.1.presentation.label printing)
+    × (option_map string_bytes both.1.presentation.label ≡ option_map string_bytes settings.label)
+    × AreLabelsOf settings labels (map given both.1.labels.items)
 AreLabelled settings printing labels (Err failure) = IsMemory failure
 
 -- The settings in a file, and how reports are printed: with labels. After the files of the settings

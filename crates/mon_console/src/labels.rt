@@ -1,4 +1,4 @@
-//! Labels of the instances of a station, for Prometheus and the page.
+//! Labels of the instances of a station, for reports and lines, and its own.
 
 ghost use Rattle.std.specs.Prelude.{◌≡◌, IfOk, Some, map, option_map, string_bytes};
 ghost use Rattle.mon_console.specs.Labelled.{AreLabelled, AreLabels, AreLabelsOf, AreSaid, IsLabelled, IsOfLabels};
@@ -11,7 +11,6 @@ use crate::files::read_text;
 use crate::printing::Printing;
 use crate::settings::read_station_file;
 use mon_cli::Printed;
-use mon_core::Core;
 use mon_faults::{Fault, explain};
 use mon_formats::InstanceLabels;
 use mon_host::Host;
@@ -22,8 +21,8 @@ use mon_station::Innermost;
 use std::alloc::{AllocError, Global};
 
 /// Returns what the file of a station's settings says, and how its reports are printed: with the
-/// addresses of the targets as labels, and those of interfaces that are in the file of labels, if
-/// one is given.
+/// station's label, with the addresses and the labels of the targets as labels, and with those of
+/// interfaces that are in the file of labels, if one is given.
 pub fn read_labelled_station<H: Host>(
     alloc: Global,
     host: &mut H,
@@ -39,7 +38,8 @@ pub fn read_labelled_station<H: Host>(
     labelled(alloc, settings, printing, &labels)
 }
 
-/// Adds labels to how reports are printed: the addresses of the targets, and those of interfaces.
+/// Adds labels to how reports are printed: that of the station, the addresses and the labels of the
+/// targets, and those of interfaces.
 fn labelled(
     alloc: Global,
     settings: StationSettings,
@@ -48,20 +48,51 @@ fn labelled(
 ) -> Result<(StationSettings, Printing), Failure>
     ensures { AreLabelled settings printing labels.now result }
 {
-    match labels_of(alloc, labels, &settings.core) {
-        Ok(labels) => Ok((settings, printing.with_labels(labels))),
+    match all_labels(alloc, labels, &settings) {
+        Ok((labels, label)) => Ok((settings, printing.with_labels(labels, label))),
         Err(error) => Err(Failure::from(error)),
     }
 }
 
-/// Returns the labels of the instances of a station by those of interfaces.
-fn labels_of(alloc: Global, labels: &Labels, core: &Core) -> Result<Vec<InstanceLabels>, AllocError>
-    ensures { IfOk result (λ all. AreLabelsOf core.now labels.now (map given all.items)) }
+/// Returns the labels of the instances of a station by those of interfaces, and its own label.
+fn all_labels(
+    alloc: Global,
+    labels: &Labels,
+    settings: &StationSettings,
+) -> Result<(Vec<InstanceLabels>, Option<String>), AllocError>
+    ensures all { IfOk result (λ all. AreLabelsOf settings.now labels.now (map given all.0.items)) }
+    ensures own { IfOk result (λ all.
+        option_map string_bytes all.1 ≡ option_map string_bytes settings.now.label) }
 {
+    let all = labels_of(alloc, labels, settings)?;
+    Ok((all, copied(alloc, &settings.label)?))
+}
+
+/// Returns a copy of a text, if there is one.
+fn copied(alloc: Global, text: &Option<String>) -> Result<Option<String>, AllocError>
+    ensures { IfOk result (λ copy.
+        option_map string_bytes copy ≡ option_map string_bytes text.now) }
+{
+    match text {
+        None => Ok(None),
+        Some(text) => Ok(Some(String::from_str(alloc, text.as_str())?)),
+    }
+}
+
+/// Returns the labels of the instances of a station by those of interfaces.
+fn labels_of(
+    alloc: Global,
+    labels: &Labels,
+    settings: &StationSettings,
+) -> Result<Vec<InstanceLabels>, AllocError>
+    ensures { IfOk result (λ all. AreLabelsOf settings.now labels.now (map given all.items)) }
+{
+    let core = &settings.core;
     let addresses = addresses_of(alloc, core.targets())?;
     let reached = Reached {
         targets: core.targets(),
         addresses: addresses.as_slice(),
+        devices: settings.target_labels.as_slice(),
     };
     labels.of_instances(alloc, core.watch().instances(), reached)
 }

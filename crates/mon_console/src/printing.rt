@@ -2,7 +2,7 @@
 
 ghost use Rattle.std.specs.Prelude.{◌≡◌, ◌↔◌, [], IfOk, IsTrue, None, is_some, option_map, string_bytes};
 ghost use Rattle.mon_board.specs.Board.{window_of};
-ghost use Rattle.mon_console.specs.Printing.{IsPrinting, shown_names};
+ghost use Rattle.mon_console.specs.Printing.{IsFitted, IsPrinting, aged, presented, shown_names, with_labels};
 ghost use Rattle.mon_console.specs.Shown.{shown_by};
 ghost use Rattle.mon_host.specs.Log.{GoesOnBy};
 ghost use Rattle.mon_formats.specs.Changes.{change_line, instance_text};
@@ -12,10 +12,11 @@ ghost use Rattle.mon_formats.specs.declared.format.Format.TheVariants.{Text};
 use crate::failure::Failure;
 use crate::naming::{KnownNames, add_others};
 use mon_alarms::AlarmChange;
-use mon_board::{Board, Instance, Watch};
+use mon_board::{Board, Instance};
 use mon_cli::Printed;
 use mon_formats::{
-    Extras, Figures, Format, InstanceLabels, alarm_line, format_report, instance_text,
+    Extras, Figures, Format, InstanceLabels, Presentation, Sort, alarm_line, format_report,
+    instance_text,
 };
 use mon_host::Host;
 use mon_report::{Entry, entries_of};
@@ -25,9 +26,12 @@ use std::alloc::{AllocError, Global};
 /// How reports are printed.
 pub struct Printing {
     format: Format,
+    /// `true` if the arguments name the format.
+    chosen: bool,
     names: Option<Names>,
     /// The labels of each instance, in their order.
     labels: Vec<InstanceLabels>,
+    presentation: Presentation,
 }
 
 // By hand: where one is let go, a proof has one call and not a drop of each field.
@@ -35,8 +39,10 @@ impl Drop for Printing {
     fn drop(self) {
         let Printing {
             format: _,
+            chosen: _,
             names: _,
             labels: _,
+            presentation: _,
         } = self;
     }
 }
@@ -61,26 +67,53 @@ impl Printing {
         let known = add_others(alloc, host, known, printed.named.modules, files)?;
         Ok(Printing {
             format: printed.format,
+            chosen: printed.chosen,
             names: names_if(printed.named.shown, known),
             labels: Vec::new(alloc),
+            presentation: presented(printed.sort),
         })
     }
 
-    /// How reports are printed with these labels of the instances.
-    pub(crate) fn with_labels(self, labels: Vec<InstanceLabels>) -> Self
-        ensures format { result.format ≡ self.format }
-        ensures names { result.names ≡ self.names }
-        ensures labels { result.labels ≡ labels }
+    /// How reports are printed with these labels of the instances, and with that of the station.
+    pub(crate) fn with_labels(self, labels: Vec<InstanceLabels>, label: Option<String>) -> Self
+        ensures { result ≡ with_labels labels label self }
     {
         let Printing {
             format,
+            chosen,
             names,
             labels: _,
+            mut presentation,
         } = self;
+        presentation.label = label;
         Printing {
             format,
+            chosen,
             names,
             labels,
+            presentation,
+        }
+    }
+
+    /// How the report of a file is printed whose last change is this old in seconds, if that is known.
+    pub fn with_file_age(self, file_age: Option<u64>) -> Self
+        ensures { result ≡ aged file_age self }
+    {
+        let mut printing = self;
+        printing.presentation.file_age = file_age;
+        printing
+    }
+
+    /// Makes reports tables from now on, if the arguments name no format and standard output is a
+    /// terminal.
+    pub fn fit_output<H: Host>(&mut self, host: &mut H)
+        ensures { GoesOnBy (IsFitted self.old self.new) (H.log host.old) (H.log host.new) }
+    {
+        if self.chosen {
+            return;
+        }
+        if host.prints_to_terminal() {
+            self.format = Format::Columns;
         }
     }
 
@@ -107,7 +140,8 @@ impl Printing {
     ) -> Result<Vec<u8>, AllocError>
         ensures { IfOk result (λ text. text.items
             ≡ formatted self.now.format (shown_by self.now.names) entries.now
-            (option_map (λ f. f.now) station.entry) self.now.labels.items) }
+            (option_map (λ f. f.now) station.entry) self.now.labels.items
+            self.now.presentation) }
     {
         self.text_in(Vec::new(alloc), self.format, entries, station)
     }
@@ -123,11 +157,13 @@ impl Printing {
     ) -> Result<Vec<u8>, AllocError>
         ensures { IfOk result (λ text. text.items
             ≡ formatted format (shown_by self.now.names) entries.now
-            (option_map (λ f. f.now) station.entry) self.now.labels.items) }
+            (option_map (λ f. f.now) station.entry) self.now.labels.items
+            self.now.presentation) }
     {
         let extras = Extras {
             station,
             labels: self.labels.as_slice(),
+            presentation: &self.presentation,
         };
         match &self.names {
             None => format_report(buffer, format, &InNumbers, entries, extras),
@@ -138,19 +174,20 @@ impl Printing {
         }
     }
 
-    /// Returns the line of an alarm of a watch that changed, without its end.
+    /// Returns the line of an alarm of a board that changed, without its end.
     pub fn alarm_line(
         &self,
         alloc: Global,
-        watch: &Watch,
+        board: &Board,
         change: &AlarmChange,
     ) -> Result<String, AllocError>
-        ensures { IfOk result (λ line.
-            string_bytes line ≡ change_line (shown_by self.now.names) watch.now change.now) }
+        ensures { IfOk result (λ line. string_bytes line
+            ≡ change_line (shown_by self.now.names) board.now self.now.labels.items change.now) }
     {
+        let labels = self.labels.as_slice();
         match &self.names {
-            None => alarm_line(alloc, &InNumbers, watch, change),
-            Some(names) => alarm_line(alloc, &names.labels(alloc)?, watch, change),
+            None => alarm_line(alloc, &InNumbers, board, labels, change),
+            Some(names) => alarm_line(alloc, &names.labels(alloc)?, board, labels, change),
         }
     }
 
@@ -175,10 +212,21 @@ impl Printing {
         ensures { IfOk result (λ text. text.items
             ≡ report_in self.now.format (shown_by self.now.names) board.now.watch
             (window_of board.now) (option_map (λ f. f.now) station.entry)
-            self.now.labels.items) }
+            self.now.labels.items self.now.presentation) }
     {
         let entries = entries_of(alloc, board)?;
         self.text(alloc, entries.as_slice(), station)
+    }
+}
+
+/// Returns how a table with rows in this order is presented, by name if none is given.
+fn presented(sort: Option<Sort>) -> Presentation
+    ensures { result ≡ presented sort }
+{
+    Presentation {
+        label: None,
+        file_age: None,
+        sort: sort.unwrap_or(Sort::Name),
     }
 }
 

@@ -1,4 +1,3 @@
-pub mod Aligned
 pub mod Arrays
 pub mod Depths
 pub mod Entries
@@ -8,4 +7,3 @@ pub mod LastDot
 pub mod NoFloats
 pub mod Pushed
 pub mod Sound
-pub mod Tables

@@ -3,6 +3,5 @@ pub mod Named
 pub mod Json
 pub mod Sound
 pub mod Prometheus
-pub mod Columns
 pub mod FormatWord
 pub mod Formats

@@ -1,28 +1,76 @@
 //! The line of an alarm that changed.
 
-ghost use Rattle.std.specs.Prelude.{◌≡◌, ◌++◌, IfOk, OnOk, slice_get, string_bytes};
+ghost use Rattle.std.specs.Prelude.{◌≡◌, ◌++◌, ◌≤ℤ◌, ◌^◌, pos, None, Some, IfOk, IfSome, OnOk, option_copied, option_map, slice_get, string_bytes};
+ghost use Rattle.std.specs.Int.Signed.{le_z};
+ghost use Rattle.std.specs.List.{find};
 ghost use Rattle.hex.specs.Hex.{encode_lower};
-ghost use Rattle.mon_formats.specs.Changes.{change_line, instance_text, line_at, line_on, thresholds_text, event_text};
+ghost use Rattle.mon_alarms.specs.Observed.{observations_from, observed, rate_from};
+ghost use Rattle.mon_board.specs.Board.{window_of};
+ghost use Rattle.mon_display.specs.Rate.{rate_text};
+ghost use Rattle.mon_formats.specs.Changes.{change_line, device_of, device_or, event_end, event_word, fraction_text, instance_text, interface_of, interface_or, is_at, is_by, is_octets, level_by, limit_of, limit_text, line_at, line_on, measure_of, measured, number_text, object_of, subject_text, thousandths_text, value_text, values_text};
+ghost use Rattle.mon_page.specs.Cells.{newest_of};
+ghost use Rattle.mon_window.specs.Top.{rising};
 
+use crate::prometheus::instance::{at_first_dot, is_in_numbers};
 use mon_alarms::{AlarmChange, AlarmEvent, Rule};
-use mon_board::{Instance, Watch};
+use mon_board::{Board, Instance};
+use mon_display::{Column, Unit, column_of, device_text, interface_text, rate_text};
+use mon_page::InstanceLabels;
+use mon_rates::{Totals, is_counter};
+use mon_sample::Sample;
 use mon_smi::NameTexts;
 use std::alloc::{AllocError, Global};
 
-/// Returns the line of a change, without its end: the instance and the thresholds in thousandths, as a
-/// report has them; `raised` or `clear`, and by which sample. It is empty if the watch has no such rule.
+/// How the values of an instance are shown.
+#[derive(Clone, Copy)]
+enum Measure {
+    /// In bits a second.
+    Bits,
+    /// As a number a second.
+    Each,
+    /// As they are.
+    Plain,
+}
+
+/// An instance with its labels and the samples of its window, the oldest first.
+#[derive(Clone, Copy)]
+struct Subject<'a> {
+    instance: &'a Instance,
+    labels: Option<&'a InstanceLabels>,
+    samples: &'a [Sample],
+}
+
+/// What became of the alarm of a rule.
+#[derive(Clone, Copy)]
+struct Turn<'a> {
+    rule: &'a Rule,
+    event: AlarmEvent,
+}
+
+/// Returns the line of a change of a board's alarms, without its end: `ALARM raised: `, the device, the
+/// interface and the object, the value that was observed, the threshold, and by which sample. The
+/// labels are those of the board's instances, in their order. It is empty if the watch has no such
+/// rule, and has no value if the window does not have that sample any more.
+///
+/// # Errors
+/// `AllocError` if there is no memory for it.
 pub fn alarm_line<S: NameTexts>(
     alloc: Global,
     names: &S,
-    watch: &Watch,
+    board: &Board,
+    labels: &[InstanceLabels],
     change: &AlarmChange,
 ) -> Result<String, AllocError>
-    ensures { IfOk result (λ text. string_bytes text ≡ change_line (S.shown names.now) watch.now change.now) }
+    ensures { IfOk result (λ text. string_bytes text ≡ change_line (S.shown names.now) board.now labels.now change.now) }
 {
-    match watch.rules().get(change.rule) {
-        Some(rule) => rule_line(alloc, names, watch, rule, change.event),
-        None => Ok(String::new(alloc)),
-    }
+    let Some(rule) = board.watch().rules().get(change.rule) else {
+        return Ok(String::new(alloc));
+    };
+    let turn = Turn {
+        rule,
+        event: change.event,
+    };
+    turn_line(alloc, names, board, labels, turn)
 }
 
 /// Returns an instance's engine id in hex digits, a blank and its name.
@@ -61,55 +109,401 @@ fn put_engine(alloc: Global, text: &mut String, engine: &[u8]) -> Result<(), All
     text.push_str(digits.as_str())
 }
 
-/// Returns the line of a rule of a watch.
-fn rule_line<S: NameTexts>(
+/// Returns the line of what became of the alarm of a rule of a board.
+fn turn_line<S: NameTexts>(
     alloc: Global,
     names: &S,
-    watch: &Watch,
-    rule: &Rule,
-    event: AlarmEvent,
+    board: &Board,
+    labels: &[InstanceLabels],
+    turn: Turn<'_>,
 ) -> Result<String, AllocError>
-    ensures { IfOk result (λ text. string_bytes text ≡ line_at (S.shown names.now) (slice_get watch.now.instances rule.now.instance) rule.now event) }
+    ensures { IfOk result (λ text. string_bytes text ≡ line_at (S.shown names.now) (slice_get board.now.watch.instances turn.entry.rule.now.instance)
+        (slice_get labels.now turn.entry.rule.now.instance) (rising (window_of board.now turn.entry.rule.now.instance)) turn.entry.rule.now turn.entry.event) }
 {
-    match watch.instances().get(usize::from(rule.instance())) {
-        Some(watched) => line_on(alloc, names, &watched.instance, rule, event),
-        None => Ok(String::new(alloc)),
-    }
+    let number = turn.rule.instance();
+    let place = usize::from(number);
+    let Some(watched) = board.watch().instances().get(place) else {
+        return Ok(String::new(alloc));
+    };
+    let subject = Subject {
+        instance: &watched.instance,
+        labels: labels.get(place),
+        samples: board.items(number),
+    };
+    line_on(alloc, names, subject, turn)
 }
 
-/// Returns the line of a rule on an instance.
+/// Returns the line of what became of the alarm of a rule on an instance.
 #[tactic(auto, unfolding(crate::specs::Changes::line_on))]
 fn line_on<S: NameTexts>(
     alloc: Global,
     names: &S,
-    instance: &Instance,
-    rule: &Rule,
-    event: AlarmEvent,
+    subject: Subject<'_>,
+    turn: Turn<'_>,
 ) -> Result<String, AllocError>
-    ensures { IfOk result (λ text. string_bytes text ≡ line_on (S.shown names.now) instance.now rule.now event) }
+    ensures { IfOk result (λ text. string_bytes text ≡ line_on (S.shown names.now) subject.entry.instance.now (option_map (λ l. l.now) subject.entry.labels)
+        subject.entry.samples.now turn.entry.rule.now turn.entry.event) }
 {
-    let mut text = String::new(alloc);
-    put_instance(alloc, &mut text, names, instance)?;
-    put_thresholds(&mut text, rule)?;
-    put_event(&mut text, event)?;
+    let mut text = String::from_str(alloc, event_word(turn.event))?;
+    put_subject(alloc, &mut text, names, subject)?;
+    let column = column_of(subject.instance.name.parts());
+    let measure = measure_of(column, subject.samples);
+    put_values(alloc, &mut text, measure, subject.samples, turn)?;
+    put_end(&mut text, turn.event)?;
     Ok(text)
 }
 
-/// Adds the thresholds of a rule.
-fn put_thresholds(text: &mut String, rule: &Rule) -> Result<(), AllocError>
-    ensures { OnOk result (string_bytes text.new ≡ string_bytes text.old ++ thresholds_text rule.now) }
-{
-    let (rising, falling) = (rule.rising(), rule.falling());
-    write!(text, " alarm {rising}/{falling}=")
-}
-
-/// Adds what became of an alarm.
-fn put_event(text: &mut String, event: AlarmEvent) -> Result<(), AllocError>
-    ensures { OnOk result (string_bytes text.new ≡ string_bytes text.old ++ event_text event) }
+/// Returns what became of an alarm, as a line begins with it.
+fn event_word<'a>(event: AlarmEvent) -> &'a str
+    ensures { result.now ≡ event_word event }
 {
     match event {
-        AlarmEvent::Raised { boots, time } => write!(text, "raised@{boots}:{time}"),
-        AlarmEvent::Cleared { boots, time } => write!(text, "clear@{boots}:{time}"),
-        AlarmEvent::Lapsed => text.push_str("clear"),
+        AlarmEvent::Raised { .. } => "ALARM raised: ",
+        AlarmEvent::Cleared { .. } | AlarmEvent::Lapsed => "ALARM cleared: ",
     }
+}
+
+/// Adds by which sample an alarm was raised or cleared.
+fn put_end(text: &mut String, event: AlarmEvent) -> Result<(), AllocError>
+    ensures { OnOk result (string_bytes text.new ≡ string_bytes text.old ++ event_end event) }
+{
+    match event {
+        AlarmEvent::Raised { boots, time } => write!(text, ", sample {boots}:{time}"),
+        AlarmEvent::Cleared { boots, time } => write!(text, ", sample {boots}:{time}"),
+        AlarmEvent::Lapsed => text.push_str(", its samples are gone"),
+    }
+}
+
+/// Adds an instance: its device, and then its interface and its object.
+#[tactic(auto, unfolding(crate::specs::Changes::subject_text))]
+fn put_subject<S: NameTexts>(
+    alloc: Global,
+    text: &mut String,
+    names: &S,
+    subject: Subject<'_>,
+) -> Result<(), AllocError>
+    ensures { OnOk result (string_bytes text.new ≡ string_bytes text.old ++ subject_text (S.shown names.now) subject.entry.instance.now (option_map (λ l. l.now) subject.entry.labels)) }
+{
+    put_device(
+        alloc,
+        text,
+        subject.instance.engine.as_slice(),
+        subject.labels,
+    )?;
+    text.push_str(" ")?;
+    let name = names.text(alloc, &subject.instance.name)?;
+    put_interface(alloc, text, name.as_str(), subject.labels)
+}
+
+/// Adds the device of an instance, by its labels if it has any.
+fn put_device(
+    alloc: Global,
+    text: &mut String,
+    engine: &[u8],
+    labels: Option<&InstanceLabels>,
+) -> Result<(), AllocError>
+    ensures { OnOk result (string_bytes text.new ≡ string_bytes text.old ++ device_of engine.now (option_map (λ l. l.now) labels.entry)) }
+{
+    match labels {
+        None => put_engine(alloc, text, engine),
+        Some(labels) => put_labelled_device(alloc, text, engine, labels),
+    }
+}
+
+/// Adds the device at the address and with the label that labels have.
+fn put_labelled_device(
+    alloc: Global,
+    text: &mut String,
+    engine: &[u8],
+    labels: &InstanceLabels,
+) -> Result<(), AllocError>
+    ensures { OnOk result (string_bytes text.new ≡ string_bytes text.old ++ device_or engine.now (option_map string_bytes labels.now.target) (option_map string_bytes labels.now.device)) }
+{
+    if labels.target.is_none() && labels.device.is_none() {
+        return put_engine(alloc, text, engine);
+    }
+    let device = device_text(alloc, labels.target.as_deref(), labels.device.as_deref())?;
+    text.push_str(device.as_str())
+}
+
+/// Adds the interface and the object of a name as it is shown, by the labels of its instance if it has
+/// any.
+fn put_interface(
+    alloc: Global,
+    text: &mut String,
+    name: &str,
+    labels: Option<&InstanceLabels>,
+) -> Result<(), AllocError>
+    ensures { OnOk result (string_bytes text.new ≡ string_bytes text.old ++ interface_of name.now (option_map (λ l. l.now) labels.entry)) }
+{
+    match labels {
+        None => text.push_str(name),
+        Some(labels) => put_labelled_interface(alloc, text, name, labels),
+    }
+}
+
+/// Adds the interface of labels and the object, or the name if they have no ifName.
+fn put_labelled_interface(
+    alloc: Global,
+    text: &mut String,
+    name: &str,
+    labels: &InstanceLabels,
+) -> Result<(), AllocError>
+    ensures { OnOk result (string_bytes text.new ≡ string_bytes text.old ++ interface_or name.now (option_map string_bytes labels.now.if_name) (option_map string_bytes labels.now.if_alias)) }
+{
+    if labels.if_name.is_none() {
+        return text.push_str(name);
+    }
+    let interface = interface_text(alloc, labels.if_name.as_deref(), labels.if_alias.as_deref())?;
+    text.push_str(interface.as_str())?;
+    text.push_str(" ")?;
+    text.push_str(object_of(name))
+}
+
+/// Returns the object of a name as it is shown: without its index if it is shown by modules.
+fn object_of(name: &str) -> &str
+    ensures { result.now ≡ object_of name.now }
+{
+    if is_in_numbers(name) {
+        return name;
+    }
+    at_first_dot(name).0
+}
+
+/// Adds the value by which an alarm was raised or cleared, if the samples still have it, and its limit.
+#[tactic(auto, unfolding(crate::specs::Changes::values_text))]
+fn put_values(
+    alloc: Global,
+    text: &mut String,
+    measure: Measure,
+    samples: &[Sample],
+    turn: Turn<'_>,
+) -> Result<(), AllocError>
+    ensures { OnOk result (string_bytes text.new ≡ string_bytes text.old ++ values_text measure samples.now turn.entry.rule.now turn.entry.event) }
+{
+    let level = level_by(turn.rule, turn.event, None, samples);
+    put_value(alloc, text, measure, level)?;
+    put_limit(alloc, text, measure, limit_of(turn.rule, turn.event))
+}
+
+/// Returns the threshold that was reached.
+fn limit_of(rule: &Rule, event: AlarmEvent) -> i64
+    ensures { result ≡ limit_of rule.now event }
+{
+    match event {
+        AlarmEvent::Raised { .. } => rule.rising(),
+        AlarmEvent::Cleared { .. } | AlarmEvent::Lapsed => rule.falling(),
+    }
+}
+
+/// Adds the value by which an alarm was raised or cleared, if it is known.
+fn put_value(
+    alloc: Global,
+    text: &mut String,
+    measure: Measure,
+    level: Option<i128>,
+) -> Result<(), AllocError>
+    requires { IfSome level (λ z. z ≤ℤ pos (2 ^ 100)) }
+    ensures { OnOk result (string_bytes text.new ≡ string_bytes text.old ++ value_text measure level) }
+{
+    let Some(level) = level else {
+        return Ok(());
+    };
+    text.push_str(" ")?;
+    put_measured(alloc, text, measure, level)
+}
+
+/// Adds a limit.
+fn put_limit(
+    alloc: Global,
+    text: &mut String,
+    measure: Measure,
+    limit: i64,
+) -> Result<(), AllocError>
+    ensures { OnOk result (string_bytes text.new ≡ string_bytes text.old ++ limit_text measure limit) }
+{
+    text.push_str(" (limit ")?;
+    put_measured(alloc, text, measure, i128::from(limit))?;
+    text.push_str(")")
+}
+
+/// Returns `true` if a column counts octets.
+fn is_octets(column: Column) -> bool
+    ensures { result ≡ is_octets column }
+{
+    matches!(column, Column::InOctets | Column::OutOctets)
+}
+
+/// Returns how values of a column are shown, by the kind of the newest sample; without one the column
+/// decides.
+fn measure_of(column: Column, samples: &[Sample]) -> Measure
+    ensures { result ≡ measure_of column (newest_of samples.now) }
+{
+    let Some(newest) = samples.last() else {
+        return measure_without(column);
+    };
+    measure_by(column, newest)
+}
+
+/// Returns how values of a column without a sample are shown.
+fn measure_without(column: Column) -> Measure
+    ensures { result ≡ measure_of column None }
+{
+    if is_octets(column) {
+        return Measure::Bits;
+    }
+    Measure::Plain
+}
+
+/// Returns how values of a column are shown that are of the kind of this sample.
+fn measure_by(column: Column, sample: &Sample) -> Measure
+    ensures { result ≡ measure_of column (Some sample.now) }
+{
+    if !is_counter(sample.kind()) {
+        return Measure::Plain;
+    }
+    if is_octets(column) {
+        return Measure::Bits;
+    }
+    Measure::Each
+}
+
+/// Adds a value in thousandths, a second if it is a counter's: of octets in bits a second.
+fn put_measured(
+    alloc: Global,
+    text: &mut String,
+    measure: Measure,
+    level: i128,
+) -> Result<(), AllocError>
+    requires { level ≤ℤ pos (2 ^ 100) }
+    ensures { OnOk result (string_bytes text.new ≡ string_bytes text.old ++ measured measure level) }
+{
+    match (measure, u128::try_from(level)) {
+        (Measure::Bits, Ok(octets)) => put_rate(alloc, text, Unit::Bits, 8 * octets),
+        (Measure::Each, Ok(number)) => put_rate(alloc, text, Unit::Each, number),
+        _ => put_number(text, level),
+    }
+}
+
+/// Adds a rate in thousandths.
+fn put_rate(
+    alloc: Global,
+    text: &mut String,
+    unit: Unit,
+    thousandths: u128,
+) -> Result<(), AllocError>
+    ensures { OnOk result (string_bytes text.new ≡ string_bytes text.old ++ rate_text unit thousandths) }
+{
+    let rate = rate_text(alloc, unit, thousandths)?;
+    text.push_str(rate.as_str())
+}
+
+/// Adds thousandths as a decimal number with its sign.
+fn put_number(text: &mut String, thousandths: i128) -> Result<(), AllocError>
+    ensures { OnOk result (string_bytes text.new ≡ string_bytes text.old ++ number_text thousandths) }
+{
+    if thousandths < 0 {
+        text.push_str("-")?;
+    }
+    put_thousandths(text, thousandths.unsigned_abs())
+}
+
+/// Adds thousandths as a decimal number.
+#[tactic(auto, unfolding(crate::specs::Changes::thousandths_text))]
+fn put_thousandths(text: &mut String, thousandths: u128) -> Result<(), AllocError>
+    ensures { OnOk result (string_bytes text.new ≡ string_bytes text.old ++ thousandths_text thousandths) }
+{
+    let whole = thousandths / 1000;
+    write!(text, "{whole}")?;
+    put_fraction(text, thousandths)
+}
+
+/// Adds what is behind the point of thousandths in decimal, without zeros at its end.
+fn put_fraction(text: &mut String, thousandths: u128) -> Result<(), AllocError>
+    ensures { OnOk result (string_bytes text.new ≡ string_bytes text.old ++ fraction_text thousandths) }
+{
+    if thousandths % 1000 == 0 {
+        return Ok(());
+    }
+    let tenths = thousandths / 100 % 10;
+    if thousandths % 100 == 0 {
+        return write!(text, ".{tenths}");
+    }
+    let hundredths = thousandths / 10 % 10;
+    if thousandths % 10 == 0 {
+        return write!(text, ".{tenths}{hundredths}");
+    }
+    let last = thousandths % 10;
+    write!(text, ".{tenths}{hundredths}{last}")
+}
+
+/// Returns the value by which an alarm was raised or cleared, if these samples have it, which follow
+/// one or none.
+fn level_by(
+    rule: &Rule,
+    event: AlarmEvent,
+    before: Option<&Sample>,
+    samples: &[Sample],
+) -> Option<i128>
+    ensures level { result ≡ option_map (λ o. o.level) (find (is_by rule.now event) (observations_from (option_copied before.entry) samples.now)) }
+    ensures small { IfSome result (λ z. z ≤ℤ pos (2 ^ 100)) }
+{
+    let [first, rest @ ..] = samples else {
+        return None;
+    };
+    match observe(before, first) {
+        Some(level) if is_by(rule, event, first, level) => Some(level),
+        _ => level_by(rule, event, Some(first), rest),
+    }
+}
+
+/// Returns `true` if an alarm was raised or cleared by this sample, at which this is observed.
+fn is_by(rule: &Rule, event: AlarmEvent, sample: &Sample, level: i128) -> bool
+    ensures { result ≡ is_by rule.now event (record { sample = sample.now; level = level }) }
+{
+    match event {
+        AlarmEvent::Raised { boots, time } => {
+            is_at(sample, boots, time) && is_up_to(i128::from(rule.rising()), level)
+        }
+        AlarmEvent::Cleared { boots, time } => {
+            is_at(sample, boots, time) && is_up_to(level, i128::from(rule.falling()))
+        }
+        AlarmEvent::Lapsed => false,
+    }
+}
+
+/// Returns `true` if a sample has this stamp.
+fn is_at(sample: &Sample, boots: u32, time: u32) -> bool
+    ensures { result ≡ is_at boots time sample.now }
+{
+    sample.boots() == boots && sample.time() == time
+}
+
+/// Returns `true` if a number is at most another one.
+fn is_up_to(low: i128, high: i128) -> bool
+    ensures { result ≡ le_z low high }
+{
+    low <= high
+}
+
+/// Returns what is observed at a sample after another, as rules observe it.
+fn observe(before: Option<&Sample>, sample: &Sample) -> Option<i128>
+    ensures observed { result ≡ observed (option_copied before.entry) sample.now }
+    ensures small { IfSome result (λ z. z ≤ℤ pos (2 ^ 100)) }
+{
+    if !is_counter(sample.kind()) {
+        // Proof: a sample's number is in the range of its kind.
+        let _value = sample.value();
+        return Some(1000 * sample.number());
+    }
+    rate(before?, sample)
+}
+
+/// Returns the rate from one sample to the next in thousandths, if there is one.
+fn rate(before: &Sample, sample: &Sample) -> Option<i128>
+    ensures rate { result ≡ rate_from (Some before.now) sample.now }
+    ensures small { IfSome result (λ z. z ≤ℤ pos (2 ^ 100)) }
+{
+    let thousandths = Totals::between(before, sample).thousandths()?;
+    Some(thousandths as i128)
 }

@@ -7,12 +7,12 @@ ghost use Rattle.mon_formats.specs.Json.{ReadsAsReport};
 ghost use Rattle.mon_formats.specs.declared.format.Format.TheVariants.{Json};
 
 use crate::as_json::json_report;
-use crate::columns::columns_report;
 use crate::named::named_report;
 use crate::prometheus::prometheus_report;
 use mon_page::{Extras, page_report};
 use mon_report::Entry;
 use mon_smi::NameTexts;
+use mon_table::table_report;
 use std::alloc::AllocError;
 
 /// A format of a report.
@@ -49,7 +49,8 @@ impl Format {
 
 /// Makes the report of instances in a format, with their names as `names` has them. All but
 /// the lines of text also have what the station says of itself. Prometheus' text has the labels, and a
-/// page the ifName and the ifAlias among them. The buffer's octets are dropped, and its capacity is used again.
+/// page and a table have the ifName and the ifAlias among them and are made as the presentation says.
+/// The buffer's octets are dropped, and its capacity is used again.
 ///
 /// # Errors
 /// `AllocError` if there is no memory for it.
@@ -60,7 +61,7 @@ pub fn format_report<S: NameTexts>(
     entries: &[Entry],
     extras: Extras<'_>,
 ) -> Result<Vec<u8>, AllocError>
-    ensures text { IfOk result (λ text. text.items ≡ formatted format (S.shown names.now) entries.now (option_map (λ f. f.now) extras.entry.station) extras.entry.labels.now) }
+    ensures text { IfOk result (λ text. text.items ≡ formatted format (S.shown names.now) entries.now (option_map (λ f. f.now) extras.entry.station) extras.entry.labels.now extras.entry.presentation.now) }
     // JSON reads back as the value of the report (RFC 8259).
     ensures read_back { format ≡ Json → IfOk result (λ text. ReadsAsReport (S.shown names.now) entries.now (option_map (λ f. f.now) extras.entry.station) text.items) }
 {
@@ -69,7 +70,7 @@ pub fn format_report<S: NameTexts>(
         Format::Text => named_report(alloc, buffer, names, entries),
         Format::Json => json_report(alloc, buffer, names, entries, extras.station),
         Format::Prometheus => prometheus_report(alloc, buffer, names, entries, extras),
-        Format::Columns => columns_report(alloc, buffer, names, entries, extras.station),
+        Format::Columns => table_report(alloc, buffer, names, entries, extras),
         Format::Html => page_report(alloc, buffer, names, entries, extras),
     }
 }

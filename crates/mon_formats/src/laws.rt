@@ -1,6 +1,6 @@
 //! Laws of the formats. Each is a function that does nothing.
 
-ghost use Rattle.std.specs.Prelude.{◌≡◌, ◌<◌, ◌^◌, ◌∷◌, ◌++◌, Bool, List, ℕ, All, Option, Some, length};
+ghost use Rattle.std.specs.Prelude.{◌≡◌, ◌∷◌, ◌++◌, List, ℕ, Option, Some};
 ghost use Rattle.std.specs.List.{flat_map};
 ghost use Rattle.mon_oid.specs.Oid.{dotted};
 ghost use Rattle.mon_board.specs.Watch.{Watch};
@@ -8,9 +8,9 @@ ghost use Rattle.mon_board.specs.Windows.{IsPartOf, window};
 ghost use Rattle.mon_window.specs.Window.{Samples};
 ghost use Rattle.mon_report.specs.Report.{Entry, report_of};
 ghost use Rattle.mon_page.specs.declared.extras.InstanceLabels.{InstanceLabels};
+ghost use Rattle.mon_page.specs.declared.extras.Presentation.{Presentation};
 ghost use Rattle.mon_page.specs.declared.figures.Figures.{Figures};
 ghost use Rattle.mon_formats.specs.declared.format.Format.{Format};
-ghost use Rattle.mon_formats.specs.Columns.{row_cells, title_cells, widths_of};
 ghost use Rattle.mon_formats.specs.Formats.{report_in};
 ghost use Rattle.mon_formats.specs.Named.{named_report};
 ghost use Rattle.mon_formats.specs.Prometheus.{escaped, read_value};
@@ -20,16 +20,16 @@ pub fn names_in_numbers()
     ensures { (entries : List Entry) → named_report dotted entries ≡ report_of entries }
 {}
 
-/// Equal watches with equal windows have equal reports in each format, where names are shown alike, the station says the same and the same labels are given.
+/// Equal watches with equal windows have equal reports in each format, where names are shown alike, the station says the same, and the same labels and presentation are given.
 pub fn equal_windows()
-    ensures { (format : Format) (shown : List ℕ → List ℕ) (watch : Watch) (some others : ℕ → Samples) (station : Option Figures) (labels : List InstanceLabels) → ((i : ℕ) → some i ≡ others i)
-        → report_in format shown watch some station labels ≡ report_in format shown watch others station labels }
+    ensures { (format : Format) (shown : List ℕ → List ℕ) (watch : Watch) (some others : ℕ → Samples) (station : Option Figures) (labels : List InstanceLabels) (presentation : Presentation) → ((i : ℕ) → some i ≡ others i)
+        → report_in format shown watch some station labels presentation ≡ report_in format shown watch others station labels presentation }
 {}
 
 /// Equal watches that took the same samples, in whatever order and however often, have equal reports in each format.
 pub fn equal_samples()
-    ensures { (format : Format) (shown : List ℕ → List ℕ) (watch : Watch) (some others : List (ℕ × ℕ)) (station : Option Figures) (labels : List InstanceLabels) → IsPartOf some others → IsPartOf others some
-        → report_in format shown watch (window watch some) station labels ≡ report_in format shown watch (window watch others) station labels }
+    ensures { (format : Format) (shown : List ℕ → List ℕ) (watch : Watch) (some others : List (ℕ × ℕ)) (station : Option Figures) (labels : List InstanceLabels) (presentation : Presentation) → IsPartOf some others → IsPartOf others some
+        → report_in format shown watch (window watch some) station labels presentation ≡ report_in format shown watch (window watch others) station labels presentation }
 {
     mon_board::laws::windows_meet();
 }
@@ -37,10 +37,4 @@ pub fn equal_samples()
 /// The value of a label, read as Prometheus reads it up to its closing quote, is the text that was escaped.
 pub fn label_read_back()
     ensures { (value rest : List ℕ) → read_value (flat_map escaped value ++ 34 ∷ rest) ≡ Some (value, rest) }
-{}
-
-/// In a table the names of fresh and of stale instances begin in one column, that of their title, where no instance has ten million samples.
-pub fn names_in_one_column()
-    ensures { (fresh : Bool) (entries : List Entry) → All (λ e. length e.items < 10 ^ 7) entries
-        → All (λ e. length (row_cells (widths_of entries) fresh e) ≡ length (title_cells (widths_of entries))) entries }
 {}

@@ -5,7 +5,6 @@
 mod as_json;
 mod cells;
 mod changes;
-mod columns;
 mod format;
 pub mod laws;
 mod named;
@@ -13,4 +12,6 @@ mod prometheus;
 
 pub use changes::{alarm_line, instance_text};
 pub use format::{Format, format_report};
-pub use mon_page::{Extras, Figures, InstanceLabels, TargetFigures};
+pub use mon_page::{
+    Extras, Figures, InstanceLabels, PeerFigures, Presentation, Sort, TargetFigures,
+};

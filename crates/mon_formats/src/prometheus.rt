@@ -9,7 +9,7 @@ ghost use Rattle.mon_page.specs.Freshness.{fresh, is_fresh};
 ghost use Rattle.mon_page.specs.Labelled.{labelled};
 ghost use Rattle.mon_formats.specs.Prometheus.{prometheus_report, ages_text, age_line, instances_text, metric_text, entry_lines, lines_of, counted_line, number_line, samples_line, rate_line, alarm_line, alarm_labels, state_digit, name_of, metric_line, threshold_text};
 
-mod instance;
+pub(crate) mod instance;
 mod metric;
 mod station;
 mod target;

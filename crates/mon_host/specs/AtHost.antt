@@ -13,6 +13,7 @@ pub data AtHost : Type 0 where
   Listed : List (List ℕ) → AtHost
   Unlisted : Why → AtHost
   AtTerminal : Bool → AtHost
+  OutputAtTerminal : Bool → AtHost
   Printed : List ℕ → AtHost
   Unprinted : List ℕ → Why → AtHost
   Noted : List ℕ → AtHost
@@ -47,6 +48,10 @@ listing_arguments (Err reason) = Unlisted (why reason)
 -- it was said whether standard input is a terminal
 abbrev pub looking_at_terminal : Bool → AtHost
 looking_at_terminal is = AtTerminal is
+
+-- it was said whether standard output is a terminal
+abbrev pub looking_at_output : Bool → AtHost
+looking_at_output is = OutputAtTerminal is
 
 -- octets were printed on standard output
 abbrev pub printing : List ℕ → Result Unit Reason → AtHost

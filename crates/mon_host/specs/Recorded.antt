@@ -20,6 +20,7 @@ refused given = result_map_both (λ value. value) bare given
 abbrev pub step_of : Step → at.AtHost
 step_of (step.Arguments given) = at.listing_arguments (refused given)
 step_of (step.AtTerminal is) = at.AtTerminal is
+step_of (step.OutputAtTerminal is) = at.OutputAtTerminal is
 step_of (step.Print octets given) = at.printing octets.items (refused given)
 step_of (step.Note text) = at.Noted (string_bytes text)
 step_of (step.Input given) = at.reading_input (refused given)

@@ -15,7 +15,7 @@ pub struct Part {
 /// log.
 pub trait Host {
     ghost use Rattle.std.specs.Prelude.{[], ◌∷◌, List, Option};
-    ghost use Rattle.mon_host.specs.AtHost.{AtHost, IsNoted, dating_file, finding, finding_node, listing_arguments, looking_at_terminal, permitting, printing, reading_file, reading_input, reading_part, renaming, telling_date, telling_time, writing};
+    ghost use Rattle.mon_host.specs.AtHost.{AtHost, IsNoted, dating_file, finding, finding_node, listing_arguments, looking_at_output, looking_at_terminal, permitting, printing, reading_file, reading_input, reading_part, renaming, telling_date, telling_time, writing};
     ghost use Rattle.mon_host.specs.Log.{GoesOn, GoesOnBy};
 
     // The log, if there is one.
@@ -28,6 +28,10 @@ pub trait Host {
     /// Returns `true` if standard input is a terminal.
     fn is_at_terminal(&mut self) -> bool
         ensures { GoesOn (looking_at_terminal result ∷ []) (log self.old) (log self.new) };
+
+    /// Returns `true` if standard output is a terminal.
+    fn prints_to_terminal(&mut self) -> bool
+        ensures { GoesOn (looking_at_output result ∷ []) (log self.old) (log self.new) };
 
     /// Prints octets on standard output. Where that fails, a beginning of them may have been
     /// printed.

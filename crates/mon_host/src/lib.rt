@@ -13,4 +13,4 @@ mod system;
 pub use host::{Host, Part};
 pub use reason::Reason;
 pub use recorder::{Given, Page, Recorder, Step};
-pub use system::System;
+pub use system::{System, Terminals};

@@ -18,6 +18,7 @@ use std::time::{Instant, SystemTime};
 pub enum Step {
     Arguments(Result<Vec<String>, ErrorKind>),
     AtTerminal(bool),
+    OutputAtTerminal(bool),
     Print(Vec<u8>, Result<(), ErrorKind>),
     Note(String),
     Input(Result<Vec<u8>, ErrorKind>),
@@ -336,6 +337,11 @@ impl Host for Recorder {
 
     fn is_at_terminal(&mut self) -> bool {
         self.record(Ok(Step::AtTerminal(false)));
+        false
+    }
+
+    fn prints_to_terminal(&mut self) -> bool {
+        self.record(Ok(Step::OutputAtTerminal(false)));
         false
     }
 

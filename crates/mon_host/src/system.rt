@@ -22,21 +22,30 @@ const READS: u32 = 1_048_576;
 /// The mode of a file that all users may read, and only its owner may write.
 const READ_BY_ALL: u32 = 0o644;
 
+/// Which standard streams of a process are terminals.
+#[derive(Clone, Copy)]
+pub struct Terminals {
+    /// Says whether standard input is one.
+    pub input: bool,
+    /// Says whether standard output is one.
+    pub output: bool,
+}
+
 /// The surroundings of the process. No contract knows what is done to them: this is what is
 /// trusted.
 #[derive(Drop)]
 pub struct System<'a, R> {
     rt: &'a R,
-    is_at_terminal: bool,
+    terminals: Terminals,
 }
 
 impl<'a, R: AllocGlobal> System<'a, R> {
-    /// Returns the surroundings of a runtime, whose standard input is a terminal or not.
-    pub fn new(rt: &'a R, is_at_terminal: bool) -> Self
+    /// Returns the surroundings of a runtime, of whose standard streams these are terminals.
+    pub fn new(rt: &'a R, terminals: Terminals) -> Self
         ensures runtime { result.rt.now ≡ rt.now }
-        ensures terminal { result.is_at_terminal ≡ is_at_terminal }
+        ensures terminals { result.terminals ≡ terminals }
     {
-        System { rt, is_at_terminal }
+        System { rt, terminals }
     }
 
     /// Returns what a call gave, with the reason in words if it failed.
@@ -59,7 +68,11 @@ impl<R: Env + Clock + Files<File = File> + Input + Print + Eprint + AllocGlobal>
     }
 
     fn is_at_terminal(&mut self) -> bool {
-        self.is_at_terminal
+        self.terminals.input
+    }
+
+    fn prints_to_terminal(&mut self) -> bool {
+        self.terminals.output
     }
 
     fn print(&mut self, octets: &[u8]) -> Result<(), Reason> {

@@ -11,17 +11,18 @@ use Rattle.mon_labels.specs.declared.fault.LabelsFault.{LabelsFault}
 use Rattle.mon_labels.specs.declared.fault.LabelsFault.TheVariants as fault
 use Rattle.mon_labels.specs.Described.{Described, is_of}
 use Rattle.mon_labels.specs.Key.{key_name}
-use Rattle.mon_labels.specs.Table.{engine_in, index_in, needed_at, only, optional_at, or_bad}
+use Rattle.mon_labels.specs.Table.{engine_in, index_in, needed_at, only, optional_at, or_bad, speed_in}
 
 -- the interface of a table
 unfoldable pub interface_of : Place → Members → Result Described LabelsFault
 interface_of p t = do
-  known ← only p (key.Engine ∷ key.Index ∷ key.IfName ∷ key.IfAlias ∷ []) t
+  known ← only p (key.Engine ∷ key.Index ∷ key.IfName ∷ key.IfAlias ∷ key.Speed ∷ []) t
   engine ← needed_at p key.Engine engine_in t
   index ← needed_at p key.Index index_in t
   name ← optional_at p key.IfName as_str t
   alias ← optional_at p key.IfAlias as_str t
-  Ok (record { engine = engine; index = index; name = name; alias = alias })
+  speed ← optional_at p key.Speed speed_in t
+  Ok (record { engine = engine; index = index; name = name; alias = alias; speed = speed })
 
 -- the interface of this number in the list, which must be a table
 unfoldable pub entry : ℕ → Data → Result Described LabelsFault

@@ -57,6 +57,15 @@ abbrev pub index_of : ℤ → Option ℕ
 index_of (pos n) = if nat_le 1 n && nat_le n 2147483647 then Some n else None
 index_of (negsuc n) = None
 
+-- a speed in bits a second
+abbrev pub speed_of : ℤ → Option ℕ
+speed_of (pos n) = if nat_le 1 n then Some n else None
+speed_of (negsuc n) = None
+
+-- a value that is a speed
+abbrev pub speed_in : Data → Option ℕ
+speed_in d = option_and_then speed_of (as_integer d)
+
 -- a value that is an ifIndex
 abbrev pub index_in : Data → Option ℕ
 index_in d = option_and_then index_of (as_integer d)

@@ -15,6 +15,8 @@ pub struct InterfaceLabels {
     pub if_name: Option<String>,
     /// Its ifAlias, if it is given (RFC 2863).
     pub if_alias: Option<String>,
+    /// Its speed in bits a second, at least 1, if it is given.
+    pub speed: Option<u64>,
 }
 
 // By hand: where one is let go, a proof has one call and not a drop of each field.
@@ -25,6 +27,7 @@ impl Drop for InterfaceLabels {
             index: _,
             if_name: _,
             if_alias: _,
+            speed: _,
         } = self;
     }
 }

@@ -18,6 +18,8 @@ pub enum Key {
     IfName,
     /// Its ifAlias (RFC 2863).
     IfAlias,
+    /// Its speed in bits a second.
+    Speed,
 }
 
 impl Key {
@@ -31,6 +33,7 @@ impl Key {
             Key::Index => "index",
             Key::IfName => "ifName",
             Key::IfAlias => "ifAlias",
+            Key::Speed => "speed",
         }
     }
 
@@ -41,6 +44,7 @@ impl Key {
             Key::Engine => "a text of 10 to 64 hex digits",
             Key::Index => "a number from 1 to 2147483647",
             Key::IfName | Key::IfAlias => "a text",
+            Key::Speed => "a number of bits a second from 1 to 9223372036854775807",
         }
     }
 

@@ -1,19 +1,14 @@
 //! Which instance has which labels.
 
-ghost use Rattle.std.specs.Prelude.{◌≡◌, ◌≤◌, [], IfOk, length, map, option_map, string_bytes};
-ghost use Rattle.mon_labels.specs.Given.{address_of, given, given_from, interface_for, interface_of, is_column, is_column_of, labels_for, polls, target_for};
+ghost use Rattle.std.specs.Prelude.{◌≡◌, [], IfOk, None, Some, map, option_and_then, option_map, slice_get, string_bytes};
+ghost use Rattle.mon_labels.specs.Given.{address_of, device_of, given, given_from, interface_for, labels_by, labels_for, polls, target_for, text_if};
 
 use crate::interface::{InterfaceLabels, find_interface};
 use mon_board::{Instance, Watched};
+use mon_display::interface_of;
 use mon_page::InstanceLabels;
 use mon_poller::Target;
 use std::alloc::{AllocError, Global};
-
-/// What columns of ifTable begin with (RFC 2863 section 6).
-const IF_ENTRY: [u32; 9] = [1, 3, 6, 1, 2, 1, 2, 2, 1];
-
-/// What columns of ifXTable begin with.
-const IF_X_ENTRY: [u32; 10] = [1, 3, 6, 1, 2, 1, 31, 1, 1, 1];
 
 /// The labels of interfaces, in the order of their text.
 #[derive(Debug, Drop)]
@@ -27,6 +22,8 @@ pub struct Reached<'a> {
     pub targets: &'a [Target],
     /// As `a.b.c.d:port`.
     pub addresses: &'a [String],
+    /// The label of each target in the settings, if it has one.
+    pub devices: &'a [Option<String>],
 }
 
 impl Labels {
@@ -40,8 +37,8 @@ impl Labels {
     }
 
     /// Returns the labels of these instances, in their order: the address of the first target that is polled for
-    /// the instance, and the ifName and ifAlias of the interface at its engine, if its name is a column of
-    /// ifTable or ifXTable.
+    /// the instance and that target's label, and the ifName, the ifAlias and the speed of the interface at
+    /// its engine, if its name is a column of ifTable or ifXTable.
     ///
     /// # Errors
     /// `AllocError` if there is no memory for them.
@@ -51,34 +48,32 @@ impl Labels {
         instances: &[Watched],
         reached: Reached<'_>,
     ) -> Result<Vec<InstanceLabels>, AllocError>
-        ensures { IfOk result (λ v. map given v.items ≡ given_from self.now.interfaces.items reached.entry.targets.now reached.entry.addresses.now 0 instances.now) }
+        ensures { IfOk result (λ v. map given v.items ≡ given_from self.now.interfaces.items reached.entry.targets.now reached.entry.addresses.now reached.entry.devices.now 0 instances.now) }
     {
         let mut all = Vec::with_capacity(alloc, instances.len())?;
         for (place, watched) in instances.iter().enumerate() {
             let address = address_of(reached, place);
-            let labels = self.of_instance(alloc, &watched.instance, address)?;
+            let device = device_of(reached, place);
+            let labels = self.of_instance(alloc, &watched.instance, address, device)?;
             all.push(labels)?;
         }
         Ok(all)
     }
 
-    /// Returns the labels of an instance, the address of whose target is this.
+    /// Returns the labels of an instance, of whose target these are the address and the label.
     fn of_instance(
         &self,
         alloc: Global,
         instance: &Instance,
         address: Option<&String>,
+        device: Option<&String>,
     ) -> Result<InstanceLabels, AllocError>
-        ensures { IfOk result (λ l. given l ≡ labels_for self.now.interfaces.items (option_map (λ t. string_bytes t.now) address.entry) instance.now) }
+        ensures { IfOk result (λ l. given l ≡ labels_for self.now.interfaces.items
+            (option_map (λ t. string_bytes t.now) address.entry) (option_map (λ t. string_bytes t.now) device.entry) instance.now) }
     {
         match self.interface_for(instance) {
-            None => joined(alloc, address, None, None),
-            Some(labels) => joined(
-                alloc,
-                address,
-                labels.if_name.as_ref(),
-                labels.if_alias.as_ref(),
-            ),
+            None => of_device(alloc, address, device),
+            Some(labels) => of_interface(alloc, address, device, labels),
         }
     }
 
@@ -97,50 +92,40 @@ impl Labels {
     }
 }
 
-/// Returns the index of the interface that a name is about. `None` if the name is no column of
-/// ifTable or ifXTable with an index of one number (RFC 2863 section 6).
-fn interface_of(name: &[u32]) -> Option<u32>
-    ensures { result ≡ interface_of name.now }
-{
-    if is_column(name) {
-        name.last().copied()
-    } else {
-        None
-    }
-}
-
-/// Returns `true` if a name is that of a column of ifTable or ifXTable.
-fn is_column(name: &[u32]) -> bool
-    ensures { result ≡ is_column name.now }
-{
-    let of_if = is_column_of(&IF_ENTRY, name);
-    let of_if_x = is_column_of(&IF_X_ENTRY, name);
-    of_if || of_if_x
-}
-
-/// Returns `true` if a name is that of a column of this table with an index of one number.
-fn is_column_of(entry: &[u32], name: &[u32]) -> bool
-    requires { length entry.now ≤ 10 }
-    ensures { result ≡ is_column_of entry.now name.now }
-{
-    name.starts_with(entry) && name.len() == entry.len() + 2
-}
-
-/// Returns labels of these texts.
-fn joined(
+/// Returns the labels of an instance of no interface.
+fn of_device(
     alloc: Global,
-    target: Option<&String>,
-    if_name: Option<&String>,
-    if_alias: Option<&String>,
+    address: Option<&String>,
+    device: Option<&String>,
 ) -> Result<InstanceLabels, AllocError>
-    ensures target { IfOk result (λ l. (given l).target ≡ option_map (λ t. string_bytes t.now) target.entry) }
-    ensures name { IfOk result (λ l. (given l).name ≡ option_map (λ t. string_bytes t.now) if_name.entry) }
-    ensures alias { IfOk result (λ l. (given l).alias ≡ option_map (λ t. string_bytes t.now) if_alias.entry) }
+    ensures { IfOk result (λ l. given l
+        ≡ labels_by (option_map (λ t. string_bytes t.now) address.entry) (option_map (λ t. string_bytes t.now) device.entry) None) }
 {
     Ok(InstanceLabels {
-        target: copied(alloc, target)?,
-        if_name: copied(alloc, if_name)?,
-        if_alias: copied(alloc, if_alias)?,
+        target: copied(alloc, address)?,
+        device: copied(alloc, device)?,
+        if_name: None,
+        if_alias: None,
+        speed: None,
+    })
+}
+
+/// Returns the labels of an instance of an interface.
+fn of_interface(
+    alloc: Global,
+    address: Option<&String>,
+    device: Option<&String>,
+    labels: &InterfaceLabels,
+) -> Result<InstanceLabels, AllocError>
+    ensures { IfOk result (λ l. given l
+        ≡ labels_by (option_map (λ t. string_bytes t.now) address.entry) (option_map (λ t. string_bytes t.now) device.entry) (Some labels.now)) }
+{
+    Ok(InstanceLabels {
+        target: copied(alloc, address)?,
+        device: copied(alloc, device)?,
+        if_name: copied(alloc, labels.if_name.as_ref())?,
+        if_alias: copied(alloc, labels.if_alias.as_ref())?,
+        speed: labels.speed,
     })
 }
 
@@ -161,6 +146,26 @@ fn address_of<'a>(reached: Reached<'a>, instance: usize) -> Option<&'a String>
     match target_for(reached.targets, instance) {
         None => None,
         Some(number) => reached.addresses.get(number),
+    }
+}
+
+/// Returns the label of the first target that is polled for the instance of this number.
+fn device_of<'a>(reached: Reached<'a>, instance: usize) -> Option<&'a String>
+    ensures { option_map (λ t. string_bytes t.now) result ≡ device_of reached.entry.targets.now reached.entry.devices.now instance }
+{
+    match target_for(reached.targets, instance) {
+        None => None,
+        Some(number) => label_at(reached.devices, number),
+    }
+}
+
+/// Returns the label at a place, if there is one.
+fn label_at(devices: &[Option<String>], place: usize) -> Option<&String>
+    ensures { option_map (λ t. string_bytes t.now) result ≡ option_and_then text_if (slice_get devices.now place) }
+{
+    match devices.get(place) {
+        None => None,
+        Some(label) => label.as_ref(),
     }
 }
 

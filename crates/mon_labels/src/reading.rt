@@ -23,16 +23,24 @@ const MOST_INTERFACES: usize = 4096;
 fn read_interface(reader: &Reader<'_>) -> Read<InterfaceLabels>
     ensures { Reads described (interface_of reader.now.place (table_view reader.now.table.now)) result }
 {
-    reader.only(&[Key::Engine, Key::Index, Key::IfName, Key::IfAlias])?;
+    reader.only(&[
+        Key::Engine,
+        Key::Index,
+        Key::IfName,
+        Key::IfAlias,
+        Key::Speed,
+    ])?;
     let engine = reader.engine()?;
     let index = reader.index()?;
     let if_name = reader.text(Key::IfName)?;
     let if_alias = reader.text(Key::IfAlias)?;
+    let speed = reader.speed()?;
     Ok(InterfaceLabels {
         engine,
         index,
         if_name,
         if_alias,
+        speed,
     })
 }
 
@@ -145,8 +153,8 @@ fn tree(alloc: Global, text: &str) -> Read<Table>
 
 /// Reads labels of interfaces from a text in TOML 1.1: a list `interface` of at most 4,096 tables, which may be
 /// left out. Of each table the keys, in the order in which they are read: `engine`, the engine id of its agent in hex
-/// digits, 5 to 32 octets; `index`, its ifIndex, 1 to 2147483647; and the texts `ifName` and `ifAlias`, which may be left
-/// out. Unknown keys are refused first.
+/// digits, 5 to 32 octets; `index`, its ifIndex, 1 to 2147483647; and the texts `ifName` and `ifAlias` and the number
+/// `speed`, its bits a second, at least 1, which may be left out. Unknown keys are refused first.
 ///
 /// # Errors
 /// The first fault: `NotToml`; `UnknownKey`, `Missing` and `BadValue` with their place; `Twice` for an interface whose

@@ -6,7 +6,7 @@ ghost use Rattle.std.specs.Map.{keys_of};
 ghost use Rattle.toml.specs.Data.{as_str, get_member};
 ghost use Rattle.toml.specs.View.{view, table_view};
 ghost use Rattle.mon_labels.specs.Key.{key_name};
-ghost use Rattle.mon_labels.specs.Table.{Reads, engine_in, engine_of, first_unknown, index_in, is_one_of, needed_at, only, or_bad, optional_at};
+ghost use Rattle.mon_labels.specs.Table.{Reads, engine_in, engine_of, first_unknown, index_in, is_one_of, needed_at, only, or_bad, optional_at, speed_in};
 
 use crate::fault::{LabelsFault, Place, Read};
 use crate::key::Key;
@@ -98,6 +98,19 @@ impl<'t> Reader<'t> {
         }
     }
 
+    /// Returns the speed, or nothing if the key is left out.
+    pub(crate) fn speed(&self) -> Read<Option<u64>>
+        ensures { result ≡ optional_at self.now.place Key.Speed speed_in (table_view self.now.table.now) }
+    {
+        match find(self.table, Key::Speed) {
+            Some(value) => match speed_in(value) {
+                Some(speed) => Ok(Some(speed)),
+                None => Err(self.bad(Key::Speed)),
+            },
+            None => Ok(None),
+        }
+    }
+
     /// Returns the text at a key, or nothing if the key is left out.
     pub(crate) fn text(&self, key: Key) -> Read<Option<String>>
         ensures { Reads (option_map string_bytes) (optional_at self.now.place key as_str (table_view self.now.table.now)) result }
@@ -109,6 +122,16 @@ impl<'t> Reader<'t> {
             },
             None => Ok(None),
         }
+    }
+}
+
+/// Returns the speed in bits a second that a value is.
+fn speed_in(value: &Value) -> Option<u64>
+    ensures { result ≡ speed_in (view value.now) }
+{
+    match u64::try_from(value.as_integer()?) {
+        Ok(speed) if 1 <= speed => Some(speed),
+        _ => None,
     }
 }
 

@@ -3,4 +3,8 @@ pub mod Escapes
 pub mod Chains
 pub mod Dates
 pub mod Promised
-pub mod InstanceRows
+pub mod Instances
+pub mod Neighbours
+pub mod Plotted
+pub mod Sharing
+pub mod Stale

@@ -43,6 +43,10 @@ abbrev pub alarm_cell : List Alarm → List ℕ
 alarm_cell [] = codes "-"
 alarm_cell (a ∷ rest) = if list_any (λ alarm. is_raised alarm.state) (a ∷ rest) then codes "RAISED" else codes "clear"
 
+-- an alarm is raised
+abbrev pub has_raised : List Alarm → Bool
+has_raised alarms = list_any (λ alarm. is_raised alarm.state) alarms
+
 -- what is said of an instance's alarms, if it is fresh; else that it is stale
 abbrev pub state_cell : Bool → List Alarm → List ℕ
 state_cell false alarms = codes "stale"

@@ -13,6 +13,6 @@ labelled labels [] = []
 labelled [] (e ∷ es) = (e, None) ∷ labelled [] es
 labelled (l ∷ labels) (e ∷ es) = (e, Some l) ∷ labelled labels es
 
--- labels without ifName and ifAlias
-abbrev pub IsNameless : InstanceLabels → Type 0
-IsNameless l = (l.if_name ≡ None) × (l.if_alias ≡ None)
+-- labels that say nothing
+abbrev pub IsUnlabelled : InstanceLabels → Type 0
+IsUnlabelled l = (l.target ≡ None) × (l.device ≡ None) × (l.if_name ≡ None) × (l.if_alias ≡ None) × (l.speed ≡ None)

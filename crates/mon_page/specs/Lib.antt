@@ -2,8 +2,12 @@ pub mod Escape
 pub mod Between
 pub mod Style
 pub mod Cells
-pub mod Plot
 pub mod Labelled
 pub mod Freshness
+pub mod Rows
+pub mod Words
+pub mod Seats
+pub mod Devices
+pub mod Plot
 pub mod Dates
 pub mod Page

@@ -3,7 +3,7 @@
 ghost use Rattle.std.specs.Prelude.{◌≡◌, IfOk};
 ghost use Rattle.std.specs.List.{list_any};
 ghost use Rattle.mon_alarms.specs.Changes.{is_raised};
-ghost use Rattle.mon_page.specs.Cells.{alarm_cell, state_cell};
+ghost use Rattle.mon_page.specs.Cells.{alarm_cell, has_raised, state_cell};
 
 use mon_report::{Alarm, Entry};
 use std::alloc::{AllocError, Global};
@@ -33,6 +33,14 @@ fn alarm_cell(alloc: Global, entry: &Entry) -> Result<&'static str, AllocError>
         return Ok("RAISED");
     }
     Ok("clear")
+}
+
+/// Returns `true` if an alarm of a rule on the instance is raised.
+pub(crate) fn has_raised(alloc: Global, entry: &Entry) -> Result<bool, AllocError>
+    ensures { IfOk result (λ raised. raised ≡ has_raised entry.now.alarms) }
+{
+    let alarms = entry.alarms(alloc)?;
+    Ok(is_any_raised(&alarms))
 }
 
 /// Returns `true` if one of the alarms is raised.

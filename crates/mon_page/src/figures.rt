@@ -13,6 +13,8 @@ pub struct Figures {
     pub given_up: u64,
     /// By the station number of each peer how many samples it owes that peer.
     pub debts: Vec<(u32, u32)>,
+    /// What it says of each peer, in the order of its settings.
+    pub peers: Vec<PeerFigures>,
     /// How many of its saves failed since its start.
     pub failed_saves: u64,
     /// How many datagrams came since its start from an address of no target and no peer.
@@ -40,6 +42,7 @@ impl Drop for Figures {
             taken: _,
             given_up: _,
             debts: _,
+            peers: _,
             failed_saves: _,
             strangers: _,
             round_at: _,
@@ -50,6 +53,18 @@ impl Drop for Figures {
             interval: _,
         } = self;
     }
+}
+
+/// What a station says of a peer.
+#[derive(Clone, Copy, Debug)]
+pub struct PeerFigures {
+    /// The peer's station number.
+    pub station: u32,
+    /// How many whole rounds went by since a datagram came from its address, or since the station's
+    /// start.
+    pub rounds: u32,
+    /// Says whether it is silent: as many rounds went by as make an instance stale.
+    pub silent: bool,
 }
 
 /// What a station says of a target.

@@ -5,20 +5,26 @@
 #![tactic(auto)]
 
 pub(crate) mod cells;
+mod devices;
 mod escape;
 mod extras;
 mod figures;
 mod freshness;
+mod head;
 pub mod laws;
-mod name;
+mod numbers;
 mod page;
 mod plot;
-mod rows;
-mod station;
+mod row;
+mod seats;
+mod section;
 mod style;
+mod table;
+mod words;
+mod wrong;
 
 pub use cells::state_cell;
-pub use extras::{Extras, InstanceLabels};
-pub use figures::{Figures, TargetFigures};
+pub use extras::{Extras, InstanceLabels, Presentation, Sort};
+pub use figures::{Figures, PeerFigures, TargetFigures};
 pub use freshness::{fresh_rate, is_fresh};
 pub use page::page_report;

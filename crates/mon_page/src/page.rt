@@ -1,24 +1,28 @@
 //! The document.
 
-ghost use Rattle.std.specs.Prelude.{◌≡◌, ◌++◌, IfOk, OnOk, None, Some, ◌==◌, if◌then◌else◌, option_map};
+ghost use Rattle.std.specs.Prelude.{◌≡◌, ◌++◌, IfOk, None, OnOk, Some, ◌==◌, if◌then◌else◌, option_map, string_bytes};
+ghost use Rattle.mon_page.specs.Devices.{devices};
 ghost use Rattle.mon_page.specs.Labelled.{labelled};
-ghost use Rattle.mon_page.specs.Page.{refresh_text, first_lines, title_lines, heading_lines, head_text, refresh_of, body_text, page_text};
+ghost use Rattle.mon_page.specs.Page.{body_text, counts_of, counts_text, device_sections, first_lines, head_text, page_text, refresh_of, refresh_text, start_text, title_start};
+ghost use Rattle.mon_page.specs.Rows.{rows_of};
 
+use crate::devices::{Device, devices_of};
 use crate::escape::put_between;
 use crate::extras::Extras;
 use crate::figures::Figures;
-use crate::freshness::{ages_of, limit_of};
-use crate::rows::{Listing, put_table};
-use crate::station::put_station_if;
+use crate::head::{counts_of, put_counts, put_origin, put_title};
+use crate::row::{Row, rows_of};
+use crate::section::{Sections, put_sections};
 use crate::style::put_style;
+use crate::wrong::put_wrong;
 use itoa::Buffer;
 use mon_report::Entry;
 use mon_smi::NameTexts;
 use std::alloc::{AllocError, Global};
 
-/// Makes the page of a report, with the names of instances as `names` has them, and below each name the ifName and
-/// the ifAlias of its labels. A browser loads the page of a running station again after the station's interval.
-/// The buffer's octets are dropped, and its capacity is used again.
+/// Makes the page of a report: how it is with the station, what is wrong now, and a section for each device. Names
+/// of instances are as `names` has them. A browser loads the page of a running station again after the station's
+/// interval. The buffer's octets are dropped, and its capacity is used again.
 ///
 /// # Errors
 /// `AllocError` if there is no memory for it.
@@ -30,17 +34,23 @@ pub fn page_report<S: NameTexts>(
     entries: &[Entry],
     extras: Extras<'_>,
 ) -> Result<Vec<u8>, AllocError>
-    ensures { IfOk result (λ text. text.items ≡ page_text (S.shown names.now) (labelled extras.entry.labels.now entries.now) (option_map (λ f. f.now) extras.entry.station)) }
+    ensures { IfOk result (λ text. text.items ≡ page_text (S.shown names.now) (labelled extras.entry.labels.now entries.now) (option_map (λ f. f.now) extras.entry.station) extras.entry.presentation.now) }
 {
     let mut text = buffer;
     text.clear();
-    put_head(&mut text, refresh_of(extras.station))?;
+    put_head_of(&mut text, extras)?;
     put_body(alloc, &mut text, names, entries, extras)?;
     Ok(text)
 }
 
+/// Adds the head of the document.
+fn put_head_of(text: &mut Vec<u8>, extras: Extras<'_>) -> Result<(), AllocError>
+    ensures { OnOk result (text.new.items ≡ text.old.items ++ head_text (option_map (λ f. f.now) extras.entry.station) (option_map (λ l. string_bytes l) extras.entry.presentation.now.label)) }
+{
+    put_head(text, extras.station, extras.presentation.label.as_deref())
+}
+
 /// Adds what follows the head.
-#[tactic(auto, unfolding(crate::specs::Page::body_text))]
 fn put_body<S: NameTexts>(
     alloc: Global,
     text: &mut Vec<u8>,
@@ -48,17 +58,93 @@ fn put_body<S: NameTexts>(
     entries: &[Entry],
     extras: Extras<'_>,
 ) -> Result<(), AllocError>
-    ensures { OnOk result (text.new.items ≡ text.old.items ++ body_text (S.shown names.now) (labelled extras.entry.labels.now entries.now) (option_map (λ f. f.now) extras.entry.station)) }
+    ensures { OnOk result (text.new.items ≡ text.old.items
+        ++ body_text (S.shown names.now) (rows_of (option_map (λ f. f.now) extras.entry.station) (labelled extras.entry.labels.now entries.now)) (option_map (λ f. f.now) extras.entry.station) extras.entry.presentation.now.file_age) }
 {
-    put_station_if(text, extras.station)?;
-    let listing = Listing {
-        entries,
-        labels: extras.labels,
-        ages: ages_of(extras.station),
-        limit: limit_of(extras.station),
-    };
-    put_table(alloc, text, names, listing)?;
-    put_between(text, b"</body>\n", b"</html>\n", b"")
+    let rows = rows_of(alloc, entries, extras)?;
+    put_rows(
+        alloc,
+        text,
+        names,
+        rows.as_slice(),
+        Origin {
+            station: extras.station,
+            file_age: extras.presentation.file_age,
+        },
+    )
+}
+
+/// What a page is of: a station, or a file of this age.
+#[derive(Clone, Copy)]
+struct Origin<'a> {
+    station: Option<&'a Figures>,
+    file_age: Option<u64>,
+}
+
+/// Adds what follows the head, of these instances.
+#[tactic(auto, unfolding(crate::specs::Page::body_text))]
+fn put_rows<S: NameTexts>(
+    alloc: Global,
+    text: &mut Vec<u8>,
+    names: &S,
+    rows: &[Row],
+    origin: Origin<'_>,
+) -> Result<(), AllocError>
+    ensures { OnOk result (text.new.items ≡ text.old.items ++ body_text (S.shown names.now) rows.now (option_map (λ f. f.now) origin.entry.station) origin.entry.file_age) }
+{
+    put_origin(text, origin.station, origin.file_age)?;
+    put_row_counts(alloc, text, origin.station, rows)?;
+    put_wrong(alloc, text, names, rows, origin.station)?;
+    put_row_sections(alloc, text, names, origin.station, rows)?;
+    text.extend_from_slice(b"</body>\n</html>\n")
+}
+
+/// Adds the counts of instances.
+fn put_row_counts(
+    alloc: Global,
+    text: &mut Vec<u8>,
+    station: Option<&Figures>,
+    rows: &[Row],
+) -> Result<(), AllocError>
+    ensures { OnOk result (text.new.items ≡ text.old.items ++ counts_text (option_map (λ f. f.now) station.entry) (counts_of (option_map (λ f. f.now) station.entry) rows.now)) }
+{
+    let counts = counts_of(alloc, station, rows)?;
+    put_counts(text, station, counts)
+}
+
+/// Adds the sections of instances' devices.
+fn put_row_sections<S: NameTexts>(
+    alloc: Global,
+    text: &mut Vec<u8>,
+    names: &S,
+    station: Option<&Figures>,
+    rows: &[Row],
+) -> Result<(), AllocError>
+    ensures { OnOk result (text.new.items ≡ text.old.items ++ device_sections (S.shown names.now) (option_map (λ f. f.now) station.entry) (devices rows.now)) }
+{
+    let found = devices_of(alloc, rows)?;
+    put_device_sections(alloc, text, names, station, found.as_slice())
+}
+
+/// Adds the sections of devices.
+fn put_device_sections<S: NameTexts>(
+    alloc: Global,
+    text: &mut Vec<u8>,
+    names: &S,
+    station: Option<&Figures>,
+    found: &[Device],
+) -> Result<(), AllocError>
+    ensures { OnOk result (text.new.items ≡ text.old.items ++ device_sections (S.shown names.now) (option_map (λ f. f.now) station.entry) found.now) }
+{
+    put_sections(
+        alloc,
+        text,
+        names,
+        Sections {
+            station,
+            devices: found,
+        },
+    )
 }
 
 /// Returns after how many seconds a browser loads the page again, or `None` if it does not.
@@ -83,14 +169,30 @@ fn refresh_after(interval: u32) -> Option<u32>
 
 /// Adds the head of the document.
 #[tactic(auto, unfolding(crate::specs::Page::head_text))]
-fn put_head(text: &mut Vec<u8>, refresh: Option<u32>) -> Result<(), AllocError>
-    ensures { OnOk result (text.new.items ≡ text.old.items ++ head_text refresh) }
+fn put_head(
+    text: &mut Vec<u8>,
+    station: Option<&Figures>,
+    label: Option<&str>,
+) -> Result<(), AllocError>
+    ensures { OnOk result (text.new.items ≡ text.old.items ++ head_text (option_map (λ f. f.now) station.entry) (option_map (λ l. l.now) label.entry)) }
+{
+    put_start(text, station)?;
+    put_title(text, station, label)?;
+    text.extend_from_slice(b"</title>\n<style>")?;
+    put_style(text)?;
+    text.extend_from_slice(b"</style>\n</head>\n<body>\n<header>\n<h1>")?;
+    put_title(text, station, label)?;
+    text.extend_from_slice(b"</h1>\n")
+}
+
+/// Adds what is before the title.
+#[tactic(auto, unfolding(crate::specs::Page::start_text))]
+fn put_start(text: &mut Vec<u8>, station: Option<&Figures>) -> Result<(), AllocError>
+    ensures { OnOk result (text.new.items ≡ text.old.items ++ start_text (option_map (λ f. f.now) station.entry)) }
 {
     text.extend_from_slice(first_lines())?;
-    put_refresh(text, refresh)?;
-    text.extend_from_slice(title_lines())?;
-    put_style(text)?;
-    text.extend_from_slice(heading_lines())
+    put_station_refresh(text, station)?;
+    text.extend_from_slice(title_start())
 }
 
 /// Returns the beginning of the document.
@@ -101,20 +203,19 @@ fn first_lines() -> &'static [u8]
     b"<!DOCTYPE html>\n<html lang=\"en\">\n<head>\n<meta charset=\"utf-8\">\n"
 }
 
-/// Returns what is between the refresh and the style.
-#[tactic(auto, unfolding(crate::specs::Page::title_lines))]
-fn title_lines() -> &'static [u8]
-    ensures { result.now ≡ title_lines }
+/// Returns what is between the refresh and the title.
+#[tactic(auto, unfolding(crate::specs::Page::title_start))]
+fn title_start() -> &'static [u8]
+    ensures { result.now ≡ title_start }
 {
-    b"<meta name=\"viewport\" content=\"width=device-width, initial-scale=1\">\n<title>snmpmon</title>\n<style>"
+    b"<meta name=\"viewport\" content=\"width=device-width, initial-scale=1\">\n<title>"
 }
 
-/// Returns what is between the style and the station.
-#[tactic(auto, unfolding(crate::specs::Page::heading_lines))]
-fn heading_lines() -> &'static [u8]
-    ensures { result.now ≡ heading_lines }
+/// Adds after how many seconds a browser loads the page again, if it does.
+fn put_station_refresh(text: &mut Vec<u8>, station: Option<&Figures>) -> Result<(), AllocError>
+    ensures { OnOk result (text.new.items ≡ text.old.items ++ refresh_text (refresh_of (option_map (λ f. f.now) station.entry))) }
 {
-    b"</style>\n</head>\n<body>\n<h1>snmpmon</h1>\n"
+    put_refresh(text, refresh_of(station))
 }
 
 /// Adds after how many seconds a browser loads the page again, if given.

@@ -1,22 +1,43 @@
 //! The plot of a window.
 
-ghost use Rattle.std.specs.Prelude.{◌≡◌, ◌++◌, OnOk, true, false, option_copied};
-ghost use Rattle.mon_page.specs.Plot.{level, joins, before_at, widened, scale_of, across, below_top, point_text, point_if, points_from, is_counted, limit_level, with_rule, with_rules, limit_line, rule_lines, plot_start, plot_middle, plot_end, plot_text, plot_cell};
+ghost use Rattle.std.specs.Prelude.{◌≡◌, ◌++◌, OnOk, None, Some, option_copied};
 ghost use Rattle.std.specs.List.{flat_map};
-ghost use Rattle.mon_page.specs.Cells.{newest_of};
+ghost use Rattle.mon_display.specs.Interface.{column_of};
+ghost use Rattle.mon_page.specs.Plot.{level, before_at, widened, no_scale, scale_of, distance, later, span_of, across, below_top, spot_of, is_missed, joins, start_of, down_text, line_text, dot_text, stroke_text, points_from, limit_level, with_rule, with_rules, limit_line, limit_path, rule_lines, limits_text, greatest_words, limit_words, limit_note, notes_text, frame_of, drawing_text, plot_of, plot_start, start_words};
 
 use crate::escape::put_between;
+use crate::numbers::put_wide;
+use crate::row::Row;
+use crate::words::{is_counted, put_level, put_now};
 use itoa::Buffer;
 use mon_alarms::Rule;
+use mon_display::Column;
 use mon_rates::{Totals, is_counter};
 use mon_sample::Sample;
-use std::alloc::AllocError;
+use std::alloc::{AllocError, Global};
 
 /// The lowest and the highest level of a plot.
 #[derive(Clone, Copy)]
 pub(crate) struct Scale {
     pub low: u128,
     pub high: u128,
+}
+
+/// What the points of a plot depend on.
+#[derive(Clone, Copy)]
+pub(crate) struct Frame {
+    pub scale: Scale,
+    /// How many seconds after the first sample the last one is.
+    pub span: u64,
+    /// The number of samples that have one before them.
+    pub pairs: usize,
+}
+
+/// A point of a plot.
+#[derive(Clone, Copy)]
+pub(crate) struct Spot {
+    pub x: u128,
+    pub y: u128,
 }
 
 /// Returns a counter's rate from the sample before, in thousandths, if there is one; else the value, moved up
@@ -30,18 +51,6 @@ fn level(before: Option<&Sample>, sample: &Sample) -> Option<u128>
     match before {
         None => None,
         Some(before) => Totals::between(before, sample).thousandths(),
-    }
-}
-
-/// Returns `true` if neither the agent's boots nor the discontinuity value changed since the sample before.
-fn joins(before: Option<&Sample>, sample: &Sample) -> bool
-    ensures { result ≡ joins (option_copied before.entry) sample.now }
-{
-    match before {
-        None => false,
-        Some(before) => {
-            before.boots() == sample.boots() && before.discontinuity() == sample.discontinuity()
-        }
     }
 }
 
@@ -68,27 +77,75 @@ fn widened(scale: Scale, level: Option<u128>) -> Scale
     }
 }
 
-/// Returns the lowest and the highest level of samples.
-fn scale_of(samples: &[Sample]) -> Scale
-    ensures { result ≡ scale_of samples.now }
+/// Returns the scale of no sample: of a counter it begins at 0.
+fn no_scale(counted: bool) -> Scale
+    ensures { result ≡ no_scale counted }
 {
-    let mut scale = Scale {
-        low: u128::MAX,
+    Scale {
+        low: if counted { 0 } else { u128::MAX },
         high: 0,
-    };
+    }
+}
+
+/// Returns the lowest and the highest level of samples.
+fn scale_of(counted: bool, samples: &[Sample]) -> Scale
+    ensures { result ≡ scale_of counted samples.now }
+{
+    let mut scale = no_scale(counted);
     for place in 0..samples.len() {
         scale = widened(scale, level(before_at(samples, place), &samples[place]));
     }
     scale
 }
 
-/// Returns how far from the left a place is: the newest of so many samples at the right edge, at 1000.
-fn across(count: usize, place: usize) -> u128
-    ensures { result ≡ across count place }
+/// Returns how many seconds a sample is after the one before.
+fn distance(before: Option<&Sample>, sample: &Sample) -> u32
+    ensures { result ≡ distance (option_copied before.entry) sample.now }
 {
-    let newest = (count as u128).saturating_sub(1);
-    let behind = newest.saturating_sub(place as u128);
-    1000 - (behind * 1000 / newest.max(1)).min(1000)
+    match before {
+        None => 0,
+        Some(before) => seconds_after(before, sample),
+    }
+}
+
+/// Returns the difference of the agent's time, or, after other boots, its time.
+fn seconds_after(before: &Sample, sample: &Sample) -> u32
+    ensures { result ≡ distance (Some before.now) sample.now }
+{
+    if before.boots() == sample.boots() {
+        sample.time().saturating_sub(before.time())
+    } else {
+        sample.time()
+    }
+}
+
+/// Returns seconds and seconds more; of more than 2^63 seconds those of 2^63.
+fn later(elapsed: u64, seconds: u32) -> u64
+    ensures { result ≡ later elapsed seconds }
+{
+    elapsed.min(1 << 63) + u64::from(seconds)
+}
+
+/// Returns how many seconds after the first sample the last one is.
+fn span_of(samples: &[Sample]) -> u64
+    ensures { result ≡ span_of samples.now }
+{
+    let mut elapsed = 0;
+    for place in 0..samples.len() {
+        elapsed = later(
+            elapsed,
+            distance(before_at(samples, place), &samples[place]),
+        );
+    }
+    elapsed
+}
+
+/// Returns how far from the left a sample is that is this many seconds after the first: the newest is at 240.
+fn across(span: u64, elapsed: u64) -> u128
+    ensures { result ≡ across span elapsed }
+{
+    let behind = u128::from(span.saturating_sub(elapsed));
+    240 - (behind * 240 / u128::from(span.max(1))).min(240)
 }
 
 /// Returns how far from the top a level is.
@@ -97,109 +154,134 @@ fn below_top(scale: Scale, level: u128) -> u128
 {
     let above = level.saturating_sub(scale.low).min(1 << 100);
     let span = scale.high.saturating_sub(scale.low).max(1);
-    200 - (above * 200 / span).min(200)
+    40 - (above * 40 / span).min(40)
 }
 
-/// A place in a plot.
-#[derive(Clone, Copy)]
-struct Spot {
-    /// The number of samples of the plot.
-    count: usize,
-    place: usize,
-    /// A line goes to it from the point before.
-    joined: bool,
-}
-
-/// Adds a line to a point.
-#[tactic(auto, unfolding(crate::specs::Plot::point_text))]
-fn put_line(text: &mut Vec<u8>, x: u128, y: u128) -> Result<(), AllocError>
-    ensures { OnOk result (text.new.items ≡ text.old.items ++ point_text true x y) }
+/// Returns the point of a sample, if something is plotted of it.
+fn spot_of(frame: Frame, elapsed: u64, level: Option<u128>) -> Option<Spot>
+    ensures { result ≡ spot_of frame elapsed level }
 {
-    let mut digits = Buffer::new();
-    let right = digits.format(x);
-    put_between(text, b"L", right.as_bytes(), b" ")?;
-    let down = digits.format(y);
-    text.extend_from_slice(down.as_bytes())
+    match level {
+        None => None,
+        Some(level) => Some(Spot {
+            x: across(frame.span, elapsed),
+            y: below_top(frame.scale, level),
+        }),
+    }
 }
 
-/// Adds a dot at a point.
-#[tactic(auto, unfolding(crate::specs::Plot::point_text))]
-fn put_dot(text: &mut Vec<u8>, x: u128, y: u128) -> Result<(), AllocError>
-    ensures { OnOk result (text.new.items ≡ text.old.items ++ point_text false x y) }
+/// Returns `true` if rounds were missed: the distance is more than twice the mean of all.
+fn is_missed(frame: Frame, seconds: u32) -> bool
+    ensures { result ≡ is_missed frame seconds }
 {
-    let mut digits = Buffer::new();
-    let right = digits.format(x);
-    put_between(text, b"M", right.as_bytes(), b" ")?;
-    let down = digits.format(y);
-    put_between(text, b"", down.as_bytes(), b"h0")
+    2 * u128::from(frame.span) < u128::from(seconds) * (frame.pairs as u128)
+}
+
+/// Returns `true` if a line goes on from the sample before.
+fn joins(frame: Frame, before: Option<&Sample>, sample: &Sample) -> bool
+    ensures { result ≡ joins frame (option_copied before.entry) sample.now }
+{
+    match before {
+        None => false,
+        Some(before) => is_next(frame, before, sample),
+    }
+}
+
+/// Returns `true` if neither boots nor the discontinuity value changed, and no rounds were missed.
+fn is_next(frame: Frame, before: &Sample, sample: &Sample) -> bool
+    ensures { result ≡ joins frame (Some before.now) sample.now }
+{
+    before.boots() == sample.boots()
+        && (before.discontinuity() == sample.discontinuity()
+            && !is_missed(frame, seconds_after(before, sample)))
+}
+
+/// Returns where a line goes on from.
+fn start_of(
+    frame: Frame,
+    before: Option<&Sample>,
+    sample: &Sample,
+    spot: Option<Spot>,
+) -> Option<Spot>
+    ensures { result ≡ start_of frame (option_copied before.entry) sample.now spot }
+{
+    if joins(frame, before, sample) {
+        spot
+    } else {
+        None
+    }
+}
+
+/// Adds how far down a line goes, or up.
+fn put_down(text: &mut Vec<u8>, y: u128, down: u128) -> Result<(), AllocError>
+    ensures { OnOk result (text.new.items ≡ text.old.items ++ down_text y down) }
+{
+    if down < y {
+        text.extend_from_slice(b"-")?;
+        put_wide(text, y - down)
+    } else {
+        text.extend_from_slice(b" ")?;
+        put_wide(text, down.saturating_sub(y))
+    }
+}
+
+/// Adds a line from one point to another.
+#[tactic(auto, unfolding(crate::specs::Plot::line_text))]
+fn put_line(text: &mut Vec<u8>, from: Spot, to: Spot) -> Result<(), AllocError>
+    ensures { OnOk result (text.new.items ≡ text.old.items ++ line_text from to) }
+{
+    text.extend_from_slice(b"l")?;
+    put_wide(text, to.x.saturating_sub(from.x))?;
+    put_down(text, from.y, to.y)
+}
+
+/// Adds a dot.
+#[tactic(auto, unfolding(crate::specs::Plot::dot_text))]
+fn put_dot(text: &mut Vec<u8>, spot: Spot) -> Result<(), AllocError>
+    ensures { OnOk result (text.new.items ≡ text.old.items ++ dot_text spot) }
+{
+    text.extend_from_slice(b"M")?;
+    put_wide(text, spot.x)?;
+    text.extend_from_slice(b" ")?;
+    put_wide(text, spot.y)?;
+    text.extend_from_slice(b"h0")
+}
+
+/// Adds a line to a point, or a dot there, if something is plotted.
+fn put_stroke(text: &mut Vec<u8>, start: Option<Spot>, spot: Option<Spot>) -> Result<(), AllocError>
+    ensures { OnOk result (text.new.items ≡ text.old.items ++ stroke_text start spot) }
+{
+    match spot {
+        None => Ok(()),
+        Some(spot) => put_spot(text, start, spot),
+    }
 }
 
 /// Adds a line to a point, or a dot there.
-#[tactic(auto, unfolding(crate::specs::Plot::point_text))]
-fn put_point(text: &mut Vec<u8>, joined: bool, x: u128, y: u128) -> Result<(), AllocError>
-    ensures { OnOk result (text.new.items ≡ text.old.items ++ point_text joined x y) }
+fn put_spot(text: &mut Vec<u8>, start: Option<Spot>, spot: Spot) -> Result<(), AllocError>
+    ensures { OnOk result (text.new.items ≡ text.old.items ++ stroke_text start (Some spot)) }
 {
-    if joined {
-        put_line(text, x, y)
-    } else {
-        put_dot(text, x, y)
+    match start {
+        None => put_dot(text, spot),
+        Some(start) => put_line(text, start, spot),
     }
 }
 
-/// Adds the point of a sample, if something is plotted of it.
-fn put_point_if(
-    text: &mut Vec<u8>,
-    scale: Scale,
-    spot: Spot,
-    level: Option<u128>,
-) -> Result<(), AllocError>
-    ensures { OnOk result (text.new.items ≡ text.old.items ++ point_if scale spot.count spot.joined spot.place level) }
+/// Adds the strokes of samples.
+fn put_points(text: &mut Vec<u8>, frame: Frame, samples: &[Sample]) -> Result<(), AllocError>
+    ensures { OnOk result (text.new.items ≡ text.old.items ++ points_from samples.now frame None 0 0 samples.now) }
 {
-    match level {
-        None => Ok(()),
-        Some(level) => put_point(
-            text,
-            spot.joined,
-            across(spot.count, spot.place),
-            below_top(scale, level),
-        ),
-    }
-}
-
-/// Adds the points of samples.
-fn put_points(text: &mut Vec<u8>, scale: Scale, samples: &[Sample]) -> Result<(), AllocError>
-    ensures { OnOk result (text.new.items ≡ text.old.items ++ points_from samples.now scale false 0 samples.now) }
-{
-    let count = samples.len();
-    let mut after = false;
-    for place in 0..count {
+    let mut spot = None;
+    let mut elapsed = 0;
+    for place in 0..samples.len() {
         let sample = &samples[place];
         let before = before_at(samples, place);
-        let level = level(before, sample);
-        let joined = after && joins(before, sample);
-        put_point_if(
-            text,
-            scale,
-            Spot {
-                count,
-                place,
-                joined,
-            },
-            level,
-        )?;
-        after = level.is_some();
+        let start = start_of(frame, before, sample, spot);
+        elapsed = later(elapsed, distance(before, sample));
+        spot = spot_of(frame, elapsed, level(before, sample));
+        put_stroke(text, start, spot)?;
     }
     Ok(())
-}
-
-/// Returns `true` if the samples are a counter's.
-fn is_counted(samples: &[Sample]) -> bool
-    ensures { result ≡ is_counted (newest_of samples.now) }
-{
-    let Some(newest) = samples.last() else {
-        return false;
-    };
-    is_counter(newest.kind())
 }
 
 /// Returns a threshold in thousandths as a level: of a counter a rate, else a value, moved up as values are.
@@ -244,7 +326,7 @@ fn put_limit(text: &mut Vec<u8>, scale: Scale, level: u128) -> Result<(), AllocE
 {
     let mut digits = Buffer::new();
     let down = digits.format(below_top(scale, level));
-    put_between(text, b"M0 ", down.as_bytes(), b"H1000")
+    put_between(text, b"M0 ", down.as_bytes(), b"h240")
 }
 
 /// Adds the lines of a rule.
@@ -271,55 +353,224 @@ fn put_rules(
     Ok(())
 }
 
-/// Adds the cell of the plot of samples with these rules.
-pub(crate) fn put_plot(
+/// Adds the path of the thresholds, if there are rules.
+fn put_limits(
     text: &mut Vec<u8>,
-    samples: &[Sample],
+    counted: bool,
+    scale: Scale,
     rules: &[Rule],
 ) -> Result<(), AllocError>
-    ensures { OnOk result (text.new.items ≡ text.old.items ++ plot_cell samples.now rules.now) }
+    ensures { OnOk result (text.new.items ≡ text.old.items ++ limits_text counted scale rules.now) }
 {
-    let scale = with_rules(is_counted(samples), scale_of(samples), rules);
-    put_plot_text(text, scale, samples, rules)
+    if rules.is_empty() {
+        return Ok(());
+    }
+    put_limit_path(text, counted, scale, rules)
 }
 
-/// Adds the points and the thresholds in this scale.
-#[tactic(auto, unfolding(crate::specs::Plot::plot_text))]
-fn put_plot_text(
+/// Adds the path of the thresholds.
+#[tactic(auto, unfolding(crate::specs::Plot::limit_path))]
+fn put_limit_path(
     text: &mut Vec<u8>,
+    counted: bool,
     scale: Scale,
-    samples: &[Sample],
     rules: &[Rule],
 ) -> Result<(), AllocError>
-    ensures { OnOk result (text.new.items ≡ text.old.items ++ plot_text scale samples.now rules.now) }
+    ensures { OnOk result (text.new.items ≡ text.old.items ++ limit_path counted scale rules.now) }
+{
+    text.extend_from_slice(b"<path class=\"limit\" d=\"")?;
+    put_rules(text, counted, scale, rules)?;
+    text.extend_from_slice(b"\"/>")
+}
+
+/// Adds the greatest level, unless it is 0.
+fn put_greatest(
+    alloc: Global,
+    text: &mut Vec<u8>,
+    column: Column,
+    counted: bool,
+    level: u128,
+) -> Result<(), AllocError>
+    ensures { OnOk result (text.new.items ≡ text.old.items ++ greatest_words column counted level) }
+{
+    if level == 0 {
+        return Ok(());
+    }
+    text.extend_from_slice(b"max ")?;
+    put_level(alloc, text, column, counted, level)
+}
+
+/// Adds the rising threshold of a rule.
+pub(crate) fn put_limit_words(
+    alloc: Global,
+    text: &mut Vec<u8>,
+    column: Column,
+    counted: bool,
+    rule: &Rule,
+) -> Result<(), AllocError>
+    ensures { OnOk result (text.new.items ≡ text.old.items ++ limit_words column counted rule.now) }
+{
+    put_level(
+        alloc,
+        text,
+        column,
+        counted,
+        limit_level(counted, rule.rising()),
+    )
+}
+
+/// Adds the rising threshold of a rule behind other words.
+#[tactic(auto, unfolding(crate::specs::Plot::limit_note))]
+fn put_limit_note(
+    alloc: Global,
+    text: &mut Vec<u8>,
+    column: Column,
+    counted: bool,
+    rule: &Rule,
+) -> Result<(), AllocError>
+    ensures { OnOk result (text.new.items ≡ text.old.items ++ limit_note column counted rule.now) }
+{
+    text.extend_from_slice(b" limit ")?;
+    put_limit_words(alloc, text, column, counted, rule)
+}
+
+/// Adds the rising thresholds of all rules.
+fn put_limit_notes(
+    alloc: Global,
+    text: &mut Vec<u8>,
+    column: Column,
+    counted: bool,
+    rules: &[Rule],
+) -> Result<(), AllocError>
+    ensures { OnOk result (text.new.items ≡ text.old.items ++ flat_map (limit_note column counted) rules.now) }
+{
+    for rule in rules {
+        put_limit_note(alloc, text, column, counted, rule)?;
+    }
+    Ok(())
+}
+
+/// A plot of an instance: its samples, their own scale, and the rules on it.
+#[derive(Clone, Copy)]
+struct Drawing<'r, 'a, 'e> {
+    row: &'r Row<'a, 'e>,
+    counted: bool,
+    own: Scale,
+    samples: &'r [Sample],
+    rules: &'r [Rule],
+}
+
+/// Returns the frame of the plot of samples in this scale.
+fn frame_of(scale: Scale, samples: &[Sample]) -> Frame
+    ensures { result ≡ frame_of scale samples.now }
+{
+    Frame {
+        scale,
+        span: span_of(samples),
+        pairs: samples.len().saturating_sub(1),
+    }
+}
+
+/// Adds the strokes of a plot.
+fn put_strokes(text: &mut Vec<u8>, drawing: Drawing) -> Result<(), AllocError>
+    ensures { OnOk result (text.new.items ≡ text.old.items
+        ++ points_from drawing.entry.samples.now (frame_of (with_rules drawing.entry.counted drawing.entry.own drawing.entry.rules.now) drawing.entry.samples.now) None 0 0 drawing.entry.samples.now) }
+{
+    let scale = with_rules(drawing.counted, drawing.own, drawing.rules);
+    let frame = frame_of(scale, drawing.samples);
+    put_points(text, frame, drawing.samples)
+}
+
+/// Adds the lines of thresholds, if there are rules.
+fn put_thresholds(text: &mut Vec<u8>, drawing: Drawing) -> Result<(), AllocError>
+    ensures { OnOk result (text.new.items ≡ text.old.items
+        ++ limits_text drawing.entry.counted (with_rules drawing.entry.counted drawing.entry.own drawing.entry.rules.now) drawing.entry.rules.now) }
+{
+    let scale = with_rules(drawing.counted, drawing.own, drawing.rules);
+    put_limits(text, drawing.counted, scale, drawing.rules)
+}
+
+/// Adds what is said below a plot.
+fn put_notes(alloc: Global, text: &mut Vec<u8>, drawing: Drawing) -> Result<(), AllocError>
+    ensures { OnOk result (text.new.items ≡ text.old.items
+        ++ notes_text (column_of drawing.entry.row.now.entry.name) drawing.entry.counted drawing.entry.own.high drawing.entry.rules.now) }
+{
+    let counted = drawing.counted;
+    let high = drawing.own.high;
+    put_notes_of(
+        alloc,
+        text,
+        drawing.row.column(),
+        (counted, high),
+        drawing.rules,
+    )
+}
+
+/// Adds the greatest level, unless it is 0, and the rising thresholds.
+#[tactic(auto, unfolding(crate::specs::Plot::notes_text))]
+fn put_notes_of(
+    alloc: Global,
+    text: &mut Vec<u8>,
+    column: Column,
+    level: (bool, u128),
+    rules: &[Rule],
+) -> Result<(), AllocError>
+    ensures { OnOk result (text.new.items ≡ text.old.items ++ notes_text column level.0 level.1 rules.now) }
+{
+    let (counted, high) = level;
+    put_greatest(alloc, text, column, counted, high)?;
+    put_limit_notes(alloc, text, column, counted, rules)
+}
+
+/// Adds the plot of an instance, with the greatest level and the thresholds below it.
+pub(crate) fn put_plot(alloc: Global, text: &mut Vec<u8>, row: &Row) -> Result<(), AllocError>
+    ensures { OnOk result (text.new.items ≡ text.old.items ++ plot_of row.now) }
+{
+    let rules = row.entry().rules(alloc)?;
+    let samples = row.entry().samples();
+    let counted = is_counted(samples);
+    put_drawing(
+        alloc,
+        text,
+        Drawing {
+            row,
+            counted,
+            own: scale_of(counted, samples),
+            samples,
+            rules: rules.as_slice(),
+        },
+    )
+}
+
+/// Adds a plot.
+#[tactic(auto, unfolding(crate::specs::Plot::drawing_text))]
+fn put_drawing(alloc: Global, text: &mut Vec<u8>, drawing: Drawing) -> Result<(), AllocError>
+    ensures { OnOk result (text.new.items ≡ text.old.items
+        ++ drawing_text drawing.entry.row.now drawing.entry.counted drawing.entry.own drawing.entry.samples.now drawing.entry.rules.now) }
+{
+    put_plot_start(alloc, text, drawing.row)?;
+    text.extend_from_slice(b"\"><path d=\"")?;
+    put_strokes(text, drawing)?;
+    text.extend_from_slice(b"\"/>")?;
+    put_thresholds(text, drawing)?;
+    text.extend_from_slice(b"</svg><small>")?;
+    put_notes(alloc, text, drawing)?;
+    text.extend_from_slice(b"</small>")
+}
+
+/// Adds the value now, and what is before it.
+#[tactic(auto, unfolding(crate::specs::Plot::start_words))]
+fn put_plot_start(alloc: Global, text: &mut Vec<u8>, row: &Row) -> Result<(), AllocError>
+    ensures { OnOk result (text.new.items ≡ text.old.items ++ start_words row.now) }
 {
     text.extend_from_slice(plot_start())?;
-    put_points(text, scale, samples)?;
-    text.extend_from_slice(plot_middle())?;
-    put_rules(text, is_counted(samples), scale, rules)?;
-    text.extend_from_slice(plot_end())
+    put_now(alloc, text, row)
 }
 
-/// Returns what is between the points and the thresholds.
-#[tactic(auto, unfolding(crate::specs::Plot::plot_middle))]
-fn plot_middle() -> &'static [u8]
-    ensures { result.now ≡ plot_middle }
-{
-    b"\"/><path class=\"limit\" d=\""
-}
-
-/// Returns what is before the points.
+/// Returns what is before the value now.
 #[tactic(auto, unfolding(crate::specs::Plot::plot_start))]
 fn plot_start() -> &'static [u8]
     ensures { result.now ≡ plot_start }
 {
-    b"<td><svg viewBox=\"0 -10 1000 220\" preserveAspectRatio=\"none\"><path d=\""
-}
-
-/// Returns what is after the points.
-#[tactic(auto, unfolding(crate::specs::Plot::plot_end))]
-fn plot_end() -> &'static [u8]
-    ensures { result.now ≡ plot_end }
-{
-    b"\"/></svg></td>"
+    b"<svg viewBox=\"0 -2 240 44\" preserveAspectRatio=\"none\" role=\"img\" aria-label=\""
 }

@@ -1,7 +1,7 @@
 //! The style of the page.
 
 ghost use Rattle.std.specs.Prelude.{◌≡◌, ◌++◌, OnOk};
-ghost use Rattle.mon_page.specs.Style.{colours, layout, marks, narrow, labels, style_text};
+ghost use Rattle.mon_page.specs.Style.{colours, layout, counts, marks, plots, narrow, style_text};
 
 use std::alloc::AllocError;
 
@@ -10,39 +10,47 @@ use std::alloc::AllocError;
 fn colours() -> &'static [u8]
     ensures { result.now ≡ colours }
 {
-    b":root{color-scheme:light dark;--line:#0a58ca;--limit:#b02a37;--muted:#595959;--edge:#8886}@media (prefers-color-scheme:dark){:root{--line:#6ea8fe;--limit:#ea868f;--muted:#adadad}}"
+    b":root{color-scheme:light dark;--line:#0a58ca;--limit:#b02a37;--good:#146c43;--muted:#595959;--edge:#8886}@media (prefers-color-scheme:dark){:root{--line:#6ea8fe;--limit:#ea868f;--good:#75b798;--muted:#adadad}}"
 }
 
-/// Returns the style of the text and the table.
+/// Returns the style of the text and the tables.
 #[tactic(auto, unfolding(crate::specs::Style::layout))]
 fn layout() -> &'static [u8]
     ensures { result.now ≡ layout }
 {
-    b"body{font:16px/1.4 system-ui,sans-serif;margin:1rem;max-width:72rem}table{border-collapse:collapse;width:100%}th,td{border-top:1px solid var(--edge);padding:.25rem .5rem;text-align:left;overflow-wrap:anywhere}small{display:block;opacity:.7}"
+    b"body{font:15px/1.35 system-ui,sans-serif;font-variant-numeric:tabular-nums;margin:1rem;max-width:80rem;overflow-wrap:anywhere}h1,h2,h3,p,ul{margin:.4rem 0}h1{font-size:1.4rem}h2{font-size:1.15rem}h3{font-size:1rem}ul{padding-left:1.2rem}small{color:var(--muted);font-weight:normal}a{color:var(--line)}table{border-collapse:collapse;width:100%;margin-bottom:1rem}caption{text-align:left;color:var(--muted)}th,td{border-top:1px solid var(--edge);padding:.2rem .5rem;text-align:right;vertical-align:top}tbody th,td.t,th:first-child,.i th:nth-child(2){text-align:left}"
 }
 
-/// Returns the style of what is down, raised or stale, and of the plots.
+/// Returns the style of the counts.
+#[tactic(auto, unfolding(crate::specs::Style::counts))]
+fn counts() -> &'static [u8]
+    ensures { result.now ≡ counts }
+{
+    b".counts{display:flex;flex-wrap:wrap;gap:.5rem;list-style:none;padding:0}.counts li{border:1px solid var(--edge);padding:.3rem .7rem}.counts b{font-size:1.4rem}.bad,.down,.RAISED .s,li.RAISED b{color:var(--limit);font-weight:bold}.up{color:var(--good)}"
+}
+
+/// Returns the style of states, of stale rows, and of what is closed.
 #[tactic(auto, unfolding(crate::specs::Style::marks))]
 fn marks() -> &'static [u8]
     ensures { result.now ≡ marks }
 {
-    b".down,.RAISED{color:var(--limit);font-weight:bold}.stale{color:var(--muted);font-style:italic}svg{display:block;width:100%;max-width:12rem;height:3rem}path{fill:none;stroke:var(--line);stroke-width:2;stroke-linecap:round;vector-effect:non-scaling-stroke}.limit{stroke:var(--limit);stroke-width:1}"
+    b".s,li.RAISED b{white-space:nowrap}.s,thead th,li.RAISED b{overflow-wrap:normal}.stale{color:var(--muted);font-style:italic}.stale path{stroke:var(--muted)}th div{font-weight:normal}.closed>div{display:none}.closed:target>div{display:block}"
 }
 
-/// Returns the style of a narrow window, where rows are blocks.
+/// Returns the style of plots and bars.
+#[tactic(auto, unfolding(crate::specs::Style::plots))]
+fn plots() -> &'static [u8]
+    ensures { result.now ≡ plots }
+{
+    b"svg{display:block;width:100%;max-width:15rem;height:2.5rem;margin-left:auto}path{fill:none;stroke:var(--line);stroke-width:1.5;stroke-linecap:round;vector-effect:non-scaling-stroke}.limit{stroke:var(--limit);stroke-width:1}meter{width:5rem;margin-left:.4rem}"
+}
+
+/// Returns the style of a narrow window, where rows are blocks, and of paper.
 #[tactic(auto, unfolding(crate::specs::Style::narrow))]
 fn narrow() -> &'static [u8]
     ensures { result.now ≡ narrow }
 {
-    b"@media (max-width:40rem){thead{display:none}tr{display:grid;grid-template-columns:1fr 1fr;border-top:1px solid var(--edge);padding:.5rem 0}td{border:0;padding:.1rem .5rem .1rem 0}td:first-child,td:last-child{grid-column:1/-1}td::before{display:block;font-size:.8em;font-weight:normal;opacity:.7}"
-}
-
-/// Returns the titles of the table, before each figure of such a row.
-#[tactic(auto, unfolding(crate::specs::Style::labels))]
-fn labels() -> &'static [u8]
-    ensures { result.now ≡ labels }
-{
-    b"td:nth-child(2)::before{content:'Value'}td:nth-child(3)::before{content:'Rate'}td:nth-child(4)::before{content:'Alarm'}td:nth-child(5)::before{content:'Age in rounds'}}"
+    b"@media (max-width:45rem){table,caption,tbody,tr,th,td{display:block;width:auto}thead{display:none}th,td,td.t{border:0;text-align:left}tr{border-top:1px solid var(--edge);padding:.4rem 0}svg{margin-left:0}td::before{color:var(--muted);font-weight:normal;font-style:normal}.i td:nth-child(3)::before{content:'In '}.i td:nth-child(4)::before{content:'Out '}.i td:nth-child(6)::before,.o td:nth-child(5)::before{content:'Alarm '}.i td:nth-child(7)::before,.o td:nth-child(6)::before{content:'Age in rounds '}.o td:nth-child(2)::before{content:'Value '}.o td:nth-child(3)::before{content:'Rate '}}@media print{.closed>div{display:block}a{color:inherit}tr{break-inside:avoid}}"
 }
 
 /// Adds the style.
@@ -52,7 +60,8 @@ pub(crate) fn put_style(text: &mut Vec<u8>) -> Result<(), AllocError>
 {
     text.extend_from_slice(colours())?;
     text.extend_from_slice(layout())?;
+    text.extend_from_slice(counts())?;
     text.extend_from_slice(marks())?;
-    text.extend_from_slice(narrow())?;
-    text.extend_from_slice(labels())
+    text.extend_from_slice(plots())?;
+    text.extend_from_slice(narrow())
 }

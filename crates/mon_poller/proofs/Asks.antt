@@ -1,5 +1,5 @@
 -- The bindings of a poll.
-use Rattle.std.proofs.Common.{◌≡◌, ℕ, List, [], ◌∷◌, map, sym, ap, subst, ◌∙◌, Result, Ok, Err}
+use Rattle.std.proofs.Common.{◌≡◌, ℕ, List, [], ◌∷◌, map, refl, sym, ap, subst, ◌∙◌, Result, Ok, Err}
 use Rattle.std.specs.Prelude.{IfOk}
 use Rattle.std.specs.List.{AllByRecursion, flat_map}
 use Rattle.mon_ber.specs.declared.value.Value.TheVariants.{Name}
@@ -26,3 +26,8 @@ all_spelled names bs (Ok texts) asked is each =
     subst (λ (ts : List (List ℕ)). SpellNames ts names) (sym (is ∙ ap (λ (xs : List Binding). map (λ (b : Binding). spelled_name b.name) xs) asked))
     (asked_spelled names (subst (λ (xs : List Binding). AllByRecursion (λ (b : Binding). Spells (spelled_name b.name) (Name b.name)) xs) asked each))
 all_spelled names bs (Err e) asked is each = tt
+
+-- the names of bindings that ask for names are those names
+pub names_back : (names : List (List ℕ)) → map (λ (b : Binding). b.name) (map unspecified names) ≡ names
+names_back [] = refl
+names_back (n ∷ ns) = ap (λ (rest : List (List ℕ)). n ∷ rest) (names_back ns)

@@ -5,6 +5,7 @@ pub mod Instances
 pub mod Offering
 pub mod Readings
 pub mod Responds
+pub mod Said
 pub mod Short
 pub mod Slots
 pub mod Steps

@@ -36,6 +36,29 @@ pub(crate) fn asked_octets(alloc: Global, target: &Target) -> Result<Octets, All
     }
 }
 
+/// Returns the names that a poll of a target asks for, in their order: the stamp's, and then each
+/// object's, directly followed by its discontinuity's if it has one.
+///
+/// # Errors
+/// `AllocError` if there is no memory for them.
+pub fn poll_names(alloc: Global, target: &Target) -> Result<Vec<Oid>, AllocError>
+    ensures { IfOk result (λ names. names.items ≡ poll_names target.now) }
+{
+    let bindings = asked_bindings(alloc, target)?;
+    names_of(alloc, bindings.as_slice())
+}
+
+/// Returns the names of these bindings.
+fn names_of(alloc: Global, bindings: &[Binding]) -> Result<Vec<Oid>, AllocError>
+    ensures { IfOk result (λ names. names.items ≡ map (λ b. b.name) bindings.now) }
+{
+    let mut names = Vec::with_capacity(alloc, bindings.len())?;
+    for binding in bindings {
+        names.push(binding.name.try_clone(alloc)?)?;
+    }
+    Ok(names)
+}
+
 /// The names of a target's polls, each as it is spelled in a datagram.
 pub(crate) fn spelled_names(alloc: Global, target: &Target) -> Result<Names, AllocError>
     ensures { IfOk result (λ names. SpellNames names (poll_names target.now)) }

@@ -16,9 +16,12 @@ mod names;
 mod offers;
 mod poller;
 pub mod stamp;
+mod status;
 mod target;
 
+pub use asking::poll_names;
 pub use fault::{PollFault, ResponseFault};
 pub use lent::Stamp;
 pub use poller::{Offered, Poller, Request, TimedOut};
+pub use status::status_name;
 pub use target::{Object, Objects, Target, are_targets};

@@ -1,5 +1,5 @@
 -- The reading of each table of a station returns what the table is, and nothing else.
-use Rattle.std.proofs.Common.{◌≡◌, ◌↔◌, ℕ, Bool, true, false, ◌&&◌, if◌then◌else◌, List, [], map, Option, Some, None, Result, Ok, Err, refl, sym, ap, ◌∙◌, subst}
+use Rattle.std.proofs.Common.{◌≡◌, ◌↔◌, ℕ, Bool, true, false, ◌&&◌, if◌then◌else◌, List, [], map, Option, Some, None, option_map, Result, Ok, Err, refl, sym, ap, ◌∙◌, subst}
 use Rattle.std.specs.Prelude.{min}
 use Rattle.mon_alarms.specs.Rule.{Rule}
 use Rattle.mon_board.specs.declared.instance.Watched.{Watched}
@@ -18,7 +18,7 @@ use Rattle.mon_settings.specs.declared.station_tables.PeerRow.{PeerRow}
 use Rattle.mon_settings.specs.declared.station_tables.TargetRow.{TargetRow}
 use Rattle.mon_settings.specs.Key.{key_name}
 use Rattle.mon_settings.specs.Grammar.{station_keys, table_keys}
-use Rattle.mon_settings.specs.Keys.{or_bad, only, needed_at, default_at}
+use Rattle.mon_settings.specs.Keys.{or_bad, only, needed_at, default_at, optional_at}
 use Rattle.mon_settings.specs.Leaf.{number_in, text_in, hex_in, addr_in, list_between, texts_in}
 use Rattle.mon_settings.specs.Lists.{rows, rows_between, rows_up_to}
 use Rattle.mon_settings.specs.Placing.{instances_of_rows, with_alarms}
@@ -89,8 +89,9 @@ scalars_of-from t x h =
     let (v3, p3, h4) = bind_from (needed_at key.Window (number_in 1 64) t) _ x h3 in
     let (v4, p4, h5) = bind_from (default_at key.Epoch v3 (number_in 1 v3) t) _ x h4 in
     let (v5, p5, h6) = bind_from (needed_at key.WaitMs (number_in 1 60000) t) _ x h5 in
-    let made : Scalars = record { station = v0; listen = v1; file = v2; sizes = record { window = v3; epoch = v4 }; wait_ms = v5 } in
-    let is : made ≡ x = ok_same made x h6 in
+    let (v6, p6, h7) = bind_from (optional_at key.Label (text_in 1 64) t) _ x h6 in
+    let made : Scalars = record { station = v0; listen = v1; file = v2; sizes = record { window = v3; epoch = v4 }; wait_ms = v5; label = v6 } in
+    let is : made ≡ x = ok_same made x h7 in
     subst (λ (y : Scalars). IsScalars t y) is (record {
       station = needed_from key.Station (number_in 1 4294967295) t _ p0;
       listen = needed_from key.Listen addr_in t _ p1;
@@ -98,6 +99,7 @@ scalars_of-from t x h =
       window = needed_from key.Window (number_in 1 64) t _ p3;
       epoch = default_from key.Epoch (number_in 1 v3) t _ v3 p4;
       wait_ms = needed_from key.WaitMs (number_in 1 60000) t _ p5;
+      label = default_from key.Label (λ d. option_map Some (text_in 1 64 d)) t _ None p6;
     })
 
 scalars_of-to : (t : Members) (x : Scalars) → IsScalars t x → scalars_of t ≡ Ok x
@@ -109,7 +111,8 @@ scalars_of-to t x h =
     (bind_to (needed_at key.Window (number_in 1 64) t) _ x.sizes.window x (needed_to key.Window (number_in 1 64) t _ h.window)
     (bind_to (default_at key.Epoch x.sizes.window (number_in 1 x.sizes.window) t) _ x.sizes.epoch x (default_to key.Epoch (number_in 1 x.sizes.window) t _ x.sizes.window h.epoch)
     (bind_to (needed_at key.WaitMs (number_in 1 60000) t) _ x.wait_ms x (needed_to key.WaitMs (number_in 1 60000) t _ h.wait_ms)
-    refl)))))
+    (bind_to (optional_at key.Label (text_in 1 64) t) _ x.label x (default_to key.Label (λ d. option_map Some (text_in 1 64 d)) t _ None h.label)
+    refl))))))
 
 pub scalars_of-is : (t : Members) (x : Scalars) → (scalars_of t ≡ Ok x) ↔ IsScalars t x
 scalars_of-is t x = (scalars_of-from t x, scalars_of-to t x)
@@ -211,8 +214,9 @@ module _ (defs : List Definition) (find : List ℕ → Option (List ℕ)) (means
         let (v2, p2, h3) = bind_from (needed_at key.Community (text_in 1 512) t) _ x h2 in
         let (v3, p3, h4) = bind_from (needed_at key.Engine (hex_in 5 32) t) _ x h3 in
         let (v4, p4, h5) = bind_from (needed_at key.Tries (number_in 1 8) t) _ x h4 in
-        let (v5, p5, h6) = bind_from (rows_between key.Objects 1 16 (object_of find sizes) t) _ x h5 in
-        let made : TargetRow = record { address = v1; community = v2; engine = v3; tries = v4; objects = v5 } in
+        let (v6, p6, h7) = bind_from (optional_at key.Label (text_in 1 64) t) _ x h5 in
+        let (v5, p5, h6) = bind_from (rows_between key.Objects 1 16 (object_of find sizes) t) _ x h7 in
+        let made : TargetRow = record { address = v1; community = v2; engine = v3; tries = v4; label = v6; objects = v5 } in
         let is : made ≡ x = ok_same made x h6 in
         subst (λ (y : TargetRow). IsPolled defs sizes t y) is (record {
           known = only_from (table_keys key.Target) t _ p0;
@@ -220,6 +224,7 @@ module _ (defs : List Definition) (find : List ℕ → Option (List ℕ)) (means
           community = needed_from key.Community (text_in 1 512) t _ p2;
           engine = needed_from key.Engine (hex_in 5 32) t _ p3;
           tries = needed_from key.Tries (number_in 1 8) t _ p4;
+          label = default_from key.Label (λ d. option_map Some (text_in 1 64 d)) t _ None p6;
           objects = between_from key.Objects (object_of find sizes) (IsObject defs sizes) object_of-is t _ 1 16 p5;
         })
 
@@ -231,8 +236,9 @@ module _ (defs : List Definition) (find : List ℕ → Option (List ℕ)) (means
         (bind_to (needed_at key.Community (text_in 1 512) t) _ x.community x (needed_to key.Community (text_in 1 512) t _ h.community)
         (bind_to (needed_at key.Engine (hex_in 5 32) t) _ x.engine x (needed_to key.Engine (hex_in 5 32) t _ h.engine)
         (bind_to (needed_at key.Tries (number_in 1 8) t) _ x.tries x (needed_to key.Tries (number_in 1 8) t _ h.tries)
+        (bind_to (optional_at key.Label (text_in 1 64) t) _ x.label x (default_to key.Label (λ d. option_map Some (text_in 1 64 d)) t _ None h.label)
         (bind_to (rows_between key.Objects 1 16 (object_of find sizes) t) _ x.objects x (between_to key.Objects (object_of find sizes) (IsObject defs sizes) object_of-is t _ 1 16 h.objects)
-        refl)))))
+        refl))))))
 
     pub target_of-is : (t : Members) (x : TargetRow) → (target_of find sizes t ≡ Ok x) ↔ IsPolled defs sizes t x
     target_of-is t x = (target_of-from t x, target_of-to t x)
@@ -308,10 +314,12 @@ module _ (defs : List Definition) (find : List ℕ → Option (List ℕ)) (means
       let made : Station = record {
         core = core_from v1.station v3 v5 v4 v6;
         listen = v1.listen;
+        label = v1.label;
         file = v1.file;
         wait_ms = v1.wait_ms;
         modules = v2;
         peer_addresses = map (λ (p : PeerRow). p.address) v5;
+        target_labels = map (λ (r : TargetRow). r.label) v3;
       } in
       let is : made ≡ x = ok_same made x h7 in
       let sharing = peers_from v1.station v3 t v5 p5 in
@@ -335,9 +343,11 @@ module _ (defs : List Definition) (find : List ℕ → Option (List ℕ)) (means
         rules = (rules_are v4 watched.rising alarms v6).0 placed;
         core = refl;
         listen = refl;
+        label = refl;
         file = refl;
         wait_ms = refl;
         addresses = refl;
+        labels = refl;
       })
 
   station_of-to : (t : Members) (x : Station) → IsStation defs t x → station_of find t ≡ Ok x
@@ -346,18 +356,22 @@ module _ (defs : List Definition) (find : List ℕ → Option (List ℕ)) (means
       let made : Station = record {
         core = core_from h.scalars.station h.targets h.peers x.core.watch.instances x.core.watch.rules;
         listen = h.scalars.listen;
+        label = h.scalars.label;
         file = h.scalars.file;
         wait_ms = h.scalars.wait_ms;
         modules = x.modules;
         peer_addresses = map (λ (p : PeerRow). p.address) h.peers;
+        target_labels = map (λ (r : TargetRow). r.label) h.targets;
       } in
       let is : made ≡ x = λ i. record {
         core = h.core i;
         listen = h.listen i;
+        label = h.label i;
         file = h.file i;
         wait_ms = h.wait_ms i;
         modules = x.modules;
         peer_addresses = h.addresses i;
+        target_labels = h.labels i;
       } in
       bind_to (only station_keys t) _ tt x (only_to station_keys t h.known)
       (bind_to (scalars_of t) _ h.scalars x (scalars_of-to t h.scalars h.plain)

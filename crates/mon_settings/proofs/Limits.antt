@@ -21,7 +21,7 @@ use Rattle.mon_settings.specs.declared.station_tables.ObjectRow.{ObjectRow}
 use Rattle.mon_settings.specs.declared.station_tables.TargetRow.{TargetRow}
 use Rattle.mon_settings.specs.StationAccepted.{Scalars}
 use Rattle.mon_settings.specs.Grammar.{table_keys}
-use Rattle.mon_settings.specs.Keys.{or_bad_at, only, needed_at, default_at, within}
+use Rattle.mon_settings.specs.Keys.{or_bad_at, only, needed_at, default_at, optional_at, within}
 use Rattle.mon_settings.specs.Leaf.{bounded, number_in, sized, text_in, ok_of, hex_of, hex_in, addr_in, count, between, list_between}
 use Rattle.mon_settings.specs.Lists.{row, rows, rows_between, rows_up_to}
 use Rattle.mon_settings.specs.Resolving.{name_at, name_or_none}
@@ -153,8 +153,9 @@ scalars_limits t s h =
     let (v3, p3, h4) = bind_from (needed_at key.Window (number_in 1 64) t) _ s h3 in
     let (v4, p4, h5) = bind_from (default_at key.Epoch v3 (number_in 1 v3) t) _ s h4 in
     let (v5, p5, h6) = bind_from (needed_at key.WaitMs (number_in 1 60000) t) _ s h5 in
-    let made : Scalars = record { station = v0; listen = v1; file = v2; sizes = record { window = v3; epoch = v4 }; wait_ms = v5 } in
-    let is : made ≡ s = ok_same made s h6 in
+    let (v6, p6, h7) = bind_from (optional_at key.Label (text_in 1 64) t) _ s h6 in
+    let made : Scalars = record { station = v0; listen = v1; file = v2; sizes = record { window = v3; epoch = v4 }; wait_ms = v5; label = v6 } in
+    let is : made ≡ s = ok_same made s h7 in
     let window = number_at key.Window 1 64 t v3 p3 in
     let epoch = either_limits key.Epoch 1 v3 v3 t v4 (window.0, omega arith) p4 in
     subst (λ (x : Scalars). AreSizes x.sizes.window x.sizes.epoch) is (record { positive = epoch.0; within = epoch.1; small = window.1 })
@@ -185,8 +186,9 @@ module _ (find : List ℕ → Option (List ℕ)) (sizes : Sizes) (fit : AreSizes
       let (v2, p2, h3) = bind_from (needed_at key.Community (text_in 1 512) t) _ r h2 in
       let (v3, p3, h4) = bind_from (needed_at key.Engine (hex_in 5 32) t) _ r h3 in
       let (v4, p4, h5) = bind_from (needed_at key.Tries (number_in 1 8) t) _ r h4 in
-      let (v5, p5, h6) = bind_from (rows_between key.Objects 1 16 (object_of find sizes) t) _ r h5 in
-      let made : TargetRow = record { address = v1; community = v2; engine = v3; tries = v4; objects = v5 } in
+      let (v6, p6, h7) = bind_from (optional_at key.Label (text_in 1 64) t) _ r h5 in
+      let (v5, p5, h6) = bind_from (rows_between key.Objects 1 16 (object_of find sizes) t) _ r h7 in
+      let made : TargetRow = record { address = v1; community = v2; engine = v3; tries = v4; label = v6; objects = v5 } in
       let is : made ≡ r = ok_same made r h6 in
       let (d2, there2, value2) = needed_from key.Community (text_in 1 512) t v2 p2 in
       let (d3, there3, value3) = needed_from key.Engine (hex_in 5 32) t v3 p3 in

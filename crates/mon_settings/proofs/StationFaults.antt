@@ -1,5 +1,5 @@
 -- A tree is refused as a station's settings for a key, a value or a name in it, and for nothing else.
-use Rattle.std.proofs.Common.{◌≡◌, refl, ℕ, ◌+◌, ◌&&◌, nat_le, List, [], ◌∷◌, length, map, Option, Some, None, Result, Ok, Err, ap, sym, subst}
+use Rattle.std.proofs.Common.{◌≡◌, refl, ℕ, ◌+◌, ◌&&◌, nat_le, List, [], ◌∷◌, length, map, Option, Some, None, option_map, Result, Ok, Err, ap, sym, subst}
 use Rattle.std.specs.Prelude.{int_lt, min}
 use Rattle.mon_alarms.specs.Rule.{Rule}
 use Rattle.mon_board.specs.Instance.{named}
@@ -20,7 +20,7 @@ use Rattle.mon_settings.specs.declared.station_tables.PeerRow.{PeerRow}
 use Rattle.mon_settings.specs.declared.station_tables.TargetRow.{TargetRow}
 use Rattle.mon_settings.specs.Key.{key_name}
 use Rattle.mon_settings.specs.Grammar.{station_keys, table_keys}
-use Rattle.mon_settings.specs.Keys.{or_bad, or_bad_at, only, needed_at, default_at, within}
+use Rattle.mon_settings.specs.Keys.{or_bad, or_bad_at, only, needed_at, default_at, optional_at, within}
 use Rattle.mon_settings.specs.Leaf.{number_in, text_in, hex_in, addr_in, list_between, texts_in}
 use Rattle.mon_settings.specs.Lists.{row, rows, rows_between, rows_up_to}
 use Rattle.mon_settings.specs.Place.{at}
@@ -108,7 +108,8 @@ scalars_of-own t =
     bind_own (needed_at key.Window (number_in 1 64) t) _ (needed_own key.Window (number_in 1 64) t) (λ v3.
     bind_own (default_at key.Epoch v3 (number_in 1 v3) t) _ (default_own key.Epoch (number_in 1 v3) v3 t) (λ v4.
     bind_own (needed_at key.WaitMs (number_in 1 60000) t) _ (needed_own key.WaitMs (number_in 1 60000) t) (λ v5.
-    λ e h. absurd cc))))))
+    bind_own (optional_at key.Label (text_in 1 64) t) _ (default_own key.Label (λ d. option_map Some (text_in 1 64 d)) None t) (λ v6.
+    λ e h. absurd cc)))))))
 
 instances-own : (targets : List TargetRow) → Own (instances_of_rows targets)
 unfolding instances_of_rows
@@ -175,8 +176,9 @@ module _ (find : List ℕ → Option (List ℕ)) where
       bind_told (needed_at key.Community (text_in 1 512) t) _ (told _ (needed_own key.Community (text_in 1 512) t)) (λ v2.
       bind_told (needed_at key.Engine (hex_in 5 32) t) _ (told _ (needed_own key.Engine (hex_in 5 32) t)) (λ v3.
       bind_told (needed_at key.Tries (number_in 1 8) t) _ (told _ (needed_own key.Tries (number_in 1 8) t)) (λ v4.
+      bind_told (optional_at key.Label (text_in 1 64) t) _ (told _ (default_own key.Label (λ d. option_map Some (text_in 1 64 d)) None t)) (λ v6.
       bind_told (rows_between key.Objects 1 16 (object_of find sizes) t) _ (between_told key.Objects (object_of find sizes) (object_of-told sizes) 1 16 t) (λ v5.
-      λ e h. absurd cc))))))
+      λ e h. absurd cc)))))))
 
   alarm_of-told : (sizes : Sizes) (t : Members) → Told (alarm_of find sizes t)
   unfolding alarm_of

@@ -15,7 +15,7 @@ use Rattle.mon_settings.specs.declared.station.Scalars.{Scalars as AnyScalars}
 use Rattle.mon_settings.specs.declared.station_tables.PeerRow.{PeerRow}
 use Rattle.mon_settings.specs.declared.station_tables.TargetRow.{TargetRow}
 use Rattle.mon_settings.specs.Grammar.{station_keys}
-use Rattle.mon_settings.specs.Keys.{only, needed_at, default_at}
+use Rattle.mon_settings.specs.Keys.{only, needed_at, default_at, optional_at}
 use Rattle.mon_settings.specs.Leaf.{number_in, text_in, addr_in, texts_in}
 use Rattle.mon_settings.specs.Lists.{rows_between, rows_up_to}
 use Rattle.mon_settings.specs.SettingsFault.{bad_value}
@@ -25,7 +25,7 @@ use Rattle.mon_settings.specs.Tables.{all_pairs}
 
 -- what is outside of the lists, as contracts compare it
 abbrev pub scalars_view : AnyScalars → Scalars
-scalars_view s = record { station = s.station; listen = s.listen; file = string_bytes s.file; sizes = s.sizes; wait_ms = s.wait_ms }
+scalars_view s = record { station = s.station; listen = s.listen; file = string_bytes s.file; sizes = s.sizes; wait_ms = s.wait_ms; label = s.label }
 
 -- what is outside of the lists; the epoch is the window if it is left out
 unfoldable pub scalars_of : Members → Result Scalars SettingsFault
@@ -36,7 +36,15 @@ scalars_of t = do
   window ← needed_at key.Window (number_in 1 64) t
   epoch ← default_at key.Epoch window (number_in 1 window) t
   wait_ms ← needed_at key.WaitMs (number_in 1 60000) t
-  Ok (record { station = station; listen = listen; file = file; sizes = record { window = window; epoch = epoch }; wait_ms = wait_ms })
+  label ← optional_at key.Label (text_in 1 64) t
+  Ok (record {
+    station = station;
+    listen = listen;
+    file = file;
+    sizes = record { window = window; epoch = epoch };
+    wait_ms = wait_ms;
+    label = label;
+  })
 
 -- the module files, none where the key is left out
 abbrev pub modules_at : Members → Result (List (List ℕ)) SettingsFault
@@ -78,8 +86,10 @@ station_of find t = do
   Ok (record {
     core = core_from scalars.station targets peers instances rules;
     listen = scalars.listen;
+    label = scalars.label;
     file = scalars.file;
     wait_ms = scalars.wait_ms;
     modules = modules;
     peer_addresses = map (λ p. p.address) peers;
+    target_labels = map (λ t. t.label) targets;
   })

@@ -1,5 +1,5 @@
 -- Which trees are settings of a station, and of which: key by key, with no order of reading.
-use Rattle.std.specs.Prelude.{◌≡◌, ℕ, List, [], map, Option, Some, None, min, string_bytes, ◌↔◌}
+use Rattle.std.specs.Prelude.{◌≡◌, ℕ, List, [], map, Option, Some, None, min, option_map, string_bytes, ◌↔◌}
 use Rattle.mon_board.specs.declared.instance.Watched.{Watched}
 use Rattle.mon_alarms.specs.Rule.{Rule}
 use Rattle.mon_udp.specs.declared.addr.Addr.{Addr}
@@ -15,7 +15,7 @@ use Rattle.mon_settings.specs.declared.station_tables.AlarmRow.{AlarmRow}
 use Rattle.mon_settings.specs.declared.station_tables.ObjectRow.{ObjectRow}
 use Rattle.mon_settings.specs.declared.station_tables.PeerRow.{PeerRow}
 use Rattle.mon_settings.specs.declared.station_tables.TargetRow.{TargetRow}
-use Rattle.mon_settings.specs.Accepted.{KnowsOnly, Holds, HoldsOr, AreRows}
+use Rattle.mon_settings.specs.Accepted.{KnowsOnly, Holds, HoldsOr, MayHold, AreRows}
 use Rattle.mon_settings.specs.Grammar.{station_keys, table_keys}
 use Rattle.mon_settings.specs.Key.{key_name}
 use Rattle.mon_settings.specs.Leaf.{number_in, text_in, hex_in, addr_in, list_between, texts_in}
@@ -26,20 +26,24 @@ use Rattle.mon_settings.specs.Watching.{AreElsewhere, AreInstancesOfRows, AreRul
 pub record Station : Type 0 where
   pub core : Core
   pub listen : Addr
+  pub label : Option (List ℕ)
   pub file : List ℕ
   pub wait_ms : ℕ
   pub modules : List (List ℕ)
   pub peer_addresses : List Addr
+  pub target_labels : List (Option (List ℕ))
 
 -- the settings as contracts compare them
 abbrev pub station_view : StationSettings → Station
 station_view s = record {
   core = s.core;
   listen = s.listen;
+  label = option_map string_bytes s.label;
   file = string_bytes s.file;
   wait_ms = s.wait_ms;
   modules = map string_bytes s.modules.items;
   peer_addresses = s.peer_addresses.items;
+  target_labels = map (option_map string_bytes) s.target_labels.items;
 }
 
 -- what is outside of the lists
@@ -49,6 +53,7 @@ pub record Scalars : Type 0 where
   pub file : List ℕ
   pub sizes : Sizes
   pub wait_ms : ℕ
+  pub label : Option (List ℕ)
 
 -- the core of a station with this number
 abbrev pub core_from : ℕ → List TargetRow → List PeerRow → List Watched → List Rule → Core
@@ -95,6 +100,7 @@ pub record IsPolled (defs : List Definition) (sizes : Sizes) (t : Members) (r : 
   pub community : Holds key.Community (text_in 1 512) t r.community
   pub engine : Holds key.Engine (hex_in 5 32) t r.engine
   pub tries : Holds key.Tries (number_in 1 8) t r.tries
+  pub label : MayHold key.Label (text_in 1 64) t r.label
   pub objects : HoldsBetween key.Objects 1 16 (IsObject defs sizes) t r.objects
 
 -- a table of the list of peers
@@ -119,6 +125,7 @@ pub record IsScalars (t : Members) (s : Scalars) : Type 0 where
   pub window : Holds key.Window (number_in 1 64) t s.sizes.window
   pub epoch : HoldsOr key.Epoch s.sizes.window (number_in 1 s.sizes.window) t s.sizes.epoch
   pub wait_ms : Holds key.WaitMs (number_in 1 60000) t s.wait_ms
+  pub label : MayHold key.Label (text_in 1 64) t s.label
 
 -- The settings of a station: each key that is asked for is there, each key there is one of these, no value is out of its range,
 -- every name means an identifier, and the lists agree: the instances are those of the targets' objects, no two alike, the rules
@@ -140,6 +147,8 @@ pub record IsStation (defs : List Definition) (t : Members) (s : Station) : Type
   pub rules : AreRulesOf s.core.watch.instances alarms s.core.watch.rules
   pub core : core_from scalars.station targets peers s.core.watch.instances s.core.watch.rules ≡ s.core
   pub listen : scalars.listen ≡ s.listen
+  pub label : scalars.label ≡ s.label
   pub file : scalars.file ≡ s.file
   pub wait_ms : scalars.wait_ms ≡ s.wait_ms
   pub addresses : map (λ p. p.address) peers ≡ s.peer_addresses
+  pub labels : map (λ t. t.label) targets ≡ s.target_labels

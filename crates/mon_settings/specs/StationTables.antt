@@ -10,7 +10,7 @@ use Rattle.mon_settings.specs.declared.station_tables.ObjectRow.{ObjectRow}
 use Rattle.mon_settings.specs.declared.station_tables.PeerRow.{PeerRow}
 use Rattle.mon_settings.specs.declared.station_tables.TargetRow.{TargetRow}
 use Rattle.mon_settings.specs.Grammar.{table_keys}
-use Rattle.mon_settings.specs.Keys.{only, needed_at, default_at}
+use Rattle.mon_settings.specs.Keys.{only, needed_at, default_at, optional_at}
 use Rattle.mon_settings.specs.Leaf.{number_in, text_in, hex_in, addr_in}
 use Rattle.mon_settings.specs.Lists.{rows_between}
 use Rattle.mon_settings.specs.Resolving.{name_at, name_or_none}
@@ -33,8 +33,9 @@ target_of find sizes t = do
   community ← needed_at key.Community (text_in 1 512) t
   engine ← needed_at key.Engine (hex_in 5 32) t
   tries ← needed_at key.Tries (number_in 1 8) t
+  label ← optional_at key.Label (text_in 1 64) t
   objects ← rows_between key.Objects 1 16 (object_of find sizes) t
-  Ok (record { address = address; community = community; engine = engine; tries = tries; objects = objects })
+  Ok (record { address = address; community = community; engine = engine; tries = tries; label = label; objects = objects })
 
 -- a peer
 unfoldable pub peer_of : Members → Result PeerRow SettingsFault

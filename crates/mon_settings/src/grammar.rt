@@ -24,8 +24,8 @@ const INTERFACE: [Key; 12] = [
     Index, Descr, Type, Mtu, Speed, Phys, Name, Alias, InOctets, InPackets, OutOctets, OutPackets,
 ];
 
-const STATION: [Key; 10] = [
-    Station, Listen, File, Window, Epoch, WaitMs, Modules, Target, Peer, Alarm,
+const STATION: [Key; 11] = [
+    Station, Listen, File, Window, Epoch, WaitMs, Label, Modules, Target, Peer, Alarm,
 ];
 
 /// Returns the keys of the tables at a key, and none for a key that has no table.
@@ -39,7 +39,7 @@ pub fn table_keys(key: Key) -> &'static [Key]
         View => &[View, Subtree, Mask, Included],
         Interface => &INTERFACE,
         InOctets | InPackets | OutOctets | OutPackets => &[Start, Rate],
-        Target => &[Address, Community, Engine, Tries, Objects],
+        Target => &[Address, Community, Engine, Tries, Label, Objects],
         Objects => &[Name, Mark, Window, Epoch],
         Peer => &[Station, Address],
         Alarm => &[Engine, Name, Rising, Falling],

@@ -10,6 +10,7 @@ ghost use Rattle.mon_settings.specs.Resolving.{resolution, or_unknown, unresolve
 use crate::fault::{Read, SettingsFault, given};
 use crate::key::Key;
 use crate::keys::{find, first_unknown};
+use crate::label::Label;
 use crate::place::{Place, Step};
 use hex::FromHexError;
 use mon_ber::Octets;
@@ -156,6 +157,19 @@ impl<'t> Reader<'t> {
             Some(value) => match text_in(value, 1, most) {
                 Some(text) => Ok(Some(Octets::from_slice(self.alloc, text.as_bytes())?)),
                 None => Err(SettingsFault::bad(key)),
+            },
+            None => Ok(None),
+        }
+    }
+
+    /// Returns the label, a text of 1 to 64 octets, or nothing if the key is left out.
+    pub(crate) fn label(&self) -> Read<Option<Label>>
+        ensures { Reads (λ o. o) (optional_at Key.Label (text_in 1 64) (table_view self.now.table.now)) result }
+    {
+        match find(self.table, Key::Label) {
+            Some(value) => match text_in(value, 1, 64) {
+                Some(text) => Ok(Some(Label::from_str(self.alloc, text)?)),
+                None => Err(SettingsFault::bad(Key::Label)),
             },
             None => Ok(None),
         }

@@ -8,6 +8,7 @@ mod fault;
 mod grammar;
 mod key;
 mod keys;
+mod label;
 pub mod laws;
 mod leaf;
 mod list;

@@ -13,6 +13,7 @@ ghost use Rattle.toml.specs.View.{table_view};
 use crate::fault::{Read, SettingsFault, given};
 use crate::grammar::{SettingsKind, top_keys};
 use crate::key::Key;
+use crate::label::{Label, labels_of};
 use crate::leaf::Reader;
 use crate::modules::modules_at;
 use crate::peers::{addresses_of, peers_at, stations_of};
@@ -36,6 +37,8 @@ pub struct StationSettings {
     pub core: Core,
     /// Where it listens for its peers and for responses.
     pub listen: Addr,
+    /// What an operator calls it, 1 to 64 octets, if the settings say so.
+    pub label: Option<String>,
     /// The path of its saved file, at most 4095 octets.
     pub file: String,
     /// How long nothing must come before a wait times out, 1 to 60000 milliseconds.
@@ -44,6 +47,8 @@ pub struct StationSettings {
     pub modules: Vec<String>,
     /// Where the peers are reached, in the order of the core's peers.
     pub peer_addresses: Vec<Addr>,
+    /// What an operator calls each target, 1 to 64 octets, in the order of the core's targets.
+    pub target_labels: Vec<Option<String>>,
 }
 
 /// What is outside of the lists.
@@ -54,6 +59,7 @@ pub(crate) struct Scalars {
     pub(crate) file: String,
     pub(crate) sizes: Sizes,
     pub(crate) wait_ms: u32,
+    pub(crate) label: Option<Label>,
 }
 
 #[tactic(auto, unfolding(crate::specs::Station::scalars_of))]
@@ -67,12 +73,14 @@ fn read_scalars(reader: &Reader<'_>) -> Read<Scalars>
     let window = given!(reader.number(Key::Window, 1, 64)) as usize;
     let epoch = given!(reader.size_or(Key::Epoch, window, window));
     let wait_ms = given!(reader.number(Key::WaitMs, 1, 60000)) as u32;
+    let label = given!(reader.label());
     Ok(Scalars {
         station,
         listen,
         file: String::from_str(reader.alloc, file)?,
         sizes: Sizes { window, epoch },
         wait_ms,
+        label,
     })
 }
 
@@ -195,6 +203,7 @@ fn read_tree(reader: &Reader<'_>, names: &Names) -> Read<StationSettings>
     let peers = given!(peers_at(reader, scalars.station, targets.as_slice()));
     let rules = given!(rules_at(reader, &around, instances.as_slice()));
     let peer_addresses = addresses_of(reader.alloc, peers.as_slice())?;
+    let target_labels = labels_of(reader.alloc, targets.as_slice())?;
     let core = core_from(
         reader.alloc,
         scalars.station,
@@ -206,17 +215,20 @@ fn read_tree(reader: &Reader<'_>, names: &Names) -> Read<StationSettings>
     Ok(StationSettings {
         core,
         listen: scalars.listen,
+        label: scalars.label.map(Label::into_string),
         file: scalars.file,
         wait_ms: scalars.wait_ms,
         modules,
         peer_addresses,
+        target_labels,
     })
 }
 
 /// Reads a station's settings from a text in TOML 1.1, in which objects have the names of these modules.
 ///
 /// The keys, in the order in which they are read: `station` 1 to 4294967295; `listen`; `file`, at most 4095 octets; `window`,
-/// 1 to 64 samples; `epoch`, 1 to the window, which it is where it is left out; `wait_ms` 1 to 60000; and the lists `modules`
+/// 1 to 64 samples; `epoch`, 1 to the window, which it is where it is left out; `wait_ms` 1 to 60000; `label`, 1 to 64 octets,
+/// which may be left out, as that of a target; and the lists `modules`
 /// (may be left out) of at most 256 texts, `target` of 1 to 64 tables, `peer` (may be left out) of at most 15 and `alarm` (may
 /// be left out) of at most 256. In each table unknown keys are refused first. What two lists have to agree on is tested
 /// once the later one was read.

@@ -5,6 +5,7 @@ ghost use Rattle.std.specs.Prelude.{◌≡◌};
 use crate::fault::{Read, given};
 use crate::grammar::table_keys;
 use crate::key::Key;
+use crate::label::Label;
 use crate::leaf::Reader;
 use crate::list::Row;
 use crate::sizes::Sizes;
@@ -71,6 +72,7 @@ pub(crate) struct TargetRow {
     pub(crate) community: Octets,
     pub(crate) engine: Octets,
     pub(crate) tries: u8,
+    pub(crate) label: Option<Label>,
     pub(crate) objects: ObjectRows,
 }
 
@@ -82,6 +84,7 @@ impl Drop for TargetRow {
             community: _,
             engine: _,
             tries: _,
+            label: _,
             objects: _,
         } = self;
     }
@@ -149,12 +152,14 @@ impl Row<Around<'_>> for TargetRow {
         let community = given!(reader.octets(Key::Community, 1, 512));
         let engine = given!(reader.hex(Key::Engine, 5, 32));
         let tries = given!(reader.number(Key::Tries, 1, 8)) as u8;
+        let label = given!(reader.label());
         let items = given!(reader.rows(around, Key::Objects, 1, 16));
         Ok(TargetRow {
             address,
             community,
             engine,
             tries,
+            label,
             objects: ObjectRows { items },
         })
     }

@@ -74,6 +74,7 @@ fn value(key: Key) -> &'static str {
             "a text of at most 255 octets is wanted"
         }
         Key::Alias => "a text of at most 64 octets is wanted",
+        Key::Label => "a text of 1 to 64 octets is wanted",
         Key::File => "a text of at most 4095 octets is wanted",
         Key::Security | Key::Read | Key::Write => "a text of 1 to 32 octets is wanted",
         Key::Included => "true or false is wanted",

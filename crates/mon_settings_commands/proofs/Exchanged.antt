@@ -1,7 +1,6 @@
 -- Questions that are asked one after another.
 use Rattle.std.proofs.Common.{◌≡◌, ◌∙◌, ◌++◌, ◌∷◌, ℕ, ℤ, pos, List, [], Option, Result, Ok, Err, ap, append_assoc, refl, subst, sym}
 use Rattle.std.specs.Prelude.{IsErrAnd}
-use Rattle.std.specs.Global.{Vec}
 use Rattle.std.proofs.lemmas.List.{append-nil}
 use Rattle.mon_app.specs.Asking.{IsAsked}
 use Rattle.mon_app.specs.AtWire.{AtWire}
@@ -15,7 +14,7 @@ use Rattle.mon_pdu.specs.declared.message.Binding.{Binding}
 use Rattle.mon_pdu.specs.declared.message.Message.{Message}
 use Rattle.mon_udp.specs.Told.{GoesOnBy}
 use Rattle.mon_udp.proofs.Promised.{extended_by_none, extended_on}
-use Rattle.mon_settings_commands.specs.Exchange.{AreExplained, AsksBy, Exchange, IsMadeOf, IsQuestion, next_id, question_of}
+use Rattle.mon_settings_commands.specs.Exchange.{AreExplained, AsksBy, Exchange, IsExchange, next_id, question_of}
 use Rattle.mon_settings_commands.proofs.Turns.{failure_is}
 
 -- what a wire states
@@ -79,19 +78,19 @@ module _ (community : List ℕ) where
 abbrev pub asked_as : Asking → List (List ℕ) → List ℕ → ℤ → Question
 asked_as asking names community id = record { asking = asking; request_id = id; community = community; names = names }
 
--- one question
-pub one_question : (agent community : List ℕ) (asking : Asking) (names : List (List ℕ)) (id last : ℕ) (request : ℤ) (asked : Result Message AppFault) (result : Result (Vec Binding) Failure)
+-- one question, and what it came to
+pub one_exchange : (community : List ℕ) (asking : Asking) (names : List (List ℕ)) (id last : ℕ) (request : ℤ) (asked : Result Message AppFault) (result : Result (List Binding) AppFault)
     (before after : Log) → last ≡ next_id id → request ≡ pos last → GoesOnBy (λ log. IsAsked (asked_as asking names community request) log asked) before after
-    → IsMadeOf agent (answer_of asked) result → AsksBy (λ log. IsQuestion agent asking names log result) community id last before after
-one_question agent community asking names id last request asked result before after next is done made =
+    → result ≡ answer_of asked → AsksBy (λ log. IsExchange asking names log result) community id last before after
+one_exchange community asking names id last request asked result before after next is done same =
     let e : Exchange = record { asking = asking; names = names; answer = answer_of asked } in
     let answered : IsQuestionAnswered (question_of community (next_id id) e) done.more (answer_of asked) = record {
       asked = asked;
       asking = subst (λ (z : ℤ). IsAsked (asked_as asking names community z) done.more asked) (is ∙ ap (λ (n : ℕ). pos n) next) done.holds;
       answer_is = refl;
     } in
-    record {
+    subst (λ (r : Result (List Binding) AppFault). AsksBy (λ log. IsExchange asking names log r) community id last before after) (sym same) (record {
       exchanges = e ∷ [];
-      holds = (answer_of asked, refl, made);
+      holds = refl;
       explained = record { more = done.more; holds = (done.more, [], sym (append-nil done.more), answered, (refl, next)); told = done.told };
-    }
+    })

@@ -9,6 +9,8 @@ pub mod Peers
 pub mod Percentages
 pub mod Refusals
 pub mod Sequences
+pub mod Sizes
+pub mod Trials
 pub mod Turning
 pub mod Turns
 pub mod Wanted

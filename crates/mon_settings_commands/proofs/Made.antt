@@ -5,20 +5,22 @@ use Rattle.mon_cli.specs.declared.meaning.SettingsArgs.{SettingsArgs}
 use Rattle.mon_console.specs.declared.failure.Failure.{Failure}
 use Rattle.mon_survey.specs.declared.options.Options.{Options}
 use Rattle.mon_survey.specs.declared.options.Peer.{Peer}
+use Rattle.mon_survey.specs.declared.size.TargetSize.{TargetSize}
 use Rattle.mon_settings_commands.specs.Named.{file_name, given_or}
 use Rattle.mon_settings_commands.specs.Source.{Source, peers_named}
 use Rattle.mon_settings_commands.specs.Texts.{AreOptions, ArePeers, AreTexts, IsCounted}
 use Rattle.mon_settings_commands.specs.declared.settings.Texts.{Texts}
 
 -- the texts of options are those that were made
-pub options : (s : Source) (up : ℕ) (t : Texts) (o : Options) → AreTexts s.words up t → o.station ≡ s.words.station → o.window ≡ s.words.window → o.wait_ms ≡ s.words.wait_ms
+pub options : (s : Source) (up : ℕ) (size : TargetSize) (t : Texts) (o : Options) → AreTexts s.words up t → o.station ≡ s.words.station → o.window ≡ s.words.window → o.wait_ms ≡ s.words.wait_ms → o.size ≡ size
     → (s.words.tries ≤ 8 → o.tries ≡ s.words.tries) → (s.asked.percent ≤ 100 → o.percent ≡ s.asked.percent) → o.listen.now ≡ string_bytes t.listen → o.file.now ≡ string_bytes t.file
-    → o.peers.now ≡ t.peers.items → o.modules.now ≡ s.words.modules.now → o.address.now ≡ s.words.address.now → o.community.now ≡ s.words.community.now → AreOptions s up o
-options s up t o texts station window wait_ms tries percent listen file peers modules address community = record {
+    → o.peers.now ≡ t.peers.items → o.modules.now ≡ s.words.modules.now → o.address.now ≡ s.words.address.now → o.community.now ≡ s.words.community.now → AreOptions s up size o
+options s up size t o texts station window wait_ms size_is tries percent listen file peers modules address community = record {
   station = station;
   window = window;
   wait_ms = wait_ms;
   tries = tries;
+  size_is = size_is;
   percent = percent;
   listen = subst (λ (w : List ℕ). IsCounted (given_or (codes "0.0.0.0:16101") (option_copied s.words.listen)) up w) (sym listen) texts.listen;
   file = file ∙ texts.file;

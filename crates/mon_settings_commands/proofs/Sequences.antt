@@ -6,11 +6,12 @@ use Rattle.mon_app.specs.Network.{Agents}
 use Rattle.mon_cli.specs.declared.meaning.SettingsArgs.{SettingsArgs}
 use Rattle.mon_console.specs.declared.failure.Failure.{Failure}
 use Rattle.mon_host.specs.AtHost.{AtHost}
-use Rattle.mon_host.specs.Then.{Then}
+use Rattle.mon_host.specs.Then.{Quietly, Then}
 use Rattle.mon_survey.specs.declared.longest.Drafted.{Drafted}
-use Rattle.mon_settings_commands.specs.Appended.{AreOldLabels, IsExisting, IsLonger}
+use Rattle.mon_settings_commands.specs.Appended.{AreOldLabels, IsAppendedOf, IsExisting, IsLonger}
 use Rattle.mon_settings_commands.specs.Asked.{IsAsking}
 use Rattle.mon_settings_commands.specs.Command.{source}
+use Rattle.mon_settings_commands.specs.Fitting.{AreFitting}
 use Rattle.mon_settings_commands.specs.Parts.{AreAbsent, AreWritten}
 use Rattle.mon_settings_commands.specs.Settings.{AreLabels}
 use Rattle.mon_settings_commands.specs.Source.{Source}
@@ -18,11 +19,15 @@ use Rattle.mon_settings_commands.specs.declared.asking.Survey.{Survey}
 use Rattle.mon_settings_commands.specs.declared.existing.Existing.{Existing}
 use Rattle.mon_settings_commands.specs.declared.settings.Asked.{Asked}
 
-abbrev pub AfterSurvey : SettingsArgs → Asked → Existing → String Global → Survey → List AtHost → Result Unit Failure → Type 0
-AfterSurvey words asked existing old survey = IsLonger (source words asked existing.names survey) existing (string_bytes old)
+abbrev pub AfterFit : SettingsArgs → Asked → Existing → String Global → Survey → Drafted → List AtHost → Result Unit Failure → Type 0
+AfterFit words asked existing old survey drafted = IsLonger (source words asked existing.names survey) drafted (string_bytes old)
+
+abbrev pub AfterSurvey : Agents → SettingsArgs → Asked → Existing → String Global → Survey → List AtHost → Result Unit Failure → Type 0
+AfterSurvey agents words asked existing old survey =
+    Then (Quietly (AreFitting agents asked (IsAppendedOf (source words asked existing.names survey) existing))) (AfterFit words asked existing old survey)
 
 abbrev pub AfterOld : Agents → SettingsArgs → Asked → Existing → String Global → List AtHost → Result Unit Failure → Type 0
-AfterOld agents words asked existing old = Then (IsAsking agents asked) (AfterSurvey words asked existing old)
+AfterOld agents words asked existing old = Then (IsAsking agents asked) (AfterSurvey agents words asked existing old)
 
 abbrev pub AfterExisting : Agents → SettingsArgs → Asked → Existing → List AtHost → Result Unit Failure → Type 0
 AfterExisting agents words asked existing = Then (AreOldLabels (option_copied words.labels)) (AfterOld agents words asked existing)

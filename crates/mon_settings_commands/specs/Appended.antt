@@ -17,6 +17,7 @@ use Rattle.mon_survey.specs.declared.choice.Choice.{Choice}
 use Rattle.mon_survey.specs.declared.fault.SurveyFault.{SurveyFault}
 use Rattle.mon_survey.specs.declared.longest.Drafted.{Drafted}
 use Rattle.mon_survey.specs.declared.options.Options.{Options}
+use Rattle.mon_survey.specs.declared.size.TargetSize.{TargetSize}
 use Rattle.mon_settings_commands.specs.Notes.{AreSpeedsNoted, Surely}
 use Rattle.mon_settings_commands.specs.Settings.{AreLabels, IsDraftPrinted}
 use Rattle.mon_settings_commands.specs.Source.{IsChoice, IsOfSurvey, Source}
@@ -47,19 +48,19 @@ abbrev pub AreOldLabels : Option (List ℕ) → List AtHost → Result (String G
 AreOldLabels None = Quietly (λ result. IfOk result (λ text. string_bytes text ≡ []) × IfErr result (λ failure. ⊥))
 AreOldLabels (Some path) = IsText path
 
--- Settings with the agent's targets at their end, with how long a round of the whole takes at most; or
--- why there are none.
-abbrev pub IsAppendedOf : Source → Existing → Result Drafted Failure → Type 0
-IsAppendedOf s existing (Ok drafted) = (o : Options) × (choice : Choice) × AreOptions s 0 o × IsChoice s None choice
-    × IsAppendedText existing.names choice o (string_bytes existing.text) (station_view existing.station) s.survey.engine.items s.survey.answers (string_bytes drafted.text) drafted.longest
-IsAppendedOf s existing (Err failure) = IsOfOptions failure
-    ⊎ ((o : Options) × (choice : Choice) × (fault : SurveyFault) × AreOptions s 0 o × IsChoice s None choice × IsOfSurvey fault failure
+-- Settings with the agent's targets, of this size, at their end, with how long a round of the whole takes
+-- at most, and the targets that were added; or why there are none.
+abbrev pub IsAppendedOf : Source → Existing → TargetSize → Result Drafted Failure → Type 0
+IsAppendedOf s existing size (Ok drafted) = (o : Options) × (choice : Choice) × AreOptions s 0 size o × IsChoice s None choice
+    × IsAppendedText existing.names choice o (string_bytes existing.text) (station_view existing.station) s.survey.engine.items s.survey.answers (string_bytes drafted.text) drafted.longest drafted.targets.items
+IsAppendedOf s existing size (Err failure) = IsOfOptions failure
+    ⊎ ((o : Options) × (choice : Choice) × (fault : SurveyFault) × AreOptions s 0 size o × IsChoice s None choice × IsOfSurvey fault failure
     × IsAppendFault existing.names choice o (string_bytes existing.text) (station_view existing.station) s.survey.engine.items s.survey.answers fault)
 
 -- Labels are replaced before the longer settings are printed.
-abbrev pub IsPutLonger : Source → Existing → List ℕ → List AtHost → Result Unit Failure → Type 0
-IsPutLonger s existing old = Then (Quietly (IsAppendedOf s existing)) (λ drafted. Then (AreLabels s old) (λ done. IsDraftPrinted drafted))
+abbrev pub IsPutLonger : Source → Drafted → List ℕ → List AtHost → Result Unit Failure → Type 0
+IsPutLonger s drafted old = Then (AreLabels s old) (λ done. IsDraftPrinted drafted)
 
 -- after that it is said for how many of the agent's interfaces there is no threshold
-abbrev pub IsLonger : Source → Existing → List ℕ → List AtHost → Result Unit Failure → Type 0
-IsLonger s existing old = Then (IsPutLonger s existing old) (λ done. Surely (AreSpeedsNoted s))
+abbrev pub IsLonger : Source → Drafted → List ℕ → List AtHost → Result Unit Failure → Type 0
+IsLonger s drafted old = Then (IsPutLonger s drafted old) (λ done. Surely (AreSpeedsNoted s))

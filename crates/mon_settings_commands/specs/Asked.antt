@@ -8,6 +8,7 @@ use Rattle.mon_survey.specs.Answers.{count_of}
 use Rattle.mon_udp.specs.Addr.{addr_of}
 use Rattle.mon_settings_commands.specs.Kinds.{AreKinds, IsFirstNoKind, IsKindWord, kind_words}
 use Rattle.mon_settings_commands.specs.Named.{IsFirstNoPeer, NamesSome}
+use Rattle.mon_settings_commands.specs.Notes.{form_of}
 use Rattle.mon_settings_commands.specs.Percent.{GivesPercentage, GivesSome, IsNoPercentage}
 use Rattle.mon_settings_commands.specs.Refused.{IsAddress, IsCommunity, IsNoAddress, IsNoCommunity, OrLater}
 use Rattle.mon_settings_commands.specs.Source.{peers_named}
@@ -41,11 +42,15 @@ abbrev pub IsAsked : SettingsArgs → Result Asked Failure → Type 0
 IsAsked words (Ok asked) = SaysOf words asked
 IsAsked words (Err failure) = IsRefused words failure
 
--- what is said where an agent's ifNumber is another number than that of the interfaces of its ifTable
+-- the line of an agent whose ifNumber is another number than that of the interfaces of its ifTable
+abbrev pub count_line : List ℕ → (number count : ℕ) → List ℕ
+count_line agent number count = agent ++ (codes ": ifNumber is " ++ (decimal number ++ (codes ", and ifTable has "
+    ++ (decimal count ++ (form_of count (codes " interface") (codes " interfaces") ++ codes "\n")))))
+
+-- it is said if the two numbers differ
 abbrev pub count_lines : List ℕ → Option ℕ → ℕ → List AtHost
 count_lines agent None count = []
-count_lines agent (Some number) count = if number == count then [] else
-    Noted (agent ++ codes ": ifNumber is " ++ decimal number ++ codes ", and ifTable has " ++ decimal count ++ codes " interfaces" ++ 10 ∷ []) ∷ []
+count_lines agent (Some number) count = if number == count then [] else Noted (count_line agent number count) ∷ []
 
 -- An agent is asked: nothing is printed, read or replaced. If it answered all, at most one line is
 -- said, of its ifNumber.

@@ -53,6 +53,10 @@ IsMadeOf agent (Ok bindings) (Err failure) = ⊥
 IsMadeOf agent (Err fault) (Ok given) = ⊥
 IsMadeOf agent (Err fault) (Err failure) = (failure.fault ≡ App fault) × IsUnanswered agent fault failure
 
+-- one question, and what it came to
+abbrev pub IsExchange : Asking → List (List ℕ) → List Exchange → Result (List Binding) AppFault → Type 0
+IsExchange asking names log result = log ≡ (record { asking = asking; names = names; answer = result }) ∷ []
+
 -- one question, and what is made of its answer
 abbrev pub IsQuestion : List ℕ → Asking → List (List ℕ) → List Exchange → Result (Vec Binding) Failure → Type 0
 IsQuestion agent asking names log result = (answer : Result (List Binding) AppFault)

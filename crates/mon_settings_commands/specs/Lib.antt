@@ -3,6 +3,7 @@ pub mod Asked
 pub mod Command
 pub mod Engine
 pub mod Exchange
+pub mod Fitting
 pub mod Kinds
 pub mod Named
 pub mod Notes
@@ -13,4 +14,5 @@ pub mod Settings
 pub mod Source
 pub mod Surveyed
 pub mod Texts
+pub mod Tried
 pub mod Walked

@@ -9,6 +9,10 @@ use Rattle.mon_survey.specs.declared.choice.Choice.{Choice}
 use Rattle.mon_survey.specs.declared.longest.LongestRound.{LongestRound}
 use Rattle.mon_settings_commands.specs.Source.{IsChoice, Source}
 
+-- the form of a word for a count: the first for 1, else the second
+abbrev pub form_of : ℕ → (one many : List ℕ) → List ℕ
+form_of count one many = if count == 1 then one else many
+
 -- a step that always succeeds, of which this holds
 abbrev pub Surely : (List AtHost → Type 0) → List AtHost → Result Unit Failure → Type 0
 Surely Holds log result = Holds log × (result ≡ Ok tt)

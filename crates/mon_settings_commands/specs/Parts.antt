@@ -1,6 +1,7 @@
 -- The settings of several stations, a file each.
 use Rattle.std.specs.Prelude.{◌≡◌, ◌⊎◌, ◌+◌, ℕ, zero, suc, true, false, List, [], ◌∷◌, ◌++◌, Some, Result, Ok, Err, codes, decimal, length, string_bytes}
 use Rattle.std.specs.Global.{Vec}
+use Rattle.mon_app.specs.Network.{Agents}
 use Rattle.mon_app.specs.declared.fault.AppFault.TheVariants.{FileFault}
 use Rattle.mon_console.specs.Files.{IsWrite}
 use Rattle.mon_console.specs.Failure.{IsMemory, IsOfStream, IsSaid}
@@ -15,6 +16,7 @@ use Rattle.mon_survey.specs.declared.fault.SurveyFault.{SurveyFault}
 use Rattle.mon_survey.specs.declared.fault.SurveyFault.TheVariants as faults
 use Rattle.mon_survey.specs.declared.longest.Drafted.{Drafted}
 use Rattle.mon_settings_commands.specs.Notes.{IsPrintNoted}
+use Rattle.mon_settings_commands.specs.Fitting.{AreFitting}
 use Rattle.mon_settings_commands.specs.Settings.{AreLabels, IsSettingsOf}
 use Rattle.mon_settings_commands.specs.Source.{IsChoice, IsOfSurvey, OrMemory, Source}
 
@@ -70,19 +72,20 @@ HasNoPlan s failure = (group : ℕ) × (choice : Choice) × (fault : SurveyFault
 abbrev pub HasGroups : Source → ℕ → Type 0
 HasGroups s count = (count ≡ 65536) ⊎ HasNoCounter s count
 
--- these are the settings of groups, from this one on
-abbrev pub AreGroupsFrom : Source → ℕ → List Drafted → Type 0
-AreGroupsFrom s group [] = Unit {0}
-AreGroupsFrom s group (d ∷ ds) = IsSettingsOf s (Some group) (Ok d) × AreGroupsFrom s (group + 1) ds
+-- these are the settings of groups, from this one on, whose polls the agent answered
+abbrev pub AreGroupsFrom : Agents → Source → ℕ → List Drafted → Type 0
+AreGroupsFrom agents s group [] = Unit {0}
+AreGroupsFrom agents s group (d ∷ ds) = AreFitting agents s.asked (IsSettingsOf s (Some group)) (Ok d) × AreGroupsFrom agents s (group + 1) ds
 
--- The settings of each group; or why there are none: a group has no plan, or no settings.
-abbrev pub AreParted : Source → Result (Vec Drafted) Failure → Type 0
-AreParted s (Ok parts) = HasGroups s (length parts.items) × AreGroupsFrom s 0 parts.items
-AreParted s (Err failure) = HasNoPlan s failure
-    ⊎ ((group : ℕ) × (IsMemory failure ⊎ IsSettingsOf s (Some group) (Err failure)))
+-- The settings of each group; or why there are none: a group has no plan, no settings, or a poll that the
+-- agent does not answer.
+abbrev pub AreParted : Agents → Source → Result (Vec Drafted) Failure → Type 0
+AreParted agents s (Ok parts) = HasGroups s (length parts.items) × AreGroupsFrom agents s 0 parts.items
+AreParted agents s (Err failure) = HasNoPlan s failure
+    ⊎ ((group : ℕ) × (IsMemory failure ⊎ AreFitting agents s.asked (IsSettingsOf s (Some group)) (Err failure)))
 
--- The settings of several stations. No file is replaced: it is looked whether each is absent before
+-- The settings of several stations. The polls of all are tried first. No file is replaced: it is looked whether each is absent before
 -- anything is written, and labels are replaced before the first file is made.
-abbrev pub AreParts : Source → List ℕ → List AtHost → Result Unit Failure → Type 0
-AreParts s folder = Then (Quietly (AreParted s)) (λ parts. Then (AreAbsent folder 0 (length parts.items)) (λ absent.
+abbrev pub AreParts : Agents → Source → List ℕ → List AtHost → Result Unit Failure → Type 0
+AreParts agents s folder = Then (Quietly (AreParted agents s)) (λ parts. Then (AreAbsent folder 0 (length parts.items)) (λ absent.
     Then (AreLabels s []) (λ done. AreWritten folder 0 parts.items)))

@@ -7,6 +7,7 @@ use Rattle.mon_console.specs.declared.failure.Failure.{Failure}
 use Rattle.mon_faults.specs.declared.fault.Fault.TheVariants.{App}
 use Rattle.mon_survey.specs.declared.options.Options.{Options}
 use Rattle.mon_survey.specs.declared.options.Peer.{Peer}
+use Rattle.mon_survey.specs.declared.size.TargetSize.{TargetSize}
 use Rattle.mon_udp.specs.Addr.{addr_of, addr_text}
 use Rattle.mon_udp.specs.declared.addr.Addr.{Addr}
 use Rattle.mon_settings_commands.specs.Named.{IsNoPeer, NamesPeer, file_name, given_or}
@@ -51,12 +52,14 @@ pub record AreTexts (words : SettingsArgs) (up : ℕ) (t : Texts) : Type 0 where
   pub file : string_bytes t.file ≡ file_name (given_or (codes "station.mon") (option_copied words.file)) up
   pub peers : ArePeers up (peers_named words) t.peers.items
 
--- the options of a station whose ports and the number of whose file are counted up
-pub record AreOptions (s : Source) (up : ℕ) (o : Options) : Type 0 where
+-- the options of a station whose ports and the number of whose file are counted up, by targets of this
+-- size
+pub record AreOptions (s : Source) (up : ℕ) (size : TargetSize) (o : Options) : Type 0 where
   pub station : o.station ≡ s.words.station
   pub window : o.window ≡ s.words.window
   pub wait_ms : o.wait_ms ≡ s.words.wait_ms
   pub tries : s.words.tries ≤ 8 → o.tries ≡ s.words.tries
+  pub size_is : o.size ≡ size
   pub percent : s.asked.percent ≤ 100 → o.percent ≡ s.asked.percent
   pub listen : IsCounted (given_or (codes "0.0.0.0:16101") (option_copied s.words.listen)) up o.listen.now
   pub file : o.file.now ≡ file_name (given_or (codes "station.mon") (option_copied s.words.file)) up

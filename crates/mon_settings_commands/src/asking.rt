@@ -6,18 +6,20 @@ ghost use Rattle.mon_app.specs.Printed.{bindings_in};
 ghost use Rattle.mon_app.specs.Walk.{IsPast, IsUnderStart};
 ghost use Rattle.mon_app.specs.declared.question.Asking.TheVariants.{Get};
 ghost use Rattle.mon_console.specs.Failure.{IsMemory};
+ghost use Rattle.mon_host.specs.AtHost.{Noted};
 ghost use Rattle.mon_host.specs.Log.{GoesOnBy};
 ghost use Rattle.mon_pdu.specs.declared.message.Body.TheVariants as bodies;
 ghost use Rattle.mon_survey.specs.Column.{column_name, columns};
 ghost use Rattle.mon_survey.specs.Plan.{needs};
 ghost use Rattle.mon_survey.specs.declared.fault.SurveyFault.TheVariants.{NoEngine};
-ghost use Rattle.mon_settings_commands.specs.Asked.{IsAsking, count_lines};
+ghost use Rattle.mon_settings_commands.specs.Asked.{IsAsking, count_line, count_lines};
 ghost use Rattle.mon_settings_commands.specs.Engine.{HasEngine, HasNoEngine, IsEngineStill, IsFirstAsked, IsHead, IsHeadIn, IsSameEngine, count_in, first_names, number_in};
-ghost use Rattle.mon_settings_commands.specs.Exchange.{AsksBy, IsMadeOf, IsQuestion, next_id};
+ghost use Rattle.mon_settings_commands.specs.Exchange.{AsksBy, IsExchange, IsQuestion, next_id};
 ghost use Rattle.mon_settings_commands.specs.Surveyed.{AreWalked, IsSurvey, IsSurveyed, IsUnwired, IsWalkIf};
 ghost use Rattle.mon_settings_commands.specs.Walked.{ArePut, IsPut, IsReplyPut, IsTurn, IsUnending, IsWalk, place_of, stand, turned, unending_line, with_cells};
 
 use crate::failing::survey_failure;
+use crate::noting::form_of;
 use crate::settings::Asked;
 use mon_app::{AppFault, Asking, Opens, Question, Repeats, Wire, send_request};
 use mon_ber::Value;
@@ -82,13 +84,18 @@ fn tell_count<H: Host>(host: &mut H, agent: &str, number: Option<u32>, count: us
         (H.log host.old) (H.log host.new) }
 {
     match number {
-        Some(number) if number as usize != count => {
-            host.note(format_args!(
-                "{agent}: ifNumber is {number}, and ifTable has {count} interfaces\n"
-            ));
-        }
+        Some(number) if number as usize != count => note_count(host, agent, number, count),
         _ => {}
     }
+}
+
+/// Says that ifNumber is another number than that of ifTable's interfaces.
+fn note_count<H: Host>(host: &mut H, agent: &str, number: u32, count: usize)
+    ensures { GoesOnBy (λ log. log ≡ Noted (count_line agent.now number count) ∷ [])
+        (H.log host.old) (H.log host.new) }
+{
+    let interfaces = form_of(count, " interface", " interfaces");
+    host.note(format_args!("{agent}: ifNumber is {number}, and ifTable has {count}{interfaces}\n"));
 }
 
 /// Asks the agent for its engine and its interfaces, by a wire of its own.
@@ -102,14 +109,18 @@ fn survey_at<N: Opens>(alloc: Global, net: &N, asked: Asked<'_>) -> Result<Surve
 
 /// Asks an agent question after question.
 #[derive(Drop)]
-struct Asker<W> {
+pub(crate) struct Asker<W> {
     wire: W,
     /// The request-id of the last question, 0 before the first.
     last_id: u32,
 }
 
 /// Opens a wire to ask the agent by.
-fn open<N: Opens>(alloc: Global, net: &N, asked: Asked<'_>) -> Result<Asker<N::Wire>, Failure>
+pub(crate) fn open<N: Opens>(
+    alloc: Global,
+    net: &N,
+    asked: Asked<'_>,
+) -> Result<Asker<N::Wire>, Failure>
     ensures first { IfOk result (λ asker. asker.last_id ≡ 0) }
     ensures opened { IfOk result (λ asker. N.has_opened net.now asked.entry.agent.address asker.wire) }
     ensures refused { IfErr result (IsUnwired (agents_by (N.has_opened net.now) (N.has_failed net.now) N.Wire.told) asked.entry.agent) }
@@ -128,6 +139,35 @@ fn next_id(id: u32) -> u32
     if id < MAX_ID { id + 1 } else { 0 }
 }
 
+/// Asks once, and returns the variable bindings of the reply.
+///
+/// # Errors
+/// Those of `send_request`; `AgentStatus` if the reply has an error status.
+pub(crate) fn exchange<W: Wire>(
+    alloc: Global,
+    asker: &mut Asker<W>,
+    community: &[u8],
+    asking: Asking<'_>,
+    names: &[Oid],
+) -> Result<Bindings, AppFault>
+    ensures { AsksBy (λ log. IsExchange asking.entry names.now log result)
+        community.now asker.old.last_id asker.new.last_id
+        (W.told asker.old.wire) (W.told asker.new.wire) }
+{
+    let id = next_id(asker.last_id);
+    asker.last_id = id;
+    let question = Question {
+        asking,
+        request_id: id as i32,
+        community,
+        names,
+    };
+    match send_request(alloc, &mut asker.wire, &question) {
+        Ok(message) => bindings_in(message),
+        Err(fault) => Err(fault),
+    }
+}
+
 /// Asks, and returns the variable bindings of the reply.
 fn ask<W: Wire>(
     alloc: Global,
@@ -140,27 +180,9 @@ fn ask<W: Wire>(
         asked.entry.community.now asker.old.last_id asker.new.last_id
         (W.told asker.old.wire) (W.told asker.new.wire) }
 {
-    let id = next_id(asker.last_id);
-    asker.last_id = id;
-    let question = Question {
-        asking,
-        request_id: id as i32,
-        community: asked.community,
-        names,
-    };
-    match send_request(alloc, &mut asker.wire, &question) {
-        Ok(message) => bindings_of(alloc, asked.agent.word, message),
-        Err(fault) => Err(answer_failure(alloc, asked.agent.word, fault)),
-    }
-}
-
-/// The variable bindings of a reply without an error.
-fn bindings_of(alloc: Global, agent: &str, message: Message) -> Result<Vec<Binding>, Failure>
-    ensures { IsMadeOf agent.now (bindings_in message.body) result }
-{
-    match bindings_in(message) {
+    match exchange(alloc, asker, asked.community, asking, names) {
         Ok(bindings) => Ok(bindings.into_vec()),
-        Err(fault) => Err(answer_failure(alloc, agent, fault)),
+        Err(fault) => Err(answer_failure(alloc, asked.agent.word, fault)),
     }
 }
 

@@ -6,7 +6,7 @@ ghost use Rattle.mon_settings_commands.specs.Appended.{AreOldLabels};
 ghost use Rattle.mon_settings_commands.specs.Settings.{AreLabels, AreLabelsAt, IsLabelsText};
 ghost use Rattle.mon_settings_commands.specs.Source.{source_in};
 
-use crate::failing::survey_failure;
+use crate::failing::labels_failure;
 use crate::settings::Ground;
 use mon_console::{Failure, read_text, replace_file};
 use mon_host::Host;
@@ -66,10 +66,10 @@ fn labels_text(
     path: &str,
     old: &str,
 ) -> Result<String, Failure>
-    ensures { IsLabelsText (source_in ground.now) old.now result }
+    ensures { IsLabelsText (source_in ground.now) path.now old.now result }
 {
     match labels(alloc, old, &ground.agent(), &ground.choice(None)) {
         Ok(text) => Ok(text),
-        Err(fault) => Err(survey_failure(alloc, path, fault)),
+        Err(fault) => Err(labels_failure(alloc, path, fault)),
     }
 }

@@ -9,6 +9,7 @@ mod labelling;
 mod noting;
 mod parts;
 mod settings;
+mod trying;
 mod words;
 
 pub use settings::print_settings;

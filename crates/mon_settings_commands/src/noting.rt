@@ -3,7 +3,7 @@
 ghost use Rattle.std.specs.Prelude.{◌≡◌, ◌∷◌, []};
 ghost use Rattle.mon_host.specs.AtHost.{Noted};
 ghost use Rattle.mon_host.specs.Log.{GoesOnBy};
-ghost use Rattle.mon_settings_commands.specs.Notes.{AreSpeedsNoted, IsPrintNoted, IsRoundNoted, speed_line, speed_notes};
+ghost use Rattle.mon_settings_commands.specs.Notes.{AreSpeedsNoted, IsPrintNoted, IsRoundNoted, form_of, speed_line, speed_notes};
 ghost use Rattle.mon_settings_commands.specs.Source.{source_in};
 
 use crate::settings::Ground;
@@ -40,6 +40,13 @@ fn note_round<H: Host>(host: &mut H, settings: &str, longest: LongestRound)
     host.note(format_args!(
         "snmpmon: a round of {settings} takes at most {most} ms (wait_ms = {wait_ms}, tries = {tries})\n"
     ));
+}
+
+/// Returns the form of a word for a count: the first for 1, else the second.
+pub(crate) fn form_of<'a>(count: usize, one: &'a str, many: &'a str) -> &'a str
+    ensures { result.now ≡ form_of count one.now many.now }
+{
+    if count == 1 { one } else { many }
 }
 
 /// Says for how many interfaces there is no threshold, if alarms are asked for.

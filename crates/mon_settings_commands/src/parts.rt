@@ -2,7 +2,9 @@
 
 ghost use Rattle.std.specs.Prelude.{◌≡◌, ◌<◌, ◌≤◌, ◌⊎◌, ◌^◌, ◌∷◌, ◌++◌, [], Err, IfErr, IfOk, Ok, OnOk, Some, false, length, string_bytes};
 ghost use Rattle.mon_console.specs.Failure.{IsMemory};
+ghost use Rattle.mon_app.specs.Network.{agents_by};
 ghost use Rattle.mon_host.specs.Log.{GoesOnBy};
+ghost use Rattle.mon_settings_commands.specs.Fitting.{AreFitting};
 ghost use Rattle.mon_settings_commands.specs.Parts.{AreAbsent, AreParted, AreParts, AreWritten, HasGroups, HasNoCounter, HasNoPlan, IsAbsent, IsNamedWritten, IsPartAbsent, IsPartWritten, part_path};
 ghost use Rattle.mon_settings_commands.specs.Settings.{IsSettingsOf};
 ghost use Rattle.mon_settings_commands.specs.Source.{IsOfSurvey, source_in};
@@ -11,27 +13,32 @@ ghost use Rattle.mon_survey.specs.declared.longest.Drafted.{Drafted as AnyDrafte
 use crate::failing::{survey_failure, taken_failure};
 use crate::labelling::write_labels;
 use crate::noting::print_noted;
-use crate::settings::{Ground, settings_of};
+use crate::settings::Ground;
+use crate::trying::{Wish, fit};
+use mon_app::Opens;
 use mon_console::{Failure, write_file};
 use mon_host::Host;
-use mon_survey::{Drafted, SurveyFault, plan};
+use mon_survey::{Drafted, SurveyFault, TargetSize, plan};
 use std::alloc::{AllocError, Global};
 
 /// The most files that settings are split into.
 const MOST_PARTS: u32 = 65_536;
 
 /// Writes the settings of a station for each group into a folder, prints the names of the files, and
-/// says of each how long a round takes at most. Nothing is written if one of the files is there.
-pub(crate) fn write_parts<H: Host>(
+/// says of each how long a round takes at most. Nothing is written if one of the files is there, or if
+/// the agent does not answer a poll of a target.
+pub(crate) fn write_parts<N: Opens, H: Host>(
     alloc: Global,
     host: &mut H,
+    net: &N,
     ground: &Ground<'_, '_>,
     folder: &str,
 ) -> Result<(), Failure>
-    ensures { GoesOnBy (λ log. AreParts (source_in ground.now) folder.now log result)
+    ensures { GoesOnBy (λ log. AreParts (agents_by (N.has_opened net.now) (N.has_failed net.now) N.Wire.told)
+        (source_in ground.now) folder.now log result)
         (H.log host.old) (H.log host.new) }
 {
-    let parts = parts_of(alloc, ground)?;
+    let parts = parts_of(alloc, net, ground)?;
     require_absent(alloc, host, folder, parts.as_slice())?;
     write_labels(alloc, host, ground, "")?;
     write_all(alloc, host, folder, parts.as_slice())
@@ -96,30 +103,42 @@ fn write_all<H: Host>(
     Ok(())
 }
 
-/// Returns the settings of each group.
-fn parts_of(alloc: Global, ground: &Ground<'_, '_>) -> Result<Vec<Drafted>, Failure>
-    ensures { AreParted (source_in ground.now) result }
+/// Returns the settings of each group, whose polls the agent answers.
+fn parts_of<N: Opens>(
+    alloc: Global,
+    net: &N,
+    ground: &Ground<'_, '_>,
+) -> Result<Vec<Drafted>, Failure>
+    ensures { AreParted (agents_by (N.has_opened net.now) (N.has_failed net.now) N.Wire.told)
+        (source_in ground.now) result }
 {
     let groups = groups_of(alloc, ground)?;
     let mut parts = Vec::new(alloc);
     for group in 0..groups {
-        add_part(alloc, &mut parts, ground, group)?;
+        add_part(alloc, net, &mut parts, ground, group)?;
     }
     Ok(parts)
 }
 
 /// Adds the settings of a group.
-fn add_part(
+fn add_part<N: Opens>(
     alloc: Global,
+    net: &N,
     parts: &mut Vec<Drafted>,
     ground: &Ground<'_, '_>,
     group: u32,
 ) -> Result<(), Failure>
     requires { group < 65536 }
-    ensures added { OnOk result ((part : AnyDrafted) × (parts.new.items ≡ parts.old.items ++ part ∷ []) × IsSettingsOf (source_in ground.now) (Some group) (Ok part)) }
-    ensures refused { IfErr result (λ failure. IsMemory failure ⊎ IsSettingsOf (source_in ground.now) (Some group) (Err failure)) }
+    ensures added { OnOk result ((part : AnyDrafted) × (parts.new.items ≡ parts.old.items ++ part ∷ []) × AreFitting (agents_by (N.has_opened net.now) (N.has_failed net.now) N.Wire.told) ground.now.asked (IsSettingsOf (source_in ground.now) (Some group)) (Ok part)) }
+    ensures refused { IfErr result (λ failure. IsMemory failure ⊎ AreFitting (agents_by (N.has_opened net.now) (N.has_failed net.now) N.Wire.told) ground.now.asked (IsSettingsOf (source_in ground.now) (Some group)) (Err failure)) }
 {
-    let part = settings_of(alloc, ground, Some(group))?;
+    let part = fit(
+        alloc,
+        net,
+        ground,
+        Wish::New(Some(group)),
+        TargetSize::Sixteen,
+    )?;
     Ok(parts.push(part)?)
 }
 

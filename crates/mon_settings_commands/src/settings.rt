@@ -6,8 +6,8 @@ ghost use Rattle.mon_app.specs.Network.{agents_by};
 ghost use Rattle.mon_host.specs.Log.{GoesOnBy};
 ghost use Rattle.mon_settings_commands.specs.Appended.{IsAlone, IsAppendedOf, IsLonger, IsPutLonger};
 ghost use Rattle.mon_settings_commands.specs.Asked.{IsAsked};
-ghost use Rattle.mon_settings_commands.specs.Command.{AreLongerSettings, AreNewSettings, AreNewTexts, ArePutTexts, AreSettings};
-ghost use Rattle.mon_settings_commands.specs.Settings.{IsDraftPrinted, IsSettingsOf, IsWhole, up_of};
+ghost use Rattle.mon_settings_commands.specs.Command.{AreLongerSettings, AreNewSettings, AreNewTexts, ArePutTexts, AreSettings, IsWhole};
+ghost use Rattle.mon_settings_commands.specs.Settings.{IsDraftPrinted, IsSettingsOf, up_of};
 ghost use Rattle.mon_settings_commands.specs.Source.{source_in};
 ghost use Rattle.mon_settings_commands.specs.Texts.{AreTexts, IsOfOptions};
 
@@ -17,6 +17,7 @@ use crate::failing::{survey_failure, together_failure};
 use crate::labelling::{old_labels, write_labels};
 use crate::noting::{note_speeds, print_noted};
 use crate::parts::write_parts;
+use crate::trying::{Wish, fit};
 use crate::words::{
     given_or, kinds_of, percent_of, put_address, put_file, put_peers, require_peers,
 };
@@ -25,7 +26,7 @@ use mon_cli::SettingsArgs;
 use mon_console::{AgentAt, Failure, agent_at, community, names_of};
 use mon_host::Host;
 use mon_smi::Names;
-use mon_survey::{Choice, Drafted, Kinds, Options, Peer, Surveyed, append, settings};
+use mon_survey::{Choice, Drafted, Kinds, Options, Peer, Surveyed, TargetSize, append, settings};
 use std::alloc::Global;
 
 /// Where a station listens if the arguments do not say.
@@ -36,7 +37,8 @@ const FILE: &str = "station.mon";
 
 /// Prints the settings of a station that polls the agent that the arguments name, writes those of
 /// several stations, or prints settings that are there with the agent's targets at their end. Nothing
-/// is printed or written unless all was answered and each text was read back. Of each text a line on
+/// is printed or written unless all was answered, each text was read back, and the agent answered a poll
+/// of each target that polls it. Of each text a line on
 /// standard error says how long a round takes at most, by what was read back.
 pub fn print_settings<N: Opens, H: Host>(
     alloc: Global,
@@ -117,27 +119,39 @@ fn print_new<N: Opens, H: Host>(
         names: &names,
         survey: &survey,
     };
-    write_new(alloc, host, &ground)
+    write_new(alloc, host, net, &ground)
 }
 
 /// Prints or writes new settings, and says for how many interfaces there is no threshold.
-fn write_new<H: Host>(alloc: Global, host: &mut H, ground: &Ground<'_, '_>) -> Result<(), Failure>
-    ensures { GoesOnBy (λ log. AreNewTexts (source_in ground.now) log result)
+fn write_new<N: Opens, H: Host>(
+    alloc: Global,
+    host: &mut H,
+    net: &N,
+    ground: &Ground<'_, '_>,
+) -> Result<(), Failure>
+    ensures { GoesOnBy (λ log. AreNewTexts (agents_by (N.has_opened net.now) (N.has_failed net.now) N.Wire.told)
+        (source_in ground.now) log result)
         (H.log host.old) (H.log host.new) }
 {
-    put_texts(alloc, host, ground)?;
+    put_texts(alloc, host, net, ground)?;
     note_speeds(host, ground);
     Ok(())
 }
 
 /// Prints the settings of a station, or writes those of several into a folder.
-fn put_texts<H: Host>(alloc: Global, host: &mut H, ground: &Ground<'_, '_>) -> Result<(), Failure>
-    ensures { GoesOnBy (λ log. ArePutTexts (source_in ground.now) log result)
+fn put_texts<N: Opens, H: Host>(
+    alloc: Global,
+    host: &mut H,
+    net: &N,
+    ground: &Ground<'_, '_>,
+) -> Result<(), Failure>
+    ensures { GoesOnBy (λ log. ArePutTexts (agents_by (N.has_opened net.now) (N.has_failed net.now) N.Wire.told)
+        (source_in ground.now) log result)
         (H.log host.old) (H.log host.new) }
 {
     match ground.words.split {
-        Some(folder) => write_parts(alloc, host, ground, folder),
-        None => print_whole(alloc, host, ground),
+        Some(folder) => write_parts(alloc, host, net, ground, folder),
+        None => print_whole(alloc, host, net, ground),
     }
 }
 
@@ -150,12 +164,18 @@ pub(crate) struct Ground<'m, 'a> {
     pub(crate) survey: &'m Survey,
 }
 
-/// Prints the settings of one station.
-fn print_whole<H: Host>(alloc: Global, host: &mut H, ground: &Ground<'_, '_>) -> Result<(), Failure>
-    ensures { GoesOnBy (λ log. IsWhole (source_in ground.now) log result)
+/// Prints the settings of one station, whose polls the agent answers.
+fn print_whole<N: Opens, H: Host>(
+    alloc: Global,
+    host: &mut H,
+    net: &N,
+    ground: &Ground<'_, '_>,
+) -> Result<(), Failure>
+    ensures { GoesOnBy (λ log. IsWhole (agents_by (N.has_opened net.now) (N.has_failed net.now) N.Wire.told)
+        (source_in ground.now) log result)
         (H.log host.old) (H.log host.new) }
 {
-    let drafted = settings_of(alloc, ground, None)?;
+    let drafted = fit(alloc, net, ground, Wish::New(None), TargetSize::Sixteen)?;
     write_labels(alloc, host, ground, "")?;
     print_drafted(alloc, host, &drafted)
 }
@@ -199,7 +219,9 @@ fn print_appended<N: Opens, H: Host>(
         names: &existing.names,
         survey: &survey,
     };
-    print_longer(alloc, host, &ground, &existing, old.as_str())
+    let wish = Wish::Longer(&existing);
+    let drafted = fit(alloc, net, &ground, wish, TargetSize::Sixteen)?;
+    print_longer(alloc, host, &ground, &drafted, old.as_str())
 }
 
 /// Prints settings with the agent's targets at their end, and says for how many of its interfaces
@@ -208,13 +230,13 @@ fn print_longer<H: Host>(
     alloc: Global,
     host: &mut H,
     ground: &Ground<'_, '_>,
-    existing: &Existing,
+    drafted: &Drafted,
     old: &str,
 ) -> Result<(), Failure>
-    ensures { GoesOnBy (λ log. IsLonger (source_in ground.now) existing.now old.now log result)
+    ensures { GoesOnBy (λ log. IsLonger (source_in ground.now) drafted.now old.now log result)
         (H.log host.old) (H.log host.new) }
 {
-    put_longer(alloc, host, ground, existing, old)?;
+    put_longer(alloc, host, ground, drafted, old)?;
     note_speeds(host, ground);
     Ok(())
 }
@@ -224,15 +246,14 @@ fn put_longer<H: Host>(
     alloc: Global,
     host: &mut H,
     ground: &Ground<'_, '_>,
-    existing: &Existing,
+    drafted: &Drafted,
     old: &str,
 ) -> Result<(), Failure>
-    ensures { GoesOnBy (λ log. IsPutLonger (source_in ground.now) existing.now old.now log result)
+    ensures { GoesOnBy (λ log. IsPutLonger (source_in ground.now) drafted.now old.now log result)
         (H.log host.old) (H.log host.new) }
 {
-    let drafted = appended(alloc, ground, existing)?;
     write_labels(alloc, host, ground, old)?;
-    print_drafted(alloc, host, &drafted)
+    print_drafted(alloc, host, drafted)
 }
 
 impl<'m, 'a> Ground<'m, 'a> {
@@ -322,13 +343,14 @@ fn texts_of(alloc: Global, words: &SettingsArgs<'_, '_>, up: u32) -> Result<Text
     Ok(texts)
 }
 
-/// What options lend.
+/// What options lend, and the size of targets.
 #[derive(Clone, Copy)]
 struct Lent<'p> {
     address: &'p str,
     community: &'p str,
     modules: &'p [&'p str],
     texts: &'p Texts,
+    size: TargetSize,
 }
 
 /// Lends texts for as long as all of them live.
@@ -337,17 +359,20 @@ fn lend<'p>(
     community: &'p str,
     modules: &'p [&'p str],
     texts: &'p Texts,
+    size: TargetSize,
 ) -> Lent<'p>
     ensures address { result.address.now ≡ address.now }
     ensures community { result.community.now ≡ community.now }
     ensures modules { result.modules.now ≡ modules.now }
     ensures texts { result.texts.now ≡ texts.now }
+    ensures size { result.size ≡ size }
 {
     Lent {
         address,
         community,
         modules,
         texts,
+        size,
     }
 }
 
@@ -365,6 +390,7 @@ fn options_of<'p>(words: &SettingsArgs<'_, '_>, percent: u8, lent: Lent<'p>) -> 
     ensures modules { result.modules.now ≡ lent.entry.modules.now }
     ensures address { result.address.now ≡ lent.entry.address.now }
     ensures community { result.community.now ≡ lent.entry.community.now }
+    ensures size { result.size ≡ lent.entry.size }
 {
     Options {
         station: words.station,
@@ -377,22 +403,24 @@ fn options_of<'p>(words: &SettingsArgs<'_, '_>, percent: u8, lent: Lent<'p>) -> 
         address: lent.address,
         community: lent.community,
         tries: words.tries.min(8) as u8,
+        size: lent.size,
         percent: percent.min(100),
     }
 }
 
 /// The settings of a station that polls all counters, or those of a group, by which its ports and the
-/// name of its file are counted up.
+/// name of its file are counted up, by targets of this size.
 pub(crate) fn settings_of(
     alloc: Global,
     ground: &Ground<'_, '_>,
     group: Option<u32>,
+    size: TargetSize,
 ) -> Result<Drafted, Failure>
     requires { up_of group < 65536 }
-    ensures { IsSettingsOf (source_in ground.now) group result }
+    ensures { IsSettingsOf (source_in ground.now) group size result }
 {
     let texts = texts_of(alloc, ground.words, group.unwrap_or(0))?;
-    settings_by(alloc, ground, group, &texts)
+    settings_by(alloc, ground, group, size, &texts)
 }
 
 /// The settings of a station that polls all counters, or those of a group, with these texts.
@@ -400,13 +428,14 @@ fn settings_by(
     alloc: Global,
     ground: &Ground<'_, '_>,
     group: Option<u32>,
+    size: TargetSize,
     texts: &Texts,
 ) -> Result<Drafted, Failure>
     requires { AreTexts ground.now.words.now (up_of group) texts.now }
-    ensures { IsSettingsOf (source_in ground.now) group result }
+    ensures { IsSettingsOf (source_in ground.now) group size result }
 {
     let words = ground.words;
-    let lent = lend(words.address, words.community, words.modules, texts);
+    let lent = lend(words.address, words.community, words.modules, texts, size);
     let options = options_of(words, ground.asked.percent, lent);
     match settings(
         alloc,
@@ -420,12 +449,17 @@ fn settings_by(
     }
 }
 
-/// Settings with the agent's targets at their end.
-fn appended(alloc: Global, ground: &Ground<'_, '_>, existing: &Existing) -> Result<Drafted, Failure>
-    ensures { IsAppendedOf (source_in ground.now) existing.now result }
+/// Settings with the agent's targets, of this size, at their end.
+pub(crate) fn appended(
+    alloc: Global,
+    ground: &Ground<'_, '_>,
+    existing: &Existing,
+    size: TargetSize,
+) -> Result<Drafted, Failure>
+    ensures { IsAppendedOf (source_in ground.now) existing.now size result }
 {
     let texts = texts_of(alloc, ground.words, 0)?;
-    appended_by(alloc, ground, existing, &texts)
+    appended_by(alloc, ground, existing, size, &texts)
 }
 
 /// Settings with the agent's targets at their end, with these texts.
@@ -433,13 +467,14 @@ fn appended_by(
     alloc: Global,
     ground: &Ground<'_, '_>,
     existing: &Existing,
+    size: TargetSize,
     texts: &Texts,
 ) -> Result<Drafted, Failure>
     requires { AreTexts ground.now.words.now 0 texts.now }
-    ensures { IsAppendedOf (source_in ground.now) existing.now result }
+    ensures { IsAppendedOf (source_in ground.now) existing.now size result }
 {
     let words = ground.words;
-    let lent = lend(words.address, words.community, words.modules, texts);
+    let lent = lend(words.address, words.community, words.modules, texts, size);
     let options = options_of(words, ground.asked.percent, lent);
     match append(
         alloc,

@@ -11,7 +11,6 @@ use Rattle.std.specs.Result.{result_ok}
 use Rattle.std.specs.declared.alloc.AllocError.{AllocError}
 use Rattle.mon_cli.specs.declared.meaning.Timing.{Timing}
 use Rattle.mon_console.specs.Failure.{HasLine, IsMemory}
-use Rattle.mon_console.specs.Shown.{shown_by}
 use Rattle.mon_console.specs.declared.failure.Failure.{Failure}
 use Rattle.mon_console.specs.declared.printing.Printing.{Printing}
 use Rattle.mon_disk.specs.declared.disk.DiskError.{DiskError}
@@ -221,21 +220,21 @@ module _ (s : StationSettings) where
         (quietly (λ (result : Result SocketAddr Failure). result ≡ Ok at) (Ok at) t2 refl))
 
 -- the station of settings begins, or not
-pub started : (shown : List ℕ → List ℕ) (s : StationSettings) (at : SocketAddr) (number targets : ℕ) (peers : List ℕ) (r : Result State Failure) (t0 t1 : Option (List AtHost))
+pub started : (printing : Printing) (s : StationSettings) (at : SocketAddr) (number targets : ℕ) (peers : List ℕ) (r : Result State Failure) (t0 t1 : Option (List AtHost))
     → number ≡ s.core.station → targets ≡ length s.core.targets → peers ≡ s.core.peers
-    → GoesOnBy (λ log. IsOpening number at (string_bytes s.file) targets (length peers) shown log r) t0 t1 → GoesOnBy (λ log. IsStarted shown s at log r) t0 t1
-started shown s at number targets peers r t0 t1 same_number same_targets same_peers =
-    weaker (λ log. IsOpening number at (string_bytes s.file) targets (length peers) shown log r) (λ log. IsStarted shown s at log r) t0 t1
-    (λ log is. subst (λ (n : ℕ). IsOpening n at (string_bytes s.file) (length s.core.targets) (length s.core.peers) shown log r) same_number
-    (subst (λ (n : ℕ). IsOpening number at (string_bytes s.file) n (length s.core.peers) shown log r) same_targets
-    (subst (λ (l : List ℕ). IsOpening number at (string_bytes s.file) targets (length l) shown log r) same_peers is)))
+    → GoesOnBy (λ log. IsOpening number at (string_bytes s.file) targets (length peers) printing log r) t0 t1 → GoesOnBy (λ log. IsStarted printing s at log r) t0 t1
+started printing s at number targets peers r t0 t1 same_number same_targets same_peers =
+    weaker (λ log. IsOpening number at (string_bytes s.file) targets (length peers) printing log r) (λ log. IsStarted printing s at log r) t0 t1
+    (λ log is. subst (λ (n : ℕ). IsOpening n at (string_bytes s.file) (length s.core.targets) (length s.core.peers) printing log r) same_number
+    (subst (λ (n : ℕ). IsOpening number at (string_bytes s.file) n (length s.core.peers) printing log r) same_targets
+    (subst (λ (l : List ℕ). IsOpening number at (string_bytes s.file) targets (length l) printing log r) same_peers is)))
 
 module _ (timing : Timing) (reports : Reports) (s : StationSettings) where
   abbrev Said : Option SocketAddr → State → List AtHost → Result Unit Failure → Type 0
   Said web u = Then (IsWebSaid web) (λ (v : Unit {0}). IsRunOf timing reports)
 
   abbrev Begun : SocketAddr → Option SocketAddr → Unit {0} → List AtHost → Result Unit Failure → Type 0
-  Begun at web u = Then (IsStarted (shown_by reports.printing.names) s at) (Said web)
+  Begun at web u = Then (IsStarted reports.printing s at) (Said web)
 
   abbrev Socket : List AtHost → Result Unit Failure → Type 0
   Socket = Quietly (SomeOr (IsNoSocket s.listen))
@@ -250,15 +249,15 @@ module _ (timing : Timing) (reports : Reports) (s : StationSettings) where
   heard at web r t0 t1 rest = then_follows Socket (Begun at web) (Ok tt) r t0 t0 t1 (quietly {A = Unit {0}} (SomeOr (IsNoSocket s.listen)) (Ok tt) t0 tt) rest
 
   not_begun : (at : SocketAddr) (web : Option SocketAddr) (failure : Failure) (t0 t1 : Option (List AtHost))
-      → GoesOnBy (λ log. IsStarted (shown_by reports.printing.names) s at log (Err failure)) t0 t1 → GoesOnBy (λ log. IsWhole timing reports s at web log (Err failure)) t0 t1
+      → GoesOnBy (λ log. IsStarted reports.printing s at log (Err failure)) t0 t1 → GoesOnBy (λ log. IsWhole timing reports s at web log (Err failure)) t0 t1
   not_begun at web failure t0 t1 none =
-      heard at web (Err failure) t0 t1 (then_fails (IsStarted (shown_by reports.printing.names) s at) (Said web) failure t0 t1 none)
+      heard at web (Err failure) t0 t1 (then_fails (IsStarted reports.printing s at) (Said web) failure t0 t1 none)
 
   begun : (at : SocketAddr) (web : Option SocketAddr) (state : State) (r : Result Unit Failure) (t0 t1 t2 t3 : Option (List AtHost))
-      → GoesOnBy (λ log. IsStarted (shown_by reports.printing.names) s at log (Ok state)) t0 t1 → GoesOnBy (λ log. IsWebSaid web log (Ok tt)) t1 t2
+      → GoesOnBy (λ log. IsStarted reports.printing s at log (Ok state)) t0 t1 → GoesOnBy (λ log. IsWebSaid web log (Ok tt)) t1 t2
       → GoesOnBy (λ log. IsRunOf timing reports log r) t2 t3 → GoesOnBy (λ log. IsWhole timing reports s at web log r) t0 t3
   begun at web state r t0 t1 t2 t3 first said run =
-      heard at web r t0 t3 (then_follows (IsStarted (shown_by reports.printing.names) s at) (Said web) (Ok state) r t0 t1 t3 first
+      heard at web r t0 t3 (then_follows (IsStarted reports.printing s at) (Said web) (Ok state) r t0 t1 t3 first
       (then_follows (IsWebSaid web) (λ (v : Unit {0}). IsRunOf timing reports) (Ok tt) r t1 t2 t3 said run))
 
   -- the rounds of a station whose reports are those of its arguments
@@ -288,14 +287,14 @@ module _ (timing : Timing) (reports : Reports) (s : StationSettings) where
         (then_follows (IsUnseenOpened s) Unseen (Ok at) (Err failure) t0 t1 t1 before (unheard at None failure t1 why))
 
     pub unseen_unstarted : (at : SocketAddr) (failure : Failure) (r : Result Unit Failure) (t0 t1 t2 : Option (List AtHost)) → r ≡ Err failure
-        → GoesOnBy (λ log. IsUnseenOpened s log (Ok at)) t0 t1 → GoesOnBy (λ log. IsStarted (shown_by reports.printing.names) s at log (Err failure)) t1 t2
+        → GoesOnBy (λ log. IsUnseenOpened s log (Ok at)) t0 t1 → GoesOnBy (λ log. IsStarted reports.printing s at log (Err failure)) t1 t2
         → GoesOnBy (λ log. IsUnseen timing reports s log r) t0 t2
     unseen_unstarted at failure r t0 t1 t2 is before none =
         subst (λ (e : Result Unit Failure). GoesOnBy (λ log. IsUnseen timing reports s log e) t0 t2) (sym is)
         (then_follows (IsUnseenOpened s) Unseen (Ok at) (Err failure) t0 t1 t2 before (not_begun at None failure t1 t2 none))
 
     pub unseen_run : (at : SocketAddr) (state : State) (r : Result Unit Failure) (t0 t1 t2 t3 : Option (List AtHost)) → GoesOnBy (λ log. IsUnseenOpened s log (Ok at)) t0 t1
-        → GoesOnBy (λ log. IsStarted (shown_by reports.printing.names) s at log (Ok state)) t1 t2 → GoesOnBy (λ log. IsRunOf timing reports log r) t2 t3
+        → GoesOnBy (λ log. IsStarted reports.printing s at log (Ok state)) t1 t2 → GoesOnBy (λ log. IsRunOf timing reports log r) t2 t3
         → GoesOnBy (λ log. IsUnseen timing reports s log r) t0 t3
     unseen_run at state r t0 t1 t2 t3 before first run =
         let silent : GoesOnBy (λ log. IsWebSaid None log (Ok tt)) t2 t2 = record { more = []; holds = (refl, refl); on = stays t2 } in
@@ -318,14 +317,14 @@ module _ (timing : Timing) (reports : Reports) (s : StationSettings) where
         (then_follows (IsShownOpened s door) Seen (Ok (at, web)) (Err failure) t0 t1 t1 before (unheard at (Some web) failure t1 why))
 
     pub seen_unstarted : (at web : SocketAddr) (failure : Failure) (r : Result Unit Failure) (t0 t1 t2 : Option (List AtHost)) → r ≡ Err failure
-        → GoesOnBy (λ log. IsShownOpened s door log (Ok (at, web))) t0 t1 → GoesOnBy (λ log. IsStarted (shown_by reports.printing.names) s at log (Err failure)) t1 t2
+        → GoesOnBy (λ log. IsShownOpened s door log (Ok (at, web))) t0 t1 → GoesOnBy (λ log. IsStarted reports.printing s at log (Err failure)) t1 t2
         → GoesOnBy (λ log. IsSeen door timing reports s log r) t0 t2
     seen_unstarted at web failure r t0 t1 t2 is before none =
         subst (λ (e : Result Unit Failure). GoesOnBy (λ log. IsSeen door timing reports s log e) t0 t2) (sym is)
         (then_follows (IsShownOpened s door) Seen (Ok (at, web)) (Err failure) t0 t1 t2 before (not_begun at (Some web) failure t1 t2 none))
 
     pub seen_run : (at web : SocketAddr) (state : State) (r : Result Unit Failure) (t0 t1 t2 t3 t4 : Option (List AtHost)) → GoesOnBy (λ log. IsShownOpened s door log (Ok (at, web))) t0 t1
-        → GoesOnBy (λ log. IsStarted (shown_by reports.printing.names) s at log (Ok state)) t1 t2 → GoesOnBy (IsNoted (Some (http_line web))) t2 t3
+        → GoesOnBy (λ log. IsStarted reports.printing s at log (Ok state)) t1 t2 → GoesOnBy (IsNoted (Some (http_line web))) t2 t3
         → GoesOnBy (λ log. IsRunOf timing reports log r) t3 t4 → GoesOnBy (λ log. IsSeen door timing reports s log r) t0 t4
     seen_run at web state r t0 t1 t2 t3 t4 before first line run =
         let said = weaker (IsNoted (Some (http_line web))) (λ log. IsWebSaid (Some web) log (Ok tt)) t2 t3

@@ -35,12 +35,19 @@ pub text_noted : (pieces text : List ℕ) (before after : Option (List AtHost)) 
     → GoesOnBy (IsNoted (Some text)) before after
 text_noted pieces text before after same note = subst (λ (t : List ℕ). GoesOnBy (IsNoted (Some t)) before after) same note
 
+-- three pieces, however they are put together
+pub three_pieces : (a b c : List ℕ) → a ++ (b ++ c) ≡ a ++ b ++ c
+three_pieces a b c = simp append_assoc refl
+
 -- five pieces, however they are put together
 pub five_pieces : (a b c d e : List ℕ) → a ++ (b ++ (c ++ (d ++ e))) ≡ a ++ b ++ c ++ d ++ e
 five_pieces a b c d e = simp append_assoc refl
 
 pub seven_pieces : (a b c d e f g : List ℕ) → a ++ (b ++ (c ++ (d ++ (e ++ (f ++ g))))) ≡ a ++ b ++ c ++ d ++ e ++ f ++ g
 seven_pieces a b c d e f g = simp append_assoc refl
+
+pub nine_pieces : (a b c d e f g h i : List ℕ) → a ++ (b ++ (c ++ (d ++ (e ++ (f ++ (g ++ (h ++ i))))))) ≡ a ++ b ++ c ++ d ++ e ++ f ++ g ++ h ++ i
+nine_pieces a b c d e f g h i = simp append_assoc refl
 
 pub thirteen_pieces : (a b c d e f g h i j k l m : List ℕ)
     → a ++ (b ++ (c ++ (d ++ (e ++ (f ++ (g ++ (h ++ (i ++ (j ++ (k ++ (l ++ m))))))))))) ≡ a ++ b ++ c ++ d ++ e ++ f ++ g ++ h ++ i ++ j ++ k ++ l ++ m

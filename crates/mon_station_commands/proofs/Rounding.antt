@@ -3,7 +3,7 @@ use Rattle.std.proofs.Common.{◌≡◌, ◌∙◌, ◌≢◌, ◌≤◌, ◌++�
 use Rattle.std.specs.Prelude.{Option, Result, Ok, Err, String}
 use Rattle.std.specs.Global.{Global}
 use Rattle.mon_alarms.specs.Announcing.{Announcer}
-use Rattle.mon_console.specs.Shown.{shown_by}
+use Rattle.mon_console.specs.Printing.{IsFitted}
 use Rattle.mon_console.specs.declared.failure.Failure.{Failure}
 use Rattle.mon_console.specs.declared.printing.Printing.{Printing}
 use Rattle.mon_host.specs.AtHost.{AtHost}
@@ -18,7 +18,7 @@ use Rattle.mon_station_commands.specs.Keeping.{IsFileKept}
 use Rattle.mon_station_commands.specs.Pace.{IsStopped}
 use Rattle.mon_station_commands.specs.Quiet.{AreQuiet}
 use Rattle.mon_station_commands.specs.Reporting.{IsOut, IsReported}
-use Rattle.mon_station_commands.specs.Rounds.{AreRounds, AreRun, IsBetween, IsFinish, IsLastRun, IsReportAt, IsRound, IsRoundRun, IsRun, Moment}
+use Rattle.mon_station_commands.specs.Rounds.{AreRounds, AreRun, IsBetween, IsFinish, IsLastReport, IsLastRun, IsReportAt, IsRound, IsRoundRun, IsRun, Moment, printed_by}
 use Rattle.mon_station_commands.specs.Spans.{IsOfRun, IsSpan}
 use Rattle.mon_station_commands.specs.Steps.{IsKeptOf}
 use Rattle.mon_station_commands.specs.Telling.{announced_notes}
@@ -31,7 +31,7 @@ pub round_is : (round : ℕ) (printing : Printing) (paths : Paths) (targets : Li
     (seen : List (List ℕ)) (announcer : Announcer) (strayed : Bool) (start before between after : Option (List AtHost)) → moment.reports.printing ≡ printing → moment.round_at ≡ ran.round_at
     → a ≡ record ran { unwritten = a.unwritten }
     → GoesOnBy (λ log. IsFileKept round (string_bytes paths.file) b.strayed log strayed) start before
-    → GoesOnBy (λ log. IsSpan (IsOfRun targets events run) (announced_notes (shown_by printing.names) moment.state.board seen announcer) round true (let k : Kept = record b { strayed = strayed } in k) ran log) before between
+    → GoesOnBy (λ log. IsSpan (IsOfRun targets events run) (announced_notes printing round moment.state.board seen announcer) round true (let k : Kept = record b { strayed = strayed } in k) ran log) before between
     → GoesOnBy (λ log. IsOut round (option_map string_bytes paths.out) (IsReportAt moment) ran.unwritten log a.unwritten) between after → GoesOnBy (λ log. IsRound round printing paths b a log) start after
 round_is round printing paths targets events run b ran a moment seen announcer strayed start before between after format at kept look first second = record {
   more = look.more ++ (first.more ++ second.more);
@@ -182,18 +182,18 @@ not_finished moment k failure result told is = record { more = []; holds = (refl
 
 -- the last report, and how the run ends
 pub finished : (moment : Moment) (end k : Kept) (done : Unit) (result : Result Unit Failure) (t0 t1 : Option (List AtHost)) → end ≡ k
-    → GoesOnBy (λ log. IsReported (IsReportAt moment) log (Ok done)) t0 t1
+    → GoesOnBy (λ log. IsLastReport moment log (Ok done)) t0 t1
     → IsEnded end.unsaved end.unprinted end.unwritten result → GoesOnBy (λ log. IsFinish moment k log result) t0 t1
 finished moment end k done result t0 t1 same report is =
-    then_follows (IsReported (IsReportAt moment)) (λ (d : Unit). Quietly (IsEnded k.unsaved k.unprinted k.unwritten)) (Ok done) result t0 t1 t1 report
+    then_follows (IsLastReport moment) (λ (d : Unit). Quietly (IsEnded k.unsaved k.unprinted k.unwritten)) (Ok done) result t0 t1 t1 report
     (quietly (IsEnded k.unsaved k.unprinted k.unwritten) result t1
     (subst (λ (f : Kept). IsEnded f.unsaved f.unprinted f.unwritten result) same is))
 
 pub unfinished : (moment : Moment) (k : Kept) (failure : Failure) (result : Result Unit Failure) (t0 t1 : Option (List AtHost)) → result ≡ Err failure
-    → GoesOnBy (λ log. IsReported (IsReportAt moment) log (Err failure)) t0 t1 → GoesOnBy (λ log. IsFinish moment k log result) t0 t1
+    → GoesOnBy (λ log. IsLastReport moment log (Err failure)) t0 t1 → GoesOnBy (λ log. IsFinish moment k log result) t0 t1
 unfinished moment k failure result t0 t1 is report =
     subst (λ (r : Result Unit Failure). GoesOnBy (λ log. IsFinish moment k log r) t0 t1) (sym is)
-    (then_fails (IsReported (IsReportAt moment)) (λ (d : Unit). Quietly (IsEnded k.unsaved k.unprinted k.unwritten)) failure t0 t1 report)
+    (then_fails (IsLastReport moment) (λ (d : Unit). Quietly (IsEnded k.unsaved k.unprinted k.unwritten)) failure t0 t1 report)
 
 pub one_on : (n number : ℕ) → number ≡ suc n → number + 1 ≡ suc (suc n)
 one_on n number is = grind arith
@@ -222,3 +222,12 @@ all_run_as every p paths start rounds n number p1 paths1 k after r t0 t1 t2 coun
     all_run every p paths start rounds n k after r t0 t1 t2 (at_last n number rounds count so over) first
     (subst (λ (q : Printing). GoesOnBy (λ log. IsLastRun rounds q paths k after log r) t1 t2) same
     (subst (λ (q : Paths). GoesOnBy (λ log. IsLastRun rounds p1 q k after log r) t1 t2) sameo last))
+
+-- the last report, after standard output was looked at
+pub last_report : (moment : Moment) (last : Printing) (r : Result Unit Failure) (t0 t1 t2 : Option (List AtHost)) → GoesOnBy (IsFitted moment.reports.printing last) t0 t1
+    → GoesOnBy (λ log. IsReported (IsReportAt (printed_by last moment)) log r) t1 t2 → GoesOnBy (λ log. IsLastReport moment log r) t0 t2
+last_report moment last r t0 t1 t2 look report = record {
+  more = look.more ++ report.more;
+  holds = record { last = last; look = look.more; fitted = look.holds; rest = report.more; reported = report.holds; log_is = refl };
+  on = goes_on look.more report.more t0 t1 t2 look.on report.on;
+}

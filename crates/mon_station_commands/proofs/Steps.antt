@@ -17,6 +17,7 @@ use Rattle.mon_host.specs.AtHost.{AtHost, IsNoted, Noted}
 use Rattle.mon_host.specs.Log.{GoesOnBy}
 use Rattle.mon_host.specs.Then.{Quietly, Then}
 use Rattle.mon_host.proofs.Promised.{goes_on, quietly, then_fails, then_follows, weaker}
+use Rattle.mon_page.specs.declared.extras.Presentation.{Presentation}
 use Rattle.mon_page.specs.declared.figures.Figures.{Figures}
 use Rattle.mon_report.specs.Report.{Entry}
 use Rattle.mon_station_commands.specs.Age.{IsAge, IsAgeSaid}
@@ -57,13 +58,13 @@ tried Step given failure before between after step said = record {
 -- the report of a board, of states and of figures
 pub report_is : (Holds : Figures → Type 0) (printing : Printing) (board : Board) (states : List AlarmState) (entries : List Entry) (figures : Figures)
     (r : Result (Vec ℕ) AllocError) → Holds figures → entries ≡ entries_by board states
-    → IfOk r (λ text. text.items ≡ formatted printing.format (shown_by printing.names) entries (Some figures) printing.labels.items)
+    → IfOk r (λ text. text.items ≡ formatted printing.format (shown_by printing.names) entries (Some figures) printing.labels.items printing.presentation)
     → IfOk r (λ text. IsReport Holds printing board states text.items)
 report_is Holds printing board states entries figures (Ok text) holds same is = record {
   figures = Some figures;
   holds = holds;
   needed = λ none. absurd (let not : Some figures ≡ None = none in let never : ⊥ = cc in never);
-  text_is = is ∙ ap (λ (es : List Entry). formatted printing.format (shown_by printing.names) es (Some figures) printing.labels.items) same;
+  text_is = is ∙ ap (λ (es : List Entry). formatted printing.format (shown_by printing.names) es (Some figures) printing.labels.items printing.presentation) same;
 }
 report_is Holds printing board states entries figures (Err fault) holds same is = tt
 
@@ -74,13 +75,13 @@ failure_is (Err f) failure is = ap Err is
 
 -- lines of text with names in numbers, which say nothing of figures
 pub plain : (Holds : Figures → Type 0) (printing : Printing) (board other : Board) (states : List AlarmState) (text : List ℕ) → printing.format ≡ Text → printing.names ≡ None → other ≡ board
-    → text ≡ report_in Text (shown_by None) other.watch (window_of other) None [] → IsReport Holds printing board states text
+    → ((p : Presentation) → text ≡ report_in Text (shown_by None) other.watch (window_of other) None [] p) → IsReport Holds printing board states text
 plain Holds printing board other states text format names same is = record {
   figures = None;
   holds = tt;
   needed = λ none. format;
-  text_is = is ∙ (ap (λ (b : Board). report_in Text (shown_by None) b.watch (window_of b) None printing.labels.items) same
-      ∙ (λ i. report_in (sym format i) (shown_by (sym names i)) board.watch (window_of board) None printing.labels.items));
+  text_is = is printing.presentation ∙ (ap (λ (b : Board). report_in Text (shown_by None) b.watch (window_of b) None printing.labels.items printing.presentation) same
+      ∙ (λ i. report_in (sym format i) (shown_by (sym names i)) board.watch (window_of board) None printing.labels.items printing.presentation));
 }
 
 -- a file for reports, what was done to it, and what was said of that
@@ -130,7 +131,6 @@ unwritten_said round path failure before between after note told =
     }
 
 -- the age of a file was said, as a step
-pub aged : (path own : List ℕ) (before after : Option (List AtHost)) → own ≡ path → GoesOnBy (IsAgeSaid own) before after
-    → GoesOnBy (λ log. IsAge path log (let r : Result Unit Failure = Ok tt in r)) before after
-aged path own before after same said = weaker (IsAgeSaid path) (λ log. IsAge path log (let r : Result Unit Failure = Ok tt in r)) before after (λ log is. (is, refl))
-    (subst (λ (p : List ℕ). GoesOnBy (IsAgeSaid p) before after) same said)
+pub aged : (path own : List ℕ) (age : Option ℕ) (before after : Option (List AtHost)) → own ≡ path → GoesOnBy (λ log. IsAgeSaid own log age) before after
+    → GoesOnBy (λ log. IsAge path log (let r : Result (Option ℕ) Failure = Ok age in r)) before after
+aged path own age before after same said = subst (λ (p : List ℕ). GoesOnBy (λ log. IsAgeSaid p log age) before after) same said

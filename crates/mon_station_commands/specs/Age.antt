@@ -1,5 +1,5 @@
 -- How old a station's file is.
-use Rattle.std.specs.Prelude.{◌≡◌, ◌⊎◌, ◌-◌, ◌/◌, ℕ, nat_le, List, [], ◌∷◌, ◌++◌, if◌then◌else◌, Option, Some, None, Result, Ok, codes, decimal}
+use Rattle.std.specs.Prelude.{◌≡◌, ◌⊎◌, ◌-◌, ◌/◌, ℕ, nat_le, List, [], ◌∷◌, ◌++◌, if◌then◌else◌, Option, Some, None, Result, Ok, Err, codes, decimal}
 use Rattle.std.specs.Time.{system_time_nanos}
 use Rattle.std.specs.declared.time.SystemTime.{SystemTime}
 use Rattle.mon_console.specs.declared.failure.Failure.{Failure}
@@ -19,20 +19,21 @@ age_lines path None = []
 age_lines path (Some seconds) =
     Some (codes "snmpmon: " ++ (path ++ (codes " was saved " ++ (decimal seconds ++ codes " s ago\n")))) ∷ []
 
--- of a file that was changed at this time the wall clock is asked, and it is said how long ago that was;
--- nothing if the clock fails
-abbrev pub IsSinceSaid : (path : List ℕ) → SystemTime → List AtHost → Type 0
-IsSinceSaid path changed log = ((why : Why) × (log ≡ Undated why ∷ []))
+-- Of a file that was changed at this time the wall clock is asked, and it is said how many seconds ago
+-- that was. If the clock fails nothing is said, and the age is not known.
+abbrev pub IsSinceSaid : (path : List ℕ) → SystemTime → List AtHost → (age : Option ℕ) → Type 0
+IsSinceSaid path changed log age = ((why : Why) × (log ≡ Undated why ∷ []) × (age ≡ None))
     ⊎ ((now : SystemTime) × (rest : List AtHost) × AreNoted (age_lines path (seconds_between changed now)) rest
-    × (log ≡ Dated now ∷ rest))
+    × (log ≡ Dated now ∷ rest) × (age ≡ seconds_between changed now))
 
--- it is asked when the file at a path was changed, and said how long ago that was; nothing if the system
--- does not say it
-abbrev pub IsAgeSaid : (path : List ℕ) → List AtHost → Type 0
-IsAgeSaid path log = ((why : Why) × (log ≡ FileUndated path why ∷ []))
-    ⊎ ((changed : SystemTime) × (rest : List AtHost) × IsSinceSaid path changed rest
+-- It is asked when the file at a path was changed, and said how many seconds ago that was. If the system
+-- does not say it nothing is said, and the age is not known.
+abbrev pub IsAgeSaid : (path : List ℕ) → List AtHost → (age : Option ℕ) → Type 0
+IsAgeSaid path log age = ((why : Why) × (log ≡ FileUndated path why ∷ []) × (age ≡ None))
+    ⊎ ((changed : SystemTime) × (rest : List AtHost) × IsSinceSaid path changed rest age
     × (log ≡ FileDated path changed ∷ rest))
 
 -- saying how old a file is, as a step that cannot fail
-abbrev pub IsAge : (path : List ℕ) → List AtHost → Result Unit Failure → Type 0
-IsAge path log result = IsAgeSaid path log × (result ≡ Ok tt)
+abbrev pub IsAge : (path : List ℕ) → List AtHost → Result (Option ℕ) Failure → Type 0
+IsAge path log (Ok age) = IsAgeSaid path log age
+IsAge path log (Err failure) = ⊥

@@ -2,12 +2,15 @@
 use Rattle.std.specs.Prelude.{◌≡◌, ℕ, zero, suc, ◌+◌, Bool, List, [], ◌∷◌, ◌++◌, Option, Some, None, is_some, map, length, slice_get, string_bytes}
 use Rattle.std.specs.Global.{Vec}
 use Rattle.mon_page.specs.declared.figures.Figures.{Figures}
+use Rattle.mon_page.specs.declared.figures.PeerFigures.{PeerFigures}
 use Rattle.mon_page.specs.declared.figures.TargetFigures.{TargetFigures}
+use Rattle.mon_rounds.specs.Changes.{is_lost}
 use Rattle.mon_rounds.specs.Course.{debts_to}
 use Rattle.mon_rounds.specs.Freshness.{seconds_since}
 use Rattle.mon_rounds.specs.declared.course.Course.{Course}
 use Rattle.mon_rounds.specs.declared.freshness.Freshness.{Freshness}
 use Rattle.mon_rounds.specs.declared.freshness.InstanceAge.{InstanceAge}
+use Rattle.mon_rounds.specs.declared.freshness.PeerAge.{PeerAge}
 use Rattle.mon_rounds.specs.declared.freshness.TargetAge.{TargetAge}
 use Rattle.mon_station.specs.State.{State}
 use Rattle.mon_station_commands.specs.declared.live.Reports.{Reports}
@@ -65,6 +68,10 @@ abbrev pub engines_for : ℕ → List (Vec ℕ) → List (List ℕ)
 engines_for zero engines = []
 engines_for (suc n) engines = engines_for n engines ++ (engine_at engines n ∷ [])
 
+-- what is said of a peer, which is silent after this many rounds without a datagram
+abbrev pub peer_of : (limit : ℕ) → PeerAge → PeerFigures
+peer_of limit p = record { station = p.station; rounds = p.rounds; silent = is_lost limit p }
+
 -- The figures are those of a station with this state, of what it did and received since its start,
 -- with these peers and engine ids of targets, at this time in milliseconds since its start. Its last
 -- round ended at `round_at`, in seconds since 1970.
@@ -77,6 +84,7 @@ pub record AreFigures (state : State) (course : Course) (fresh : Freshness) (pee
   pub taken : f.taken ≡ course.taken
   pub given_up : f.given_up ≡ course.given_up
   pub debts : f.debts.items ≡ debts_to state peers
+  pub heard : f.peers.items ≡ map (peer_of reports.stale_after) fresh.peers.items
   pub failed_saves : f.failed_saves ≡ fresh.failed_saves
   pub strangers : f.strangers ≡ fresh.strangers
   pub round_ms : f.round_ms ≡ fresh.round_ms

@@ -32,7 +32,7 @@ entries_by board states =
 -- the report of a board, of these states of its alarms, and of these figures
 abbrev pub report_by : Printing → Board → (states : List AlarmState) → Option Figures → List ℕ
 report_by printing board states figures = formatted printing.format (shown_by printing.names)
-    (entries_by board states) figures printing.labels.items
+    (entries_by board states) figures printing.labels.items printing.presentation
 
 -- states that go with figures; without these there are none
 abbrev pub states_with : Option Figures → List AlarmState → List AlarmState

@@ -2,7 +2,7 @@
 use Rattle.std.specs.Prelude.{◌≡◌, ◌⊎◌, ◌≤◌, ◌-◌, ℕ, zero, suc, Bool, false, true, List, [], ◌++◌, Option, Some, None, Result, Ok, Err, option_map, string_bytes}
 use Rattle.std.specs.Global.{Vec}
 use Rattle.mon_alarms.specs.Announcing.{Announcer}
-use Rattle.mon_console.specs.Shown.{shown_by}
+use Rattle.mon_console.specs.Printing.{IsFitted}
 use Rattle.mon_console.specs.declared.failure.Failure.{Failure}
 use Rattle.mon_console.specs.declared.printing.Printing.{Printing}
 use Rattle.mon_host.specs.AtHost.{AtHost}
@@ -37,6 +37,24 @@ pub record Moment : Type 0 where
   pub round_at : Option ℕ
   pub reports : Reports
 
+-- a station at a time, of which this is known
+abbrev pub moment_of : State → Course → Freshness → (peers : List ℕ) (engines : List (Vec ℕ)) (now : ℕ)
+    (round_at : Option ℕ) → Reports → Moment
+moment_of state course fresh peers engines now round_at reports = record {
+  state = state;
+  course = course;
+  fresh = fresh;
+  peers = peers;
+  engines = engines;
+  now = now;
+  round_at = round_at;
+  reports = reports;
+}
+
+-- the same whose reports are printed in this way
+abbrev pub printed_by : Printing → Moment → Moment
+printed_by printing m = record m { reports = record m.reports { printing = printing } }
+
 -- the report of a station at a time
 abbrev pub IsReportAt : Moment → List ℕ → Type 0
 IsReportAt m = IsReportOf m.state m.course m.fresh m.peers m.engines m.now m.round_at m.reports
@@ -65,7 +83,7 @@ pub record IsRound (round : ℕ) (printing : Printing) (paths : Paths) (before a
   pub ran : Kept
   pub begin : List AtHost
   pub said : IsSpan (IsOfRun targets events run)
-      (announced_notes (shown_by printing.names) moment.state.board seen announcer) round true
+      (announced_notes printing round moment.state.board seen announcer) round true
       record before { strayed = strayed } ran begin
   pub rest : List AtHost
   pub written : IsOut round (option_map string_bytes paths.out) (IsReportAt moment) ran.unwritten rest after.unwritten
@@ -158,9 +176,19 @@ AreRun rounds every printing paths start log after (Ok done) =
 AreRun rounds every printing paths start log after (Err failure) =
     AreCutShort rounds every printing paths start log failure
 
+-- the last report is printed: as a table, if standard output is a terminal and the arguments name no
+-- format
+pub record IsLastReport (moment : Moment) (log : List AtHost) (result : Result Unit Failure) : Type 0 where
+  pub last : Printing
+  pub look : List AtHost
+  pub fitted : IsFitted moment.reports.printing last look
+  pub rest : List AtHost
+  pub reported : IsReported (IsReportAt (printed_by last moment)) rest result
+  pub log_is : log ≡ look ++ rest
+
 -- after the rounds one report is printed, and the run ends as what was kept has it
 abbrev pub IsFinish : Moment → Kept → List AtHost → Result Unit Failure → Type 0
-IsFinish moment after = Then (IsReported (IsReportAt moment))
+IsFinish moment after = Then (IsLastReport moment)
     (λ done. Quietly (IsEnded after.unsaved after.unprinted after.unwritten))
 
 -- A station's run from its first round on: so many rounds, each with its report, and at the end one

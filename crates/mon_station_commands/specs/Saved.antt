@@ -6,6 +6,7 @@ use Rattle.mon_cli.specs.declared.meaning.Printed.{Printed}
 use Rattle.mon_console.specs.Failure.{IsOf}
 use Rattle.mon_console.specs.Files.{IsPart, IsPrint}
 use Rattle.mon_console.specs.Labelled.{IsLabelled}
+use Rattle.mon_console.specs.Printing.{aged}
 use Rattle.mon_console.specs.declared.failure.Failure.{Failure}
 use Rattle.mon_console.specs.declared.printing.Printing.{Printing}
 use Rattle.mon_faults.specs.Fault.{station_fault}
@@ -84,11 +85,12 @@ IsBoardIn s octets (Err failure) = (fault : StationFault) × IsFaultOfOctets s.c
 abbrev pub IsSavedIn : StationSettings → List AtHost → Result Board Failure → Type 0
 IsSavedIn s = Then (IsSteadyRead (string_bytes s.file) 15) (λ octets. Quietly (IsBoardIn s octets.items))
 
--- the file of these settings is read, it is said how old it is, and the report of its windows is printed
+-- the file of these settings is read, it is said how old it is, and the report of its windows with this
+-- age is printed
 abbrev pub IsSavedReport : StationSettings → Printing → List AtHost → Result Unit Failure → Type 0
 IsSavedReport s printing = Then (IsSavedIn s) (λ board.
-    Then (IsAge (string_bytes s.file)) (λ (aged : Unit {0}).
-    Then (Quietly (OrMemory (λ (text : List ℕ). text ≡ report_by printing board [] None))) IsPrint))
+    Then (IsAge (string_bytes s.file)) (λ (age : Option ℕ).
+    Then (Quietly (OrMemory (λ (text : List ℕ). text ≡ report_by (aged age printing) board [] None))) IsPrint))
 
 -- The command `report`: the settings and labels are read, then the file that the settings name, whose
 -- age is said. Then one report is printed, and nothing is replaced.

@@ -7,6 +7,7 @@ use Rattle.mon_formats.specs.Formats.{formatted}
 use Rattle.mon_formats.specs.declared.format.Format.TheVariants.{Html, Json, Prometheus}
 use Rattle.mon_page.specs.declared.figures.Figures.{Figures}
 use Rattle.mon_page.specs.declared.extras.InstanceLabels.{InstanceLabels}
+use Rattle.mon_page.specs.declared.extras.Presentation.{Presentation}
 use Rattle.mon_report.specs.Report.{Entry}
 use Rattle.mon_rounds.specs.declared.course.Course.{Course}
 use Rattle.mon_rounds.specs.declared.freshness.Freshness.{Freshness}
@@ -19,13 +20,13 @@ use Rattle.mon_web.specs.declared.site.Site.{Site}
 use Rattle.mon_web.specs.declared.site.Texts.{Texts}
 
 -- Texts are the report of these instances in the formats of a site's three routes: of figures for
--- which this holds, with names shown so and these labels.
-pub record AreTexts (Holds : Figures → Type 0) (shown : List ℕ → List ℕ) (entries : List Entry) (labels : List InstanceLabels) (texts : Texts) : Type 0 where
+-- which this holds, with names shown so, and with these labels, presented so.
+pub record AreTexts (Holds : Figures → Type 0) (shown : List ℕ → List ℕ) (entries : List Entry) (labels : List InstanceLabels) (presentation : Presentation) (texts : Texts) : Type 0 where
   pub figures : Figures
   pub holds : Holds figures
-  pub metrics : texts.metrics.items ≡ formatted Prometheus shown entries (Some figures) labels
-  pub report : texts.report.items ≡ formatted Json shown entries (Some figures) labels
-  pub page : texts.page.items ≡ formatted Html shown entries (Some figures) labels
+  pub metrics : texts.metrics.items ≡ formatted Prometheus shown entries (Some figures) labels presentation
+  pub report : texts.report.items ≡ formatted Json shown entries (Some figures) labels presentation
+  pub page : texts.page.items ≡ formatted Html shown entries (Some figures) labels presentation
 
 -- The texts of a station: of its board as it is, of what was announced of its alarms, and of what it
 -- says of itself, as AreFigures has it.
@@ -34,7 +35,7 @@ abbrev pub AreTextsOf : State → Course → Freshness → (peers : List ℕ) (e
 AreTextsOf state course fresh peers engines now round_at reports =
     AreTexts (AreFigures state course fresh peers engines now round_at reports) (shown_by reports.printing.names)
     (entries_by state.board (announced_states course.announcer))
-    reports.printing.labels.items
+    reports.printing.labels.items reports.printing.presentation
 
 -- A site, if there is one, shows texts for which this holds; or none, if there was no memory for
 -- them.

@@ -4,7 +4,6 @@ use Rattle.std.specs.declared.net.socket_addr.SocketAddr.{SocketAddr}
 use Rattle.mon_cli.specs.declared.meaning.StationArgs.{StationArgs}
 use Rattle.mon_cli.specs.declared.meaning.Timing.{Timing}
 use Rattle.mon_console.specs.Labelled.{IsLabelled}
-use Rattle.mon_console.specs.Shown.{shown_by}
 use Rattle.mon_console.specs.declared.failure.Failure.{Failure}
 use Rattle.mon_console.specs.declared.printing.Printing.{Printing}
 use Rattle.mon_host.specs.AtHost.{AtHost, Noted}
@@ -37,10 +36,10 @@ pub record AreReports (words : StationArgs) (s : StationSettings) (printing : Pr
   pub interval : reports.interval ≡ words.timing.interval
 
 -- The station of settings begins at this address, and says so; or it doesn't.
-abbrev pub IsStarted : (shown : List ℕ → List ℕ) → StationSettings → SocketAddr → List AtHost
+abbrev pub IsStarted : Printing → StationSettings → SocketAddr → List AtHost
     → Result State Failure → Type 0
-IsStarted shown s at = IsOpening s.core.station at (string_bytes s.file) (length s.core.targets)
-    (length s.core.peers) shown
+IsStarted printing s at = IsOpening s.core.station at (string_bytes s.file) (length s.core.targets)
+    (length s.core.peers) printing
 
 -- the line of where HTTP is served, if it is
 abbrev pub IsWebSaid : Option SocketAddr → List AtHost → Result Unit Failure → Type 0
@@ -57,7 +56,7 @@ IsRunOf timing reports = IsRun timing.rounds timing.report_every reports.printin
 abbrev pub IsWhole : Timing → Reports → StationSettings → SocketAddr → (web : Option SocketAddr)
     → List AtHost → Result Unit Failure → Type 0
 IsWhole timing reports s at web = Then (Quietly (SomeOr (IsNoSocket s.listen))) (λ (heard : Unit {0}).
-    Then (IsStarted (shown_by reports.printing.names) s at) (λ (state : State).
+    Then (IsStarted reports.printing s at) (λ (state : State).
     Then (IsWebSaid web) (λ (said : Unit {0}). IsRunOf timing reports)))
 
 -- a station that serves no HTTP, from its opening on

@@ -6,10 +6,11 @@ use Rattle.std.specs.Net.Text.{socket_text}
 use Rattle.std.specs.declared.net.socket_addr.SocketAddr.{SocketAddr}
 use Rattle.mon_alarms.specs.Announcing.{Announcer, announced_of}
 use Rattle.mon_alarms.specs.declared.change.AlarmChange.{AlarmChange}
-use Rattle.mon_board.specs.Watch.{Watch}
 use Rattle.mon_board.specs.declared.board.Board.{Board}
 use Rattle.mon_console.specs.Failure.{IsMemory}
+use Rattle.mon_console.specs.Shown.{shown_by}
 use Rattle.mon_console.specs.declared.failure.Failure.{Failure}
+use Rattle.mon_console.specs.declared.printing.Printing.{Printing}
 use Rattle.mon_formats.specs.Changes.{change_line}
 use Rattle.mon_host.specs.AtHost.{AtHost, Noted}
 use Rattle.mon_poller.specs.declared.fault.ResponseFault.TheVariants.{OtherEngine, Stray}
@@ -80,22 +81,26 @@ strays_in notices = fold strays_after 0 notices
 abbrev pub last_stray : List Notice → Option Addr
 last_stray notices = fold stray_after None notices
 
+-- the end of a word after a number: none after 1
+abbrev pub plural : ℕ → List ℕ
+plural n = if n == 1 then [] else codes "s"
+
 -- the line of responses from addresses of no target, if there are any: how many, and the last one
 abbrev pub stray_lines : (round count : ℕ) → Option Addr → List (Option (List ℕ))
 stray_lines round count None = []
 stray_lines round count (Some last) = Some (codes "snmpmon: round " ++ decimal round ++ codes ": "
-    ++ decimal count ++ codes " responses came from addresses of no target, the last from "
+    ++ decimal count ++ codes " response" ++ plural count ++ codes " came from addresses of no target, the last from "
     ++ addr_text last ++ codes "\n") ∷ []
 
 -- the line of how often nothing could be received
 abbrev pub unreceived_lines : (round count : ℕ) → List (Option (List ℕ))
 unreceived_lines round count = if count == 0 then []
-    else (Some (codes "snmpmon: round " ++ decimal round ++ codes ": nothing could be received, " ++ decimal count ++ codes " times\n") ∷ [])
+    else (Some (codes "snmpmon: round " ++ decimal round ++ codes ": nothing could be received, " ++ decimal count ++ codes " time" ++ plural count ++ codes "\n") ∷ [])
 
 -- the line of how many datagrams could not be sent
 abbrev pub unsent_lines : (round count : ℕ) → List (Option (List ℕ))
 unsent_lines round count = if count == 0 then []
-    else (Some (codes "snmpmon: round " ++ decimal round ++ codes ": " ++ decimal count ++ codes " datagrams could not be sent\n") ∷ [])
+    else (Some (codes "snmpmon: round " ++ decimal round ++ codes ": " ++ decimal count ++ codes " datagram" ++ plural count ++ codes " could not be sent\n") ∷ [])
 
 -- what is said of a round: its notices in order, and what else went wrong
 abbrev pub round_lines : ℕ → RoundReport → List (Option (List ℕ))
@@ -129,9 +134,15 @@ text_lines round [] = []
 text_lines round (c ∷ cs) =
     Some (codes "snmpmon: round " ++ decimal round ++ codes ": " ++ (c ∷ cs) ++ codes "\n") ∷ []
 
--- the line of an alarm
-abbrev pub alarm_note : (List ℕ → List ℕ) → Watch → AlarmChange → List ℕ
-alarm_note shown watch change = codes "snmpmon: " ++ change_line shown watch change ++ codes "\n"
+-- a line of the program, in a round if it is of one
+abbrev pub line_in : (round : Option ℕ) → List ℕ → List ℕ
+line_in None line = codes "snmpmon: " ++ line ++ codes "\n"
+line_in (Some round) line = codes "snmpmon: round " ++ decimal round ++ codes ": " ++ line ++ codes "\n"
+
+-- the line of an alarm of a board, in a round if it changed in one
+abbrev pub alarm_note : (round : Option ℕ) → Printing → Board → AlarmChange → List ℕ
+alarm_note round printing board change =
+    line_in round (change_line (shown_by printing.names) board printing.labels.items change)
 
 -- Some of these lines were sent to standard error, from the first one on; all, unless memory ran out.
 pub record AreSaid (lines : List (List ℕ)) (log : List AtHost) (result : Result Unit AllocError) : Type 0 where
@@ -139,16 +150,16 @@ pub record AreSaid (lines : List (List ℕ)) (log : List AtHost) (result : Resul
   pub log_is : log ≡ map Noted (take many lines)
   pub all : OnOk result (take many lines ≡ lines)
 
--- the lines of what is announced of a board's alarms, whose windows were seen so before: at a look, or
--- between two
-abbrev pub announced_notes : (List ℕ → List ℕ) → Board → (seen : List (List ℕ)) → Announcer
+-- the lines of what is announced of a board's alarms in a round, whose windows were seen so before: at
+-- a look, or between two
+abbrev pub announced_notes : Printing → (round : ℕ) → Board → (seen : List (List ℕ)) → Announcer
     → (looks : Bool) → List (List ℕ)
-announced_notes shown board seen announcer looks =
-    map (alarm_note shown board.watch) (announced_of looks (changes_since board seen) announcer)
+announced_notes printing round board seen announcer looks =
+    map (alarm_note (Some round) printing board) (announced_of looks (changes_since board seen) announcer)
 
 -- the lines of the alarms of a board that are raised, in order
-abbrev pub raised_notes : (List ℕ → List ℕ) → Board → List (List ℕ)
-raised_notes shown board = map (alarm_note shown board.watch) (raised_from board 0 board.watch.rules)
+abbrev pub raised_notes : Printing → Board → List (List ℕ)
+raised_notes printing board = map (alarm_note None printing board) (raised_from board 0 board.watch.rules)
 
 -- the line of where a station is and what it polls
 abbrev pub start_line : (number : ℕ) (at : SocketAddr) (incarnation : ℕ) (file : List ℕ) (targets peers : ℕ) → List ℕ
@@ -205,21 +216,21 @@ opened_to (Ok done) state = Some state
 opened_to (Err fault) state = None
 
 -- A station was opened: the lines of its start were said, and then those of its raised alarms.
-pub record IsOpened (number : ℕ) (at : SocketAddr) (file : List ℕ) (targets peers : ℕ) (shown : List ℕ → List ℕ) (log : List AtHost) (found : Option State) : Type 0 where
+pub record IsOpened (number : ℕ) (at : SocketAddr) (file : List ℕ) (targets peers : ℕ) (printing : Printing) (log : List AtHost) (found : Option State) : Type 0 where
   pub state : State
   pub told : Result Unit AllocError
   pub begin : List AtHost
   pub begun : AreNoted (start_lines number at state.incarnation file targets peers) begin
   pub rest : List AtHost
-  pub raised : AreSaid (raised_notes shown state.board) rest told
+  pub raised : AreSaid (raised_notes printing state.board) rest told
   pub log_is : log ≡ begin ++ rest
   pub found_is : found ≡ opened_to told state
 
 -- A station was opened; or it could not be, and nothing was said; or memory ran out for the line of an
 -- alarm.
 abbrev pub IsOpening : (number : ℕ) (at : SocketAddr) (file : List ℕ) (targets peers : ℕ)
-    → (shown : List ℕ → List ℕ) → List AtHost → Result State Failure → Type 0
-IsOpening number at file targets peers shown log (Ok state) =
-    IsOpened number at file targets peers shown log (Some state)
-IsOpening number at file targets peers shown log (Err failure) = ((log ≡ []) × IsNoStation failure)
-    ⊎ (IsOpened number at file targets peers shown log None × IsMemory failure)
+    → Printing → List AtHost → Result State Failure → Type 0
+IsOpening number at file targets peers printing log (Ok state) =
+    IsOpened number at file targets peers printing log (Some state)
+IsOpening number at file targets peers printing log (Err failure) = ((log ≡ []) × IsNoStation failure)
+    ⊎ (IsOpened number at file targets peers printing log None × IsMemory failure)

@@ -22,7 +22,7 @@ use Rattle.mon_rounds.specs.declared.freshness.InstanceAge.{InstanceAge}
 use Rattle.mon_rounds.specs.declared.freshness.PeerAge.{PeerAge}
 use Rattle.mon_rounds.specs.declared.freshness.TargetAge.{TargetAge}
 use Rattle.mon_station.specs.declared.fault.StationFault.{StationFault}
-use Rattle.mon_station_commands.specs.Telling.{AreNoted, text_lines}
+use Rattle.mon_station_commands.specs.Telling.{AreNoted, plural, text_lines}
 use Rattle.mon_station_commands.specs.declared.troubles.Facts.{Facts}
 use Rattle.mon_station_commands.specs.declared.troubles.Key.{Key}
 use Rattle.mon_udp.specs.Addr.{addr_text}
@@ -104,7 +104,8 @@ said_if says (Some a) = Some (says a)
 -- a target answers late, or in time again
 abbrev pub late_text : (begins : Bool) → TargetAge → List ℕ
 late_text true t = target_text t ++ (codes " answers late (" ++ (decimal t.late.datagrams
-    ++ (codes " datagrams in " ++ (decimal t.late.rounds ++ codes " rounds): raise wait_ms"))))
+    ++ (codes " datagram" ++ (plural t.late.datagrams ++ (codes " in " ++ (decimal t.late.rounds
+    ++ (codes " round" ++ (plural t.late.rounds ++ codes "): raise wait_ms"))))))))
 late_text false t = target_text t ++ codes " answers in time again"
 
 -- what is said of a target that is late, by a change
@@ -114,7 +115,7 @@ late_at facts change = said_if (late_text change.begins) (slice_get facts.freshn
 -- nothing comes from a peer, or something does again
 abbrev pub peer_text : (begins : Bool) → PeerAge → List ℕ
 peer_text true p = codes "nothing came from station " ++ (decimal p.station
-    ++ (codes " for " ++ (decimal p.rounds ++ codes " rounds")))
+    ++ (codes " for " ++ (decimal p.rounds ++ (codes " round" ++ plural p.rounds))))
 peer_text false p = codes "station " ++ decimal p.station ++ codes " sends again"
 
 -- what is said of a silent peer, by a change

@@ -8,24 +8,29 @@ ghost use Rattle.mon_station_commands.specs.Telling.{AreNoted};
 use mon_host::Host;
 use std::time::SystemTime;
 
-/// Says how many seconds ago the file at a path was saved: when it was changed last, by the wall
-/// clock. Nothing is said if that is not known, or is after now.
-pub(crate) fn tell_age<H: Host>(host: &mut H, path: &str)
-    ensures { GoesOnBy (IsAgeSaid path.now) (H.log host.old) (H.log host.new) }
+/// Says how many seconds ago the file at a path was saved, and returns it: when it was changed last, by
+/// the wall clock. Nothing is said, and returned, if that is not known, or is after now.
+pub(crate) fn tell_age<H: Host>(host: &mut H, path: &str) -> Option<u64>
+    ensures { GoesOnBy (λ log. IsAgeSaid path.now log result) (H.log host.old) (H.log host.new) }
 {
     match host.changed(path).ok() {
         Some(changed) => tell_since(host, path, changed),
-        None => {}
+        None => None,
     }
 }
 
-/// Says how many seconds ago this was, when the file at a path was changed.
-fn tell_since<H: Host>(host: &mut H, path: &str, changed: SystemTime)
-    ensures { GoesOnBy (IsSinceSaid path.now changed) (H.log host.old) (H.log host.new) }
+/// Says how many seconds ago this was, when the file at a path was changed, and returns it.
+fn tell_since<H: Host>(host: &mut H, path: &str, changed: SystemTime) -> Option<u64>
+    ensures { GoesOnBy (λ log. IsSinceSaid path.now changed log result)
+        (H.log host.old) (H.log host.new) }
 {
     match host.date().ok() {
-        Some(now) => tell_seconds(host, path, seconds_between(changed, now)),
-        None => {}
+        Some(now) => {
+            let seconds = seconds_between(changed, now);
+            tell_seconds(host, path, seconds);
+            seconds
+        }
+        None => None,
     }
 }
 

@@ -2,11 +2,11 @@
 
 ghost use Rattle.std.specs.Prelude.{◌≡◌, IfOk, is_some, length, map};
 ghost use Rattle.mon_station.specs.State.{state_of};
-ghost use Rattle.mon_station_commands.specs.Figures.{AreFigures, engine_at, engine_in, engines_for, said_in, said_of};
+ghost use Rattle.mon_station_commands.specs.Figures.{AreFigures, engine_at, engine_in, engines_for, peer_of, said_in, said_of};
 
 use crate::live::Live;
-use mon_formats::{Figures, TargetFigures};
-use mon_rounds::{InstanceAge, Receiver, TargetAge, debts_of};
+use mon_formats::{Figures, PeerFigures, TargetFigures};
+use mon_rounds::{InstanceAge, PeerAge, Receiver, TargetAge, debts_of};
 use mon_station::{Outbox, StationFault};
 use std::alloc::{AllocError, Global};
 
@@ -26,6 +26,7 @@ pub(crate) fn make_figures<S: Receiver + Drop, O: Outbox + Drop>(
         taken: live.course.taken(),
         given_up: live.course.given_up(),
         debts: debts_of(alloc, &live.station, live.transport.peers.as_slice())?,
+        peers: peer_figures(alloc, fresh.peers(), live.reports.stale_after)?,
         failed_saves: fresh.failed_saves(),
         strangers: fresh.strangers(),
         round_ms: fresh.round_ms(),
@@ -34,6 +35,32 @@ pub(crate) fn make_figures<S: Receiver + Drop, O: Outbox + Drop>(
         stale_after: live.reports.stale_after,
         interval: live.reports.interval,
     })
+}
+
+/// What is said of each peer, which is silent after this many rounds without a datagram.
+fn peer_figures(
+    alloc: Global,
+    peers: &[PeerAge],
+    limit: u32,
+) -> Result<Vec<PeerFigures>, AllocError>
+    ensures { IfOk result (λ v. v.items ≡ map (peer_of limit) peers.now) }
+{
+    let mut figures = Vec::with_capacity(alloc, peers.len())?;
+    for peer in peers {
+        figures.push(one_peer(peer, limit))?;
+    }
+    Ok(figures)
+}
+
+/// What is said of a peer.
+fn one_peer(peer: &PeerAge, limit: u32) -> PeerFigures
+    ensures { result ≡ peer_of limit peer.now }
+{
+    PeerFigures {
+        station: peer.station,
+        rounds: peer.rounds,
+        silent: peer.rounds >= limit,
+    }
 }
 
 /// What is said of each target at this time, in milliseconds since the station's start.

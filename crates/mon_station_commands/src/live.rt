@@ -2,7 +2,6 @@
 
 ghost use Rattle.std.specs.Prelude.{◌≡◌, ◌≤◌, ◌/◌, ℕ, IfErr, IfOk, IfSome, None, OnOk, Some, is_some, length, map, string_bytes};
 ghost use Rattle.mon_alarms.specs.Announcing.{announcer_of};
-ghost use Rattle.mon_console.specs.Shown.{shown_by};
 ghost use Rattle.mon_disk.specs.Fault.{number_of};
 ghost use Rattle.mon_host.specs.Log.{GoesOnBy};
 ghost use Rattle.mon_report.specs.Alarms.{states_of};
@@ -23,7 +22,7 @@ use crate::opening::{or_socket_failure, unopened};
 use crate::pace::{passed, wall_time};
 use crate::printing::said;
 use crate::showing::show_span;
-use crate::telling::{tell_alarms, tell_notices, tell_raised, tell_restarts};
+use crate::telling::{Alarms, tell_alarms, tell_notices, tell_raised, tell_restarts};
 use crate::troubles::{Facts, tell_troubles as say_troubles};
 use mon_console::{Failure, Printing};
 use mon_core::Core;
@@ -281,7 +280,7 @@ pub(crate) fn start_station<H: Host, S: Receiver + Drop, O: Outbox + Drop>(
 ) -> Result<Live<S, O>, Failure>
     ensures opening { GoesOnBy (λ log. IsOpening transport.number place.at
         (string_bytes setup.settings.file) (length transport.engines.items)
-        (length transport.peers.items) (shown_by setup.reports.printing.names) log
+        (length transport.peers.items) setup.reports.printing log
         (only (λ live. state_of live.station.life) result)) (H.log host.old) (H.log host.new) }
     ensures reports { IfOk result (λ live. live.reports ≡ setup.reports) }
     ensures kept { IfOk result (λ live. live.kept ≡ nothing_kept) }
@@ -398,7 +397,7 @@ pub(crate) fn run_span<H: Host, S: Shows + Drop, O: Outbox + Drop>(
     span: Span,
 ) -> Result<(), Failure>
     ensures run { GoesOnBy (λ log. IsSpanRun (IsOfRun live.new.transport.rounds.round.targets
-        live.new.transport.rounds.round.events live.new.run) (announced_notes (shown_by live.old.reports.printing.names)
+        live.new.transport.rounds.round.events live.new.run) (announced_notes live.old.reports.printing number
         (state_of live.new.station.life).board (map (λ w. w.items) live.old.course.windows.items)
         live.old.course.announcer)
         number (is_round span) live.old.kept live.new.kept log result) (H.log host.old) (H.log host.new) }
@@ -481,7 +480,7 @@ fn report_run<H: Host, S: Receiver + Drop, O: Outbox + Drop>(
     ran: Result<Spell, StationFault>,
 ) -> Result<(), Failure>
     ensures account { GoesOnBy (λ log. IsAccountOf ran (IsOfRun live.old.transport.rounds.round.targets
-        live.old.transport.rounds.round.events live.old.run) (announced_notes (shown_by live.old.reports.printing.names)
+        live.old.transport.rounds.round.events live.old.run) (announced_notes live.old.reports.printing number
         (state_of live.old.station.life).board (map (λ w. w.items) live.old.course.windows.items)
         live.old.course.announcer)
         number live.old.kept.unsaved live.new.kept.unsaved log result) (H.log host.old) (H.log host.new) }
@@ -507,7 +506,7 @@ fn report_round<H: Host, S: Receiver + Drop, O: Outbox + Drop>(
     spell: Spell,
 ) -> Result<(), Failure>
     ensures account { GoesOnBy (λ log. IsReportOr (IsOfRun live.old.transport.rounds.round.targets
-        live.old.transport.rounds.round.events live.old.run) (announced_notes (shown_by live.old.reports.printing.names)
+        live.old.transport.rounds.round.events live.old.run) (announced_notes live.old.reports.printing number
         (state_of live.old.station.life).board (map (λ w. w.items) live.old.course.windows.items)
         live.old.course.announcer)
         number (is_round spell.span) live.old.kept.unsaved live.new.kept.unsaved log result)
@@ -550,7 +549,7 @@ fn tell_changes<H: Host, S: Receiver + Drop, O: Outbox + Drop>(
     number: u32,
     span: Span,
 ) -> Result<(), Failure>
-    ensures said { GoesOnBy (λ log. AreChanges (announced_notes (shown_by live.old.reports.printing.names)
+    ensures said { GoesOnBy (λ log. AreChanges (announced_notes live.old.reports.printing number
         (state_of live.old.station.life).board (map (λ w. w.items) live.old.course.windows.items)
         live.old.course.announcer) number
         (is_round span) log result) (H.log host.old) (H.log host.new) }
@@ -562,7 +561,7 @@ fn tell_changes<H: Host, S: Receiver + Drop, O: Outbox + Drop>(
     ensures station { live.new.station ≡ live.old.station }
 {
     tell_troubles(alloc, host, live, number, span)?;
-    tell_alarm_changes(alloc, host, live, is_round(span))
+    tell_alarm_changes(alloc, host, live, number, is_round(span))
 }
 
 /// Returns `true` if a span is a round, and not the time between two.
@@ -580,9 +579,10 @@ fn tell_alarm_changes<H: Host, S: Receiver + Drop, O: Outbox + Drop>(
     alloc: Global,
     host: &mut H,
     live: &mut Live<S, O>,
+    number: u32,
     looks: bool,
 ) -> Result<(), Failure>
-    ensures said { GoesOnBy (λ log. AreAlarms (announced_notes (shown_by live.old.reports.printing.names)
+    ensures said { GoesOnBy (λ log. AreAlarms (announced_notes live.old.reports.printing number
         (state_of live.old.station.life).board (map (λ w. w.items) live.old.course.windows.items)
         live.old.course.announcer looks) log result)
         (H.log host.old) (H.log host.new) }
@@ -595,13 +595,12 @@ fn tell_alarm_changes<H: Host, S: Receiver + Drop, O: Outbox + Drop>(
 {
     let board = live.station.board();
     let changes = live.course.take_changes(alloc, board, looks)?;
-    tell_alarms(
-        alloc,
-        host,
-        &live.reports.printing,
-        board.watch(),
-        changes.as_slice(),
-    )?;
+    let alarms = Alarms {
+        board,
+        printing: &live.reports.printing,
+        round: Some(number),
+    };
+    tell_alarms(alloc, host, alarms, changes.as_slice())?;
     Ok(())
 }
 

@@ -164,21 +164,23 @@ pub fn print_saved_report<H: Host>(
         words.labels,
         words.printed,
     )?;
-    print_saved(alloc, host, &settings, &printing)
+    print_saved(alloc, host, &settings, printing)
 }
 
-/// Prints the report of the windows in the file of these settings, and says how old it is.
+/// Prints the report of the windows in the file of these settings, with how old it is, which is said
+/// too.
 fn print_saved<H: Host>(
     alloc: Global,
     host: &mut H,
     settings: &StationSettings,
-    printing: &Printing,
+    printing: Printing,
 ) -> Result<(), Failure>
-    ensures { GoesOnBy (λ log. IsSavedReport settings.now printing.now log result)
+    ensures { GoesOnBy (λ log. IsSavedReport settings.now printing log result)
         (H.log host.old) (H.log host.new) }
 {
     let board = saved_in(alloc, host, settings)?;
-    tell_age(host, &settings.file);
+    let age = tell_age(host, &settings.file);
+    let printing = printing.with_file_age(age);
     let text = printing.report(alloc, &board, None)?;
     print(alloc, host, text.as_slice())
 }

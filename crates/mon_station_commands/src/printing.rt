@@ -6,8 +6,10 @@ ghost use Rattle.mon_host.specs.Log.{GoesOnBy};
 ghost use Rattle.mon_formats.specs.Formats.{report_in};
 ghost use Rattle.mon_formats.specs.declared.format.Format.TheVariants.{Text};
 ghost use Rattle.mon_console.specs.Shown.{shown_by};
+ghost use Rattle.mon_page.specs.declared.extras.Presentation.{Presentation};
 ghost use Rattle.mon_station.specs.State.{state_of};
 ghost use Rattle.mon_station_commands.specs.Reporting.{IsAgain, IsChangeOut, IsFiled, IsOut, IsReportOf, IsReported, IsUnwritten, failed_by, is_known};
+ghost use Rattle.mon_station_commands.specs.Rounds.{IsLastReport, moment_of};
 ghost use Rattle.mon_station_commands.specs.Steps.{IsKeptOf, IsSaidOf, IsTried, kept_after};
 
 use crate::figures::make_figures;
@@ -109,10 +111,27 @@ pub(crate) fn print_report<H: Host, S: Receiver + Drop, O: Outbox + Drop>(
     print(alloc, host, text.as_slice())
 }
 
+/// Prints the report after the last round: as a table, if standard output is a terminal and the
+/// arguments name no format.
+pub(crate) fn print_last<H: Host, S: Receiver + Drop, O: Outbox + Drop>(
+    alloc: Global,
+    host: &mut H,
+    live: &mut Live<S, O>,
+) -> Result<(), Failure>
+    ensures report { GoesOnBy (λ log. IsLastReport (moment_of (state_of live.old.station.life) live.old.course
+        live.old.freshness live.old.transport.peers.items live.old.transport.engines.items
+        live.old.ended live.old.kept.round_at live.old.reports)
+        log result) (H.log host.old) (H.log host.new) }
+    ensures kept { live.new.kept ≡ live.old.kept }
+{
+    live.reports.printing.fit_output(host);
+    print_report(alloc, host, live)
+}
+
 /// Makes the report of a board as lines of text, in place of what a buffer holds.
 fn put_lines(lines: &mut Vec<u8>, board: &Board) -> Result<(), AllocError>
-    ensures { OnOk result (lines.new.items
-        ≡ report_in Text (shown_by None) board.now.watch (window_of board.now) None []) }
+    ensures { (p : Presentation) → OnOk result (lines.new.items
+        ≡ report_in Text (shown_by None) board.now.watch (window_of board.now) None [] p) }
 {
     mon_formats::laws::names_in_numbers();
     lines.clear();

@@ -106,7 +106,7 @@ fn make_text(
     entries: &[Entry],
     figures: &Figures,
 ) -> Result<(), AllocError>
-    ensures { OnOk result (text.new.items ≡ formatted format (shown_by printing.now.names) entries.now (Some figures.now) printing.now.labels.items) }
+    ensures { OnOk result (text.new.items ≡ formatted format (shown_by printing.now.names) entries.now (Some figures.now) printing.now.labels.items printing.now.presentation) }
 {
     let empty = Vec::new(*text.allocator());
     let buffer = mem::replace(text, empty);

@@ -19,7 +19,7 @@ use crate::limits::{longest_gap, print_limits};
 use crate::live::{Live, Paths, Place, Reports, Setup, open_transport, run_span, start_station};
 use crate::opening::{open_file, or_no_socket, or_socket_failure, unsaved};
 use crate::pace::{now, start_pace, wait_for_next};
-use crate::printing::{print_between, print_report, write_out};
+use crate::printing::{print_between, print_last, write_out};
 use crate::showing::show;
 use mon_cli::{StationArgs, Timing};
 use mon_console::{Failure, Printing, read_labelled_station};
@@ -345,7 +345,7 @@ fn run_rounds<R: Files<File = File> + AllocGlobal, H: Host, S: Shows + Drop, O: 
 {
     let alloc = rt.alloc();
     run_all(rt, host, live, timing)?;
-    print_report(alloc, host, live)?;
+    print_last(alloc, host, live)?;
     ended(alloc, live)
 }
 

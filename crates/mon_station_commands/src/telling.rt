@@ -1,16 +1,15 @@
 //! What a running station says on standard error.
 
-ghost use Rattle.std.specs.Prelude.{◌≡◌, ◌+◌, ◌++◌, ◌∷◌, [], None, Some, codes, map, slice_get};
+ghost use Rattle.std.specs.Prelude.{◌≡◌, ◌+◌, ◌++◌, ◌∷◌, [], None, Some, map, slice_get};
 ghost use Rattle.std.specs.List.{flat_map};
-ghost use Rattle.mon_console.specs.Shown.{shown_by};
 ghost use Rattle.mon_host.specs.AtHost.{IsNoted};
 ghost use Rattle.mon_host.specs.Log.{GoesOnBy};
 ghost use Rattle.mon_station.specs.State.{state_of};
-ghost use Rattle.mon_station_commands.specs.Telling.{AreNoted, AreSaid, alarm_note, last_stray, memory_line, notice_lines, raised_notes, response_lines, restart_line, restart_lines, round_lines, stray_lines, strays_in, unreceived_lines, unsaved_line, unsent_lines};
+ghost use Rattle.mon_station_commands.specs.Telling.{AreNoted, AreSaid, alarm_note, last_stray, line_in, memory_line, notice_lines, plural, raised_notes, response_lines, restart_line, restart_lines, round_lines, stray_lines, strays_in, unreceived_lines, unsaved_line, unsent_lines};
 
 use crate::live::Live;
 use mon_alarms::AlarmChange;
-use mon_board::Watch;
+use mon_board::Board;
 use mon_console::Printing;
 use mon_disk::KeeperFault;
 use mon_host::Host;
@@ -173,8 +172,9 @@ fn tell_strays<H: Host>(host: &mut H, round: u32, count: u32, last: Option<Addr>
         (H.log host.old) (H.log host.new) }
 {
     if let Some(from) = last {
+        let end = plural(u64::from(count));
         host.note(format_args!(
-            "snmpmon: round {round}: {count} responses came from addresses of no target, the last from {from}\n"
+            "snmpmon: round {round}: {count} response{end} came from addresses of no target, the last from {from}\n"
         ));
     }
 }
@@ -185,8 +185,9 @@ fn tell_unreceived<H: Host>(host: &mut H, round: u32, count: u64)
         (H.log host.old) (H.log host.new) }
 {
     if count != 0 {
+        let end = plural(count);
         host.note(format_args!(
-            "snmpmon: round {round}: nothing could be received, {count} times\n"
+            "snmpmon: round {round}: nothing could be received, {count} time{end}\n"
         ));
     }
 }
@@ -197,7 +198,10 @@ fn tell_unsent<H: Host>(host: &mut H, round: u32, count: u64)
         (H.log host.old) (H.log host.new) }
 {
     if count != 0 {
-        host.note(format_args!("snmpmon: round {round}: {count} datagrams could not be sent\n"));
+        let end = plural(count);
+        host.note(format_args!(
+            "snmpmon: round {round}: {count} datagram{end} could not be sent\n"
+        ));
     }
 }
 
@@ -257,43 +261,58 @@ pub(crate) fn tell_raised<H: Host, S: Receiver + Drop, O: Outbox + Drop>(
     live: &Live<S, O>,
 ) -> Result<(), AllocError>
     ensures { GoesOnBy (λ log. AreSaid
-        (raised_notes (shown_by live.now.reports.printing.names) (state_of live.now.station.life).board)
+        (raised_notes live.now.reports.printing (state_of live.now.station.life).board)
         log result) (H.log host.old) (H.log host.new) }
 {
     let board = live.station.board();
     let raised = raised_alarms(alloc, board)?;
-    tell_alarms(
-        alloc,
-        host,
-        &live.reports.printing,
-        board.watch(),
-        raised.as_slice(),
-    )
+    let alarms = Alarms {
+        board,
+        printing: &live.reports.printing,
+        round: None,
+    };
+    tell_alarms(alloc, host, alarms, raised.as_slice())
 }
 
-/// Prints alarms of a watch that changed, a line each.
+/// The board of alarms, how their lines are printed, and in which round they changed, if in one.
+#[derive(Clone, Copy)]
+pub(crate) struct Alarms<'a> {
+    pub(crate) board: &'a Board,
+    pub(crate) printing: &'a Printing,
+    pub(crate) round: Option<u32>,
+}
+
+/// Prints alarms of a board that changed, a line each.
 pub(crate) fn tell_alarms<H: Host>(
     alloc: Global,
     host: &mut H,
-    printing: &Printing,
-    watch: &Watch,
+    alarms: Alarms<'_>,
     changes: &[AlarmChange],
 ) -> Result<(), AllocError>
     ensures { GoesOnBy (λ log. AreSaid
-        (map (alarm_note (shown_by printing.now.names) watch.now) changes.now) log result)
-        (H.log host.old) (H.log host.new) }
+        (map (alarm_note alarms.entry.round alarms.entry.printing.now alarms.entry.board.now) changes.now)
+        log result) (H.log host.old) (H.log host.new) }
 {
     for change in changes {
-        let line = printing.alarm_line(alloc, watch, change)?;
-        tell_line(host, &line);
+        let line = alarms.printing.alarm_line(alloc, alarms.board, change)?;
+        tell_line(host, alarms.round, &line);
     }
     Ok(())
 }
 
-/// Prints a line of the program.
-fn tell_line<H: Host>(host: &mut H, line: &str)
-    ensures { GoesOnBy (IsNoted (Some (codes "snmpmon: " ++ line.now ++ codes "\n")))
-        (H.log host.old) (H.log host.new) }
+/// Prints a line of the program, in a round if it is of one.
+fn tell_line<H: Host>(host: &mut H, round: Option<u32>, line: &str)
+    ensures { GoesOnBy (IsNoted (Some (line_in round line.now))) (H.log host.old) (H.log host.new) }
 {
-    host.note(format_args!("snmpmon: {line}\n"));
+    match round {
+        None => host.note(format_args!("snmpmon: {line}\n")),
+        Some(round) => host.note(format_args!("snmpmon: round {round}: {line}\n")),
+    }
+}
+
+/// Returns the end of a word after a number: none after 1.
+pub(crate) fn plural<'a>(number: u64) -> &'a str
+    ensures { result.now ≡ plural number }
+{
+    if number == 1 { "" } else { "s" }
 }

@@ -6,6 +6,7 @@ ghost use Rattle.mon_host.specs.Log.{GoesOnBy};
 ghost use Rattle.mon_station_commands.specs.Telling.{AreNoted, text_lines};
 ghost use Rattle.mon_station_commands.specs.Troubles.{AreTroublesSaid, BeginsWith, IsText, count_alike, engine_at, engine_text, joins, key_in, key_of, key_text, late_at, late_text, many_text, offers_at, offers_text, other_text, own_text, peer_at, peer_text, silent_at, silent_text, stale_at, stale_many, stale_one, target_at, target_of, target_text, text_at, words_of};
 
+use crate::telling::plural;
 use mon_board::Board;
 use mon_console::Printing;
 use mon_host::Host;
@@ -301,8 +302,9 @@ fn late_text(alloc: Global, target: &TargetAge, begins: bool) -> Result<String, 
     let text = target_text(alloc, target)?;
     let (datagrams, rounds) = (target.late.datagrams, target.late.rounds);
     if begins {
+        let (d, r) = (plural(u64::from(datagrams)), plural(u64::from(rounds)));
         format!(in alloc;
-            "{text} answers late ({datagrams} datagrams in {rounds} rounds): raise wait_ms"
+            "{text} answers late ({datagrams} datagram{d} in {rounds} round{r}): raise wait_ms"
         )
     } else {
         format!(in alloc; "{text} answers in time again")
@@ -325,7 +327,8 @@ fn peer_text(alloc: Global, peer: &PeerAge, begins: bool) -> Result<String, Allo
 {
     let (station, rounds) = (peer.station, peer.rounds);
     if begins {
-        format!(in alloc; "nothing came from station {station} for {rounds} rounds")
+        let end = plural(u64::from(rounds));
+        format!(in alloc; "nothing came from station {station} for {rounds} round{end}")
     } else {
         format!(in alloc; "station {station} sends again")
     }

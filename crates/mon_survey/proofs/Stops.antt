@@ -19,8 +19,8 @@ module _ (defs : List Definition) (choice : Choice) (o : Options) (text : List �
   unplanned (inr none) = inr (inl (inl none))
 
   module _ (ps : List Planned) (plan : planned_of choice cells ≡ Ok ps) where
-    pub no_room : (qs : List Planned) → qs ≡ ps → with_room old engine qs ≡ Err e → IsAppendFault defs choice o text old engine cells e
-    no_room qs is none = inr (inl (inr (ps, plan, inl (ap (with_room old engine) (sym is) ∙ none))))
+    pub no_room : (qs : List Planned) → qs ≡ ps → with_room o.size old engine qs ≡ Err e → IsAppendFault defs choice o text old engine cells e
+    no_room qs is none = inr (inl (inr (ps, plan, inl (ap (with_room o.size old engine) (sym is) ∙ none))))
 
     abbrev addition : ℕ → Options → List ℕ → List Planned → Result (List ℕ) SurveyFault
     addition many p id qs = addition_of (shown_by defs many) text p id cells qs
@@ -37,11 +37,11 @@ module _ (defs : List Definition) (choice : Choice) (o : Options) (text : List �
     no_text many p id qs same_many same_options same_engine is (inr none) =
         inr (inl (inr (ps, plan, inr (sym (same_addition many p id qs same_many same_options same_engine is) ∙ none))))
 
-    pub misread : (qs : List Planned) → qs ≡ ps → with_room old engine qs ≡ Ok qs → (many : ℕ) (p : Options) (id : List ℕ) (rs : List Planned) → many ≡ length old.modules → p ≡ o → id ≡ engine → rs ≡ ps
+    pub misread : (qs : List Planned) → qs ≡ ps → with_room o.size old engine qs ≡ Ok qs → (many : ℕ) (p : Options) (id : List ℕ) (rs : List Planned) → many ≡ length old.modules → p ≡ o → id ≡ engine → rs ≡ ps
         → (new : List ℕ) → addition_of (shown_by defs many) text p id cells rs ≡ Ok new
         → (us : List Planned) → us ≡ ps → (read : List ℕ) → read ≡ new → IsMisread defs o engine cells us old read e → IsAppendFault defs choice o text old engine cells e
     misread qs is room many p id rs same_many same_options same_engine same new drafted us these read written other =
-        let room_is : with_room old engine ps ≡ Ok ps = subst (λ (l : List Planned). with_room old engine l ≡ Ok l) is room in
+        let room_is : with_room o.size old engine ps ≡ Ok ps = subst (λ (l : List Planned). with_room o.size old engine l ≡ Ok l) is room in
         let unlike : IsMisread defs o engine cells ps old new e =
         subst (λ (l : List Planned). IsMisread defs o engine cells l old new e) these
         (subst (λ (t : List ℕ). IsMisread defs o engine cells us old t e) written other) in

@@ -24,8 +24,9 @@ use Rattle.mon_survey.specs.declared.fault.SurveyFault.{SurveyFault}
 use Rattle.mon_survey.specs.declared.fault.SurveyFault.TheVariants as fault
 use Rattle.mon_survey.specs.declared.longest.LongestRound.{LongestRound}
 use Rattle.mon_survey.specs.declared.options.Options.{Options}
+use Rattle.mon_survey.specs.declared.size.TargetSize.{TargetSize}
 use Rattle.mon_survey.specs.Longest.{longest_of}
-use Rattle.mon_survey.specs.Meant.{AreTargets, IsAlarm, alarms_from, is_own, targets_for}
+use Rattle.mon_survey.specs.Meant.{AreTargets, IsAlarm, alarms_from, few_targets, is_own}
 use Rattle.mon_survey.specs.Plan.{planned_of}
 use Rattle.mon_survey.specs.Text.{addition_of}
 
@@ -105,31 +106,28 @@ pub record IsAppended (o : Options) (engine : List ℕ) (cells : List Cell) (ps 
 abbrev pub polls : List ℕ → Target → Bool
 polls engine t = bytes_eq t.engine engine
 
--- at most 64 targets in all
-abbrev pub few_targets : Station → List Planned → Result (List Planned) SurveyFault
-few_targets old ps =
-    if nat_le (length old.core.targets + targets_for ps) 64 then Ok ps else Err (fault.TooManyTargets (length old.core.targets + targets_for ps))
-
--- at most 256 instances in all
-abbrev pub few_instances : Station → List Planned → Result (List Planned) SurveyFault
-few_instances old ps =
-    if nat_le (length old.core.watch.instances + length ps) 256 then few_targets old ps else Err (fault.TooMany (length old.core.watch.instances + length ps))
+-- at most 256 instances in all, and at most 64 targets
+abbrev pub few_instances : TargetSize → Station → List Planned → Result (List Planned) SurveyFault
+few_instances size old ps =
+    if nat_le (length old.core.watch.instances + length ps) 256 then few_targets size (length old.core.targets) ps
+    else Err (fault.TooMany (length old.core.watch.instances + length ps))
 
 -- the counters, if settings have space for them and poll no agent of this engine id
-abbrev pub with_room : Station → List ℕ → List Planned → Result (List Planned) SurveyFault
-with_room old engine ps = if list_any (polls engine) old.core.targets then Err fault.SameEngine else few_instances old ps
+abbrev pub with_room : TargetSize → Station → List ℕ → List Planned → Result (List Planned) SurveyFault
+with_room size old engine ps = if list_any (polls engine) old.core.targets then Err fault.SameEngine else few_instances size old ps
 
 -- Settings with those of a further agent at their end: the old text octet by octet, then the agent's targets and alarms, which is read
--- as what was meant. A round of the whole takes this long at most.
-pub record IsAppendedText (defs : List Definition) (choice : Choice) (o : Options) (text : List ℕ) (old : Station) (engine : List ℕ) (cells : List Cell) (new : List ℕ) (longest : LongestRound) : Type 0 where
+-- as what was meant. A round of the whole takes this long at most, and these are the targets that it has more.
+pub record IsAppendedText (defs : List Definition) (choice : Choice) (o : Options) (text : List ℕ) (old : Station) (engine : List ℕ) (cells : List Cell) (new : List ℕ) (longest : LongestRound) (targets : List Target) : Type 0 where
   pub planned : List Planned
   pub plan : planned_of choice cells ≡ Ok planned
-  pub room : with_room old engine planned ≡ Ok planned
+  pub room : with_room o.size old engine planned ≡ Ok planned
   pub drafted : addition_of (shown_by defs (length old.modules)) text o engine cells planned ≡ Ok new
   pub station : Station
   pub read : Says (IsStation defs) new station
   pub meant : IsAppended o engine cells planned old station
   pub round : longest ≡ longest_of station
+  pub added : targets ≡ drop (length old.core.targets) station.core.targets
 
 -- why a text is not read as what was meant: it is refused for this reason, or it is read as something else
 abbrev pub IsMisread : List Definition → Options → List ℕ → List Cell → List Planned → Station → List ℕ → SurveyFault → Type 0
@@ -143,12 +141,12 @@ abbrev pub IsStopped : List Definition → Choice → Options → List ℕ → S
 IsStopped defs choice o text old engine cells e =
     (planned_of choice cells ≡ Err e)
     ⊎ ((ps : List Planned) × (planned_of choice cells ≡ Ok ps)
-    × ((with_room old engine ps ≡ Err e) ⊎ (addition_of (shown_by defs (length old.modules)) text o engine cells ps ≡ Err e)))
+    × ((with_room o.size old engine ps ≡ Err e) ⊎ (addition_of (shown_by defs (length old.modules)) text o engine cells ps ≡ Err e)))
 
 -- there is a text, which is not read as what was meant, for this reason
 abbrev pub IsUnmeant : List Definition → Choice → Options → List ℕ → Station → List ℕ → List Cell → SurveyFault → Type 0
 IsUnmeant defs choice o text old engine cells e =
-    (ps : List Planned) × (new : List ℕ) × (planned_of choice cells ≡ Ok ps) × (with_room old engine ps ≡ Ok ps)
+    (ps : List Planned) × (new : List ℕ) × (planned_of choice cells ≡ Ok ps) × (with_room o.size old engine ps ≡ Ok ps)
     × (addition_of (shown_by defs (length old.modules)) text o engine cells ps ≡ Ok new) × IsMisread defs o engine cells ps old new e
 
 -- why there is no such text

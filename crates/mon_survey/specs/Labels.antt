@@ -1,5 +1,5 @@
--- A file of the texts of interfaces, in TOML, which Prometheus' series get as labels.
-use Rattle.std.specs.Prelude.{◌≡◌, ◌<◌, ◌≤◌, ℕ, ◌+◌, ◌==◌, nat_le, pos, Bool, false, IsTrue, ◌||◌, List, [], ◌∷◌, ◌++◌, length, codes, decimal, Option, Some, None, option_and_then, if◌then◌else◌}
+-- A file of the texts and speeds of interfaces, in TOML, which series, lines, table and page get as labels.
+use Rattle.std.specs.Prelude.{◌≡◌, ◌<◌, ◌≤◌, ℕ, ◌+◌, ◌==◌, nat_le, ℤ, pos, Bool, false, IsTrue, ◌||◌, List, [], ◌∷◌, ◌++◌, length, codes, decimal, Option, Some, None, option_and_then, if◌then◌else◌}
 use Rattle.std.specs.List.{concat, flat_map}
 use Rattle.std.specs.Str.{IsUtf8, bytes_eq}
 use Rattle.std.specs.Str.Lossy.{utf8_lossy}
@@ -12,7 +12,7 @@ use Rattle.mon_survey.specs.declared.column.Column.TheVariants.{IfX}
 use Rattle.mon_survey.specs.declared.counter.Planned.{Planned}
 use Rattle.mon_survey.specs.declared.fault.SurveyFault.{SurveyFault}
 use Rattle.mon_survey.specs.declared.fault.SurveyFault.TheVariants as fault
-use Rattle.mon_survey.specs.Answers.{octets_of, value_at}
+use Rattle.mon_survey.specs.Answers.{octets_of, speed_in, value_at}
 use Rattle.mon_survey.specs.Plan.{counters_of}
 
 -- ---- which interfaces, and their texts
@@ -55,15 +55,23 @@ abbrev pub line_of : List ℕ → Option (List ℕ) → List ℕ
 line_of key None = []
 line_of key (Some text) = key ++ codes " = \"" ++ flat_map escaped text ++ codes "\"\n"
 
+-- the line of a speed in bits a second, unless it is 0, which means that it is not known
+abbrev pub speed_line : ℕ → List ℕ
+speed_line speed = if speed == 0 then [] else codes "speed = " ++ decimal speed ++ codes "\n"
+
+-- that speed as a number of a table
+abbrev pub known_speed : ℕ → Option ℤ
+known_speed speed = if speed == 0 then None else Some (pos speed)
+
 -- the table of an interface of an engine, whose id is given in hex
 unfoldable pub interface_text : List ℕ → List Cell → ℕ → List ℕ
 interface_text engine cells index =
     concat (codes "\n[[interface]]\nengine = \"" ∷ engine ∷ codes "\"\nindex = " ∷ decimal index ∷ codes "\n" ∷ [])
-    ++ line_of (codes "ifName") (if_name cells index) ++ line_of (codes "ifAlias") (if_alias cells index)
+    ++ line_of (codes "ifName") (if_name cells index) ++ line_of (codes "ifAlias") (if_alias cells index) ++ speed_line (speed_in cells index)
 
 -- the old text, or the first line of a new one
 abbrev pub begun : List ℕ → List ℕ
-begun [] = codes "# Labels of interfaces for Prometheus.\n"
+begun [] = codes "# Labels of interfaces.\n"
 begun (b ∷ bs) = b ∷ bs
 
 -- the whole text
@@ -81,6 +89,10 @@ abbrev pub items_at : Option Data → Option Items
 items_at None = Some no_items
 items_at (Some d) = as_array d
 
+-- the number at a key of a table
+abbrev pub number_at : List ℕ → Data → Option ℤ
+number_at key d = option_and_then as_integer (get key d)
+
 -- the tables of a text
 abbrev pub interfaces_in : List ℕ → Option Items
 interfaces_in text = option_and_then (λ t. items_at (get_member (codes "interface") t)) (parse_document text)
@@ -88,9 +100,10 @@ interfaces_in text = option_and_then (λ t. items_at (get_member (codes "interfa
 -- a table is that of an interface
 pub record IsInterface (engine : List ℕ) (cells : List Cell) (index : ℕ) (d : Data) : Type 0 where
   pub engine_id : text_at (codes "engine") d ≡ Some engine
-  pub index_is : option_and_then as_integer (get (codes "index") d) ≡ Some (pos index)
+  pub index_is : number_at (codes "index") d ≡ Some (pos index)
   pub name : text_at (codes "ifName") d ≡ if_name cells index
   pub alias : text_at (codes "ifAlias") d ≡ if_alias cells index
+  pub speed : number_at (codes "speed") d ≡ known_speed (speed_in cells index)
 
 -- the tables are those of the interfaces of these indexes, in their order
 abbrev pub AreInterfaces : List ℕ → List Cell → List ℕ → Items → Type 0
@@ -101,9 +114,10 @@ AreInterfaces engine cells _ _ = ⊥
 -- a table says the same as another one
 pub record IsSameInterface (a b : Data) : Type 0 where
   pub engine_id : text_at (codes "engine") a ≡ text_at (codes "engine") b
-  pub index_is : option_and_then as_integer (get (codes "index") a) ≡ option_and_then as_integer (get (codes "index") b)
+  pub index_is : number_at (codes "index") a ≡ number_at (codes "index") b
   pub name : text_at (codes "ifName") a ≡ text_at (codes "ifName") b
   pub alias : text_at (codes "ifAlias") a ≡ text_at (codes "ifAlias") b
+  pub speed : number_at (codes "speed") a ≡ number_at (codes "speed") b
 
 -- the tables are the old ones, and then those of the interfaces
 abbrev pub Continue : List ℕ → List Cell → List ℕ → Items → Items → Type 0

@@ -9,4 +9,5 @@ pub mod Longest
 pub mod Meant
 pub mod Plan
 pub mod Shown
+pub mod Size
 pub mod Text

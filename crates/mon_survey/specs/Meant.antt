@@ -1,5 +1,5 @@
 -- What the settings of a station that polls an agent's interfaces mean.
-use Rattle.std.specs.Prelude.{◌≡◌, ◌≢◌, ◌⊎◌, ℕ, ◌+◌, ◌*◌, ◌/◌, Bool, ◌==◌, ◌||◌, pos, List, [], ◌∷◌, ◌++◌, length, All, Option, Some, None, Ok, Err, string_bytes, if◌then◌else◌}
+use Rattle.std.specs.Prelude.{◌≡◌, ◌≢◌, ◌⊎◌, ◌≤◌, ℕ, ◌+◌, ◌*◌, Bool, ◌==◌, ◌||◌, nat_le, pos, List, [], ◌∷◌, ◌++◌, length, All, Option, Some, None, Result, Ok, Err, string_bytes, if◌then◌else◌}
 use Rattle.std.specs.List.{AllZip, flat_map}
 use Rattle.std.specs.Str.{bytes_eq}
 use Rattle.std.specs.Option.{option_to_list}
@@ -34,6 +34,8 @@ use Rattle.mon_survey.specs.Column.{cell_name, spot_of}
 use Rattle.mon_survey.specs.Counter.{column_of}
 use Rattle.mon_survey.specs.Longest.{longest_of}
 use Rattle.mon_survey.specs.Plan.{planned_of, thresholds_at}
+use Rattle.mon_survey.specs.Size.{objects_in, targets_for}
+use Rattle.mon_survey.specs.declared.size.TargetSize.{TargetSize}
 use Rattle.mon_survey.specs.Text.{draft_of}
 
 -- the name of an interface's mark, where it has one
@@ -96,15 +98,22 @@ pub record AreScalars (o : Options) (s : Station) : Type 0 where
   pub wait_ms : s.wait_ms ≡ o.wait_ms
   pub modules : AllZip (λ text m. text ≡ m.now) s.modules o.modules.now
 
--- how many targets some counters are: as few as 16 each allow
-abbrev pub targets_for : List Planned → ℕ
-targets_for ps = (length ps + 15) / 16
+-- at most 64 targets with those of some counters, before which there are this many
+abbrev pub few_targets : TargetSize → ℕ → List Planned → Result (List Planned) SurveyFault
+few_targets size before ps =
+    if nat_le (before + targets_for size ps) 64 then Ok ps else Err (fault.TooManyTargets (before + targets_for size ps))
 
--- the targets: they are the agent, they poll the counters in their order, and there are as few of them as 16 objects each allow
+-- a target has no more objects than the size allows
+abbrev pub IsSmall : TargetSize → Target → Type 0
+IsSmall size t = length t.objects ≤ objects_in size
+
+-- the targets: they are the agent, they poll the counters in their order, each has at most as many objects as the size allows, and
+-- there are as few of them as it allows
 pub record AreTargets (o : Options) (engine : List ℕ) (cells : List Cell) (ps : List Planned) (targets : List Target) : Type 0 where
   pub agent : All (IsAgent o engine) targets
   pub counters : AllZip (IsCounter cells) (flat_map (λ t. t.objects) targets) ps
-  pub full : length targets ≡ targets_for ps
+  pub small : All (IsSmall o.size) targets
+  pub full : length targets ≡ targets_for o.size ps
 
 -- every window and its part of one snmpEngineBoots have the size that the options say
 pub record IsSized (o : Options) (w : Watched) : Type 0 where
@@ -128,18 +137,20 @@ pub record IsMeant (o : Options) (engine : List ℕ) (cells : List Cell) (ps : L
 abbrev pub IsUnlike : Type 0 → SurveyFault → Type 0
 IsUnlike Meant e = (e ≡ fault.OutOfMemory) ⊎ ((e ≡ fault.Misread) × ¬ Meant)
 
--- under these definitions a text is read as what was meant, and this is how long its rounds take at most
-abbrev pub IsReadBack : List Definition → Options → List ℕ → List Cell → List Planned → List ℕ → LongestRound → Type 0
-IsReadBack defs o engine cells ps text longest =
+-- under these definitions a text is read as what was meant; this is how long its rounds take at most, and these are its targets
+abbrev pub IsReadBack : List Definition → Options → List ℕ → List Cell → List Planned → List ℕ → LongestRound → List Target → Type 0
+IsReadBack defs o engine cells ps text longest targets =
     (station : Station) × Says (IsStation defs) text station × IsMeant o engine cells ps station × (longest ≡ longest_of station)
+    × (targets ≡ station.core.targets)
 
 -- The text of the settings: that of the counters that are planned, with names as they are shown, and under these definitions it is
--- read as what was meant. Its rounds take this long at most.
-pub record IsSettingsText (defs : List Definition) (shown : List ℕ → List ℕ) (choice : Choice) (o : Options) (engine : List ℕ) (cells : List Cell) (text : List ℕ) (longest : LongestRound) : Type 0 where
+-- read as what was meant. Its rounds take this long at most, and it is read as these targets.
+pub record IsSettingsText (defs : List Definition) (shown : List ℕ → List ℕ) (choice : Choice) (o : Options) (engine : List ℕ) (cells : List Cell) (text : List ℕ) (longest : LongestRound) (targets : List Target) : Type 0 where
   pub planned : List Planned
   pub plan : planned_of choice cells ≡ Ok planned
+  pub room : few_targets o.size 0 planned ≡ Ok planned
   pub drafted : draft_of shown o engine cells planned ≡ Ok text
-  pub read_back : IsReadBack defs o engine cells planned text longest
+  pub read_back : IsReadBack defs o engine cells planned text longest targets
 
 -- why a text is not read as what was meant: it is refused for this reason, or it is read as something else
 abbrev pub IsNotReadBack : List Definition → Options → List ℕ → List Cell → List Planned → List ℕ → SurveyFault → Type 0
@@ -148,15 +159,18 @@ IsNotReadBack defs o engine cells ps text (fault.Refused e) = IsRefusal (station
 IsNotReadBack defs o engine cells ps text fault.Misread = (station : Station) × Says (IsStation defs) text station × ¬ (IsMeant o engine cells ps station)
 IsNotReadBack defs o engine cells ps text _ = ⊥
 
--- there is no plan or no text, for this reason
+-- there is no plan, too many targets or no text, for this reason
 abbrev pub HasNone : (List ℕ → List ℕ) → Choice → Options → List ℕ → List Cell → SurveyFault → Type 0
 HasNone shown choice o engine cells e =
-    (planned_of choice cells ≡ Err e) ⊎ ((ps : List Planned) × (planned_of choice cells ≡ Ok ps) × (draft_of shown o engine cells ps ≡ Err e))
+    (planned_of choice cells ≡ Err e)
+    ⊎ ((ps : List Planned) × (planned_of choice cells ≡ Ok ps)
+    × ((few_targets o.size 0 ps ≡ Err e) ⊎ (draft_of shown o engine cells ps ≡ Err e)))
 
 -- there is a text, which is not read as what was meant, for this reason
 abbrev pub HasText : List Definition → (List ℕ → List ℕ) → Choice → Options → List ℕ → List Cell → SurveyFault → Type 0
 HasText defs shown choice o engine cells e =
-    (ps : List Planned) × (text : List ℕ) × (planned_of choice cells ≡ Ok ps) × (draft_of shown o engine cells ps ≡ Ok text)
+    (ps : List Planned) × (text : List ℕ) × (planned_of choice cells ≡ Ok ps) × (few_targets o.size 0 ps ≡ Ok ps)
+    × (draft_of shown o engine cells ps ≡ Ok text)
     × IsNotReadBack defs o engine cells ps text e
 
 -- why there are no settings

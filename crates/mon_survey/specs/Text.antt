@@ -15,6 +15,8 @@ use Rattle.mon_survey.specs.Answers.{is_marked, name_in, number_in, octets_of, t
 use Rattle.mon_survey.specs.Column.{cell_name}
 use Rattle.mon_survey.specs.Counter.{column_of, label_of}
 use Rattle.mon_survey.specs.Plan.{thresholds_of}
+use Rattle.mon_survey.specs.Size.{objects_in}
+use Rattle.mon_survey.specs.declared.size.TargetSize.{TargetSize}
 
 -- an octet as a comment shows it: itself from 20 to 7E except for a quote, which is `?` like all others
 abbrev pub shown : ℕ → ℕ
@@ -87,19 +89,19 @@ target_text o engine = concat (
     codes "\n[[target]]\naddress = \"" ∷ o.address.now ∷ codes "\"\ncommunity = \"" ∷ o.community.now ∷ codes "\"\nengine = \"" ∷ engine ∷ codes "\"\ntries = "
     ∷ decimal o.tries ∷ codes "\nobjects = [\n" ∷ [])
 
--- before the first object of each 16 the head of a target
+-- before the first object of each target its head
 abbrev pub opening : Options → List ℕ → ℕ → List ℕ
-opening o engine place = if place % 16 == 0 then target_text o engine else []
+opening o engine place = if place % objects_in o.size == 0 then target_text o engine else []
 
--- after the last object of each 16, and after the last of all, the end of the list
-abbrev pub closing : ℕ → ℕ → List ℕ
-closing count place = if (place + 1) % 16 == 0 || place + 1 == count then codes "]\n" else []
+-- after the last object of each target, and after the last of all, the end of the list
+abbrev pub closing : TargetSize → ℕ → ℕ → List ℕ
+closing size count place = if (place + 1) % objects_in size == 0 || place + 1 == count then codes "]\n" else []
 
 -- the object at a place, with what is around it
 unfoldable pub placed_text : (List ℕ → List ℕ) → Options → List ℕ → List Cell → ℕ → ℕ → Planned → List ℕ
-placed_text shown o engine cells count place p = opening o engine place ++ object_text shown cells p ++ closing count place
+placed_text shown o engine cells count place p = opening o engine place ++ object_text shown cells p ++ closing o.size count place
 
--- the objects from a place on, each 16 of them in a target
+-- the objects from a place on, in targets that have as many of them as their size allows
 abbrev pub objects_from : (List ℕ → List ℕ) → Options → List ℕ → List Cell → ℕ → ℕ → List Planned → List ℕ
 objects_from shown o engine cells count place [] = []
 objects_from shown o engine cells count place (p ∷ ps) =

@@ -1,6 +1,6 @@
 //! Settings with the targets of a further agent at their end.
 
-ghost use Rattle.std.specs.Prelude.{◌≡◌, ◌⊎◌, ◌≤◌, Err, IfErr, IfOk, Ok, OnOk, length, string_bytes};
+ghost use Rattle.std.specs.Prelude.{◌≡◌, ◌⊎◌, ◌≤◌, Err, IfErr, IfOk, Ok, OnOk, drop, length, string_bytes};
 ghost use Rattle.mon_settings.specs.StationAccepted.{IsStation, Station, station_view};
 ghost use Rattle.mon_settings.specs.Text.{Says};
 ghost use Rattle.mon_survey.specs.Appended.{IsAppendFault, IsAppended, IsAppendedText, IsMisread, polls, shown_by, with_room};
@@ -15,10 +15,11 @@ use crate::comparing::Wanted;
 use crate::counter::Planned;
 use crate::drafting::{AgentPlan, addition};
 use crate::fault::{SurveyFault, given};
-use crate::kept::is_appended;
-use crate::longest::{Drafted, LongestRound, longest_round};
+use crate::kept::{after, is_appended};
+use crate::longest::{Drafted, Reading, drafted_of, reading_of};
 use crate::options::Options;
 use crate::planning::plan;
+use crate::size::{TargetSize, require_few_targets};
 use crate::surveying::Surveyed;
 use crate::writing::Naming;
 use mon_poller::Target;
@@ -26,14 +27,8 @@ use mon_settings::{SettingsFault, StationSettings, read_station};
 use mon_smi::{InNumbers, Names};
 use std::alloc::Global;
 
-/// The most targets of a station.
-const MOST_TARGETS: usize = 64;
-
 /// The most instances of a station.
 const MOST_INSTANCES: usize = 256;
-
-/// The most objects of a target.
-const MOST_OBJECTS: usize = 16;
 
 /// Settings that are there.
 #[derive(Clone, Copy)]
@@ -59,15 +54,17 @@ fn polls_any(engine: &[u8], targets: &[Target]) -> bool
     targets.iter().any(|target| polls(engine, target))
 }
 
-/// Requires that the settings have space for the counters, and poll no agent of this engine id.
+/// Requires that the settings have space for the counters, in targets of this size, and poll no agent
+/// of this engine id.
 fn require_room(
+    size: TargetSize,
     station: &StationSettings,
     engine: &[u8],
     planned: &[Planned],
 ) -> Result<(), SurveyFault>
     requires { length planned.now ≤ 256 }
-    ensures room { OnOk result (with_room (station_view station.now) engine.now planned.now ≡ Ok planned.now) }
-    ensures fault { IfErr result (λ e. with_room (station_view station.now) engine.now planned.now ≡ Err e) }
+    ensures room { OnOk result (with_room size (station_view station.now) engine.now planned.now ≡ Ok planned.now) }
+    ensures fault { IfErr result (λ e. with_room size (station_view station.now) engine.now planned.now ≡ Err e) }
 {
     if polls_any(engine, station.core.targets()) {
         return Err(SurveyFault::SameEngine);
@@ -76,11 +73,7 @@ fn require_room(
     if instances > MOST_INSTANCES {
         return Err(SurveyFault::TooMany(instances));
     }
-    let targets = station.core.targets().len() + (planned.len() + MOST_OBJECTS - 1) / MOST_OBJECTS;
-    if targets > MOST_TARGETS {
-        return Err(SurveyFault::TooManyTargets(targets));
-    }
-    Ok(())
+    require_few_targets(size, station.core.targets(), planned)
 }
 
 /// Returns the settings with the targets, names by those of their modules, if they list some.
@@ -118,37 +111,37 @@ fn draft_addition(
     )
 }
 
-/// Requires that the new settings are the old ones with the agent's targets, and returns how long
-/// their rounds take at most.
+/// Requires that the new settings are the old ones with the agent's targets, and returns what they
+/// are read as.
 fn require_appended(
     alloc: Global,
     wanted: &Wanted<'_>,
     old: &StationSettings,
     new: &StationSettings,
-) -> Result<LongestRound, SurveyFault>
+) -> Result<Reading, SurveyFault>
     requires few { length wanted.now.planned.now ≤ 256 }
     requires percent { wanted.now.options.now.percent ≤ 100 }
-    ensures gives { IfOk result (λ longest. IsAppended wanted.now.options.now wanted.now.engine.now wanted.now.answers.now wanted.now.planned.now (station_view old.now) (station_view new.now) × (longest ≡ longest_of (station_view new.now))) }
+    ensures gives { IfOk result (λ reading. IsAppended wanted.now.options.now wanted.now.engine.now wanted.now.answers.now wanted.now.planned.now (station_view old.now) (station_view new.now) × (reading.longest ≡ longest_of (station_view new.now)) × (reading.targets.items ≡ drop (length (station_view old.now).core.targets) (station_view new.now).core.targets)) }
     ensures fault { IfErr result (IsUnlike (IsAppended wanted.now.options.now wanted.now.engine.now wanted.now.answers.now wanted.now.planned.now (station_view old.now) (station_view new.now))) }
 {
     if is_appended(alloc, wanted, old, new)? {
-        Ok(longest_round(new))
+        let added = after(new.core.targets(), old.core.targets().len());
+        Ok(reading_of(alloc, new, added)?)
     } else {
         Err(SurveyFault::Misread)
     }
 }
 
-/// Returns how long the rounds of a text's settings take at most, if it is read as the settings with
-/// the agent's targets.
+/// Returns what a text is read as, if it is read as the settings with the agent's targets.
 fn read_appended(
     alloc: Global,
     existing: &Existing<'_>,
     wanted: &Wanted<'_>,
     text: &str,
-) -> Result<LongestRound, SurveyFault>
+) -> Result<Reading, SurveyFault>
     requires few { length wanted.now.planned.now ≤ 256 }
     requires percent { wanted.now.options.now.percent ≤ 100 }
-    ensures gives { IfOk result (λ longest. (station : Station) × Says (IsStation existing.now.names.now) text.now station × IsAppended wanted.now.options.now wanted.now.engine.now wanted.now.answers.now wanted.now.planned.now (station_view existing.now.station.now) station × (longest ≡ longest_of station)) }
+    ensures gives { IfOk result (λ reading. (station : Station) × Says (IsStation existing.now.names.now) text.now station × IsAppended wanted.now.options.now wanted.now.engine.now wanted.now.answers.now wanted.now.planned.now (station_view existing.now.station.now) station × (reading.longest ≡ longest_of station) × (reading.targets.items ≡ drop (length (station_view existing.now.station.now).core.targets) station.core.targets)) }
     ensures fault { IfErr result (IsMisread existing.now.names.now wanted.now.options.now wanted.now.engine.now wanted.now.answers.now wanted.now.planned.now (station_view existing.now.station.now) text.now) }
 {
     match read_station(alloc, text, existing.names) {
@@ -160,8 +153,8 @@ fn read_appended(
 
 /// Returns settings with the targets of a further agent at their end, which poll its chosen counters,
 /// and the alarms on them. The old text is kept octet by octet, and the whole was read back, as what
-/// was meant: how long a round takes at most follows from what was read. Of the options only the
-/// agent's address, community, tries and percentage are used.
+/// was meant: how long a round takes at most and the agent's targets follow from what was read. Of the
+/// options only the agent's address, community, tries and percentage and the size of targets are used.
 ///
 /// # Errors
 /// Those of `plan`; `SameEngine` if a target is an agent of this engine id; `TooMany` with the number
@@ -175,11 +168,11 @@ pub fn append(
     choice: &Choice<'_>,
 ) -> Result<Drafted, SurveyFault>
     requires { options.now.percent ≤ 100 }
-    ensures reads { IfOk result (λ drafted. IsAppendedText existing.now.names.now choice.now options.now existing.now.text.now (station_view existing.now.station.now) agent.now.engine.now agent.now.answers.now (string_bytes drafted.text) drafted.longest) }
+    ensures reads { IfOk result (λ drafted. IsAppendedText existing.now.names.now choice.now options.now existing.now.text.now (station_view existing.now.station.now) agent.now.engine.now agent.now.answers.now (string_bytes drafted.text) drafted.longest drafted.targets.items) }
     ensures fault { IfErr result (IsAppendFault existing.now.names.now choice.now options.now existing.now.text.now (station_view existing.now.station.now) agent.now.engine.now agent.now.answers.now) }
 {
     let planned = given!(plan(alloc, agent.answers, choice));
-    given!(require_room(existing.station, agent.engine, &planned));
+    given!(require_room(options.size, existing.station, agent.engine, &planned));
     let wanted = Wanted {
         options,
         engine: agent.engine,
@@ -187,6 +180,6 @@ pub fn append(
         planned: &planned,
     };
     let text = given!(draft_addition(alloc, existing, agent, &wanted.agent_plan()));
-    let longest = given!(read_appended(alloc, existing, &wanted, text.as_str()));
-    Ok(Drafted { text, longest })
+    let reading = given!(read_appended(alloc, existing, &wanted, text.as_str()));
+    Ok(drafted_of(text, reading))
 }

@@ -6,7 +6,7 @@ ghost use Rattle.std.specs.Option.{option_to_list};
 ghost use Rattle.mon_settings.specs.StationAccepted.{station_view};
 ghost use Rattle.mon_udp.specs.Addr.{addr_of};
 ghost use Rattle.mon_survey.specs.Column.{cell_name, spot_of};
-ghost use Rattle.mon_survey.specs.Meant.{ArePeers, AreScalars, AreTargets, IsAgent, IsAlarm, IsCounter, IsMeant, IsSized, alarm_on, alarms_from, at_cell, at_watched, is_octets, is_own, mark_of};
+ghost use Rattle.mon_survey.specs.Meant.{ArePeers, AreScalars, AreTargets, IsAgent, IsAlarm, IsCounter, IsMeant, IsSized, IsSmall, alarm_on, alarms_from, at_cell, at_watched, is_octets, is_own, mark_of};
 
 use crate::answers::Answers;
 use crate::column::{Column, Spot};
@@ -14,6 +14,7 @@ use crate::counter::Planned;
 use crate::drafting::AgentPlan;
 use crate::options::{Options, Peer};
 use crate::planning::{Thresholds, thresholds_at};
+use crate::size::{TargetSize, targets_for};
 use mon_alarms::Rule;
 use mon_board::Watched;
 use mon_oid::Oid;
@@ -21,9 +22,6 @@ use mon_poller::{Object, Target};
 use mon_settings::StationSettings;
 use mon_udp::Addr;
 use std::alloc::{AllocError, AllocFailed, Global};
-
-/// The most objects of a target.
-const MOST_OBJECTS: usize = 16;
 
 /// What settings are compared with.
 #[derive(Clone, Copy)]
@@ -158,6 +156,19 @@ fn are_polled(alloc: Global, wanted: &Wanted<'_>, targets: &[Target]) -> Result<
     Ok(are_counters(wanted.answers, &objects, wanted.planned))
 }
 
+/// Returns `true` if the target has no more objects than the size allows.
+fn is_small(size: TargetSize, target: &Target) -> bool
+    ensures { IsTrue result ↔ IsSmall size target.now }
+{
+    target.objects.as_slice().len() <= size.objects()
+}
+
+fn are_small(size: TargetSize, targets: &[Target]) -> bool
+    ensures { IsTrue result ↔ All (IsSmall size) targets.now }
+{
+    targets.iter().all(|target| is_small(size, target))
+}
+
 /// Returns `true` if the targets are those that were meant.
 pub(crate) fn are_targets(
     alloc: Global,
@@ -168,10 +179,12 @@ pub(crate) fn are_targets(
     ensures { IfOk result (λ are. IsTrue are ↔ AreTargets wanted.now.options.now wanted.now.engine.now wanted.now.answers.now wanted.now.planned.now targets.now) }
 {
     let polled = are_polled(alloc, wanted, targets)?;
+    let size = wanted.options.size;
     Ok(
         are_agents(wanted, targets)
             && polled
-            && targets.len() == (wanted.planned.len() + MOST_OBJECTS - 1) / MOST_OBJECTS,
+            && are_small(size, targets)
+            && targets.len() == targets_for(size, wanted.planned),
     )
 }
 

@@ -8,14 +8,12 @@ ghost use Rattle.mon_survey.specs.Text.{added_text, addition_of, alarm_text, ala
 use crate::counter::Planned;
 use crate::fault::SurveyFault;
 use crate::options::{Options, Peer};
+use crate::size::TargetSize;
 use crate::writing::{Naming, put_alarm, put_head, put_modules, put_object, put_peer, put_target};
 use mon_smi::NameTexts;
 use std::alloc::AllocError;
 
-/// The most objects of a target.
-const MOST_OBJECTS: usize = 16;
-
-/// Adds what comes before an object: the head of a target before the first of each 16.
+/// Adds what comes before an object: before the first of each target its head.
 fn put_opening(
     text: &mut String,
     options: &Options<'_>,
@@ -24,20 +22,25 @@ fn put_opening(
 ) -> Result<(), AllocError>
     ensures { OnOk result (string_bytes text.new ≡ string_bytes text.old ++ opening options.now engine.now place) }
 {
-    if place % MOST_OBJECTS == 0 {
+    if place % options.size.objects() == 0 {
         put_target(text, options, engine)
     } else {
         Ok(())
     }
 }
 
-/// Adds what comes after an object: the end of the list after the last of each 16, and after the
-/// last of all.
-fn put_closing(text: &mut String, count: usize, place: usize) -> Result<(), AllocError>
+/// Adds what comes after an object: the end of the list after the last of each target, and after
+/// the last of all.
+fn put_closing(
+    text: &mut String,
+    size: TargetSize,
+    count: usize,
+    place: usize,
+) -> Result<(), AllocError>
     requires { place < count }
-    ensures { OnOk result (string_bytes text.new ≡ string_bytes text.old ++ closing count place) }
+    ensures { OnOk result (string_bytes text.new ≡ string_bytes text.old ++ closing size count place) }
 {
-    if (place + 1) % MOST_OBJECTS == 0 || place + 1 == count {
+    if (place + 1) % size.objects() == 0 || place + 1 == count {
         text.push_str("]\n")
     } else {
         Ok(())
@@ -66,7 +69,7 @@ fn put_placed<S: NameTexts>(
 {
     put_opening(text, around.options, around.engine, place)?;
     put_object(text, around.shown, one)?;
-    put_closing(text, around.count, place)
+    put_closing(text, around.options.size, around.count, place)
 }
 
 /// Adds the targets.

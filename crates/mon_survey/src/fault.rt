@@ -43,7 +43,7 @@ pub enum SurveyFault {
     #[error("no interface that is chosen has a counter of these kinds, or a view hides it from this community: permit 1.3.6.1.2.1.2 and 1.3.6.1.2.1.31")]
     NoCounter,
     /// More than 256 counters, which are this many.
-    #[error("{0} counters are more than the 256 of a station: choose fewer by --match, --up or --only, or have several settings by --split")]
+    #[error("{0} counters are more than the 256 of a station: choose fewer by --match, --up or --only; without --append, --split gives several settings")]
     TooMany(usize),
     /// An option's text has a quote, a backslash or an octet outside 20 to 7E.
     #[error("a text has a quote, a backslash or an octet outside 20 to 7E")]

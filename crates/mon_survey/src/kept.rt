@@ -221,7 +221,7 @@ fn are_kept_scalars(old: &StationSettings, new: &StationSettings) -> bool
 }
 
 /// The targets from a place on.
-fn after(targets: &[Target], count: usize) -> &[Target]
+pub(crate) fn after(targets: &[Target], count: usize) -> &[Target]
     ensures { result.now ≡ drop count targets.now }
 {
     if count > targets.len() {

@@ -1,12 +1,12 @@
 //! What a file of the texts of interfaces is read as.
 
-ghost use Rattle.std.specs.Prelude.{◌≡◌, ◌≤◌, ◌+◌, ◌⊎◌, ◌↔◌, IfErr, IfOk, IsTrue, None, OnOk, Some, codes, false, length, option_and_then, option_copied, option_map, string_bytes};
+ghost use Rattle.std.specs.Prelude.{◌≡◌, ◌<◌, ◌≤◌, ◌^◌, ◌+◌, ◌⊎◌, ◌↔◌, IfErr, IfOk, IsTrue, None, OnOk, Some, codes, false, length, option_copied, option_map, string_bytes};
 ghost use Rattle.hex.specs.Hex.{encode_lower};
-ghost use Rattle.toml.specs.Data.{as_integer, get, get_member};
+ghost use Rattle.toml.specs.Data.{get_member};
 ghost use Rattle.toml.specs.Parse.{parse_document};
 ghost use Rattle.toml.specs.View.{items_view, table_view, view};
 ghost use Rattle.mon_survey.specs.Meant.{IsUnlike};
-ghost use Rattle.mon_survey.specs.Labels.{AreInterfaces, Continue, ContinueIn, IsInterface, IsLabels, IsNoLabels, IsSameInterface, ReadsOn, count_items, has_engine, indexes_of, interfaces_in, is_of, items_at, labels_text, text_at, text_of};
+ghost use Rattle.mon_survey.specs.Labels.{AreInterfaces, Continue, ContinueIn, IsInterface, IsLabels, IsNoLabels, IsSameInterface, ReadsOn, count_items, has_engine, indexes_of, interfaces_in, is_of, items_at, known_speed, labels_text, number_at, text_at, text_of};
 
 use crate::answers::Answers;
 use crate::choice::Choice;
@@ -73,7 +73,7 @@ fn text_at<'v>(value: &'v Value, key: &str) -> Option<&'v str>
 
 /// The number at a key.
 fn number_at(value: &Value, key: &str) -> Option<i64>
-    ensures { result ≡ option_and_then as_integer (get key.now (view value.now)) }
+    ensures { result ≡ number_at key.now (view value.now) }
 {
     match value.get(key) {
         Some(found) => found.as_integer(),
@@ -115,17 +115,30 @@ fn has_text(alloc: Global, value: &Value, key: &str, octets: &[u8]) -> Result<bo
     Ok(is_text(text_at(value, key), &text))
 }
 
+/// Returns a speed in bits a second as a number of TOML, unless it is 0.
+fn known_speed(speed: u64) -> Option<i64>
+    requires { speed < 2 ^ 63 }
+    ensures { result ≡ known_speed speed }
+{
+    if speed == 0 {
+        return None;
+    }
+    Some(speed as i64)
+}
+
 /// Returns `true` if the table is that of the interface.
 fn is_interface(source: &Source<'_>, index: u32, value: &Value) -> Result<bool, AllocError>
     ensures { IfOk result (λ is. IsTrue is ↔ IsInterface source.now.engine.now source.now.answers.now index (view value.now)) }
 {
     let name = has_text(source.alloc, value, "ifName", source.name(index))?;
     let alias = has_text(source.alloc, value, "ifAlias", source.alias(index))?;
+    let speed = number_at(value, "speed") == known_speed(source.speed(index));
     Ok(
         are_alike(text_at(value, "engine"), Some(source.engine))
             && number_at(value, "index") == Some(i64::from(index))
             && name
-            && alias,
+            && alias
+            && speed,
     )
 }
 
@@ -157,6 +170,7 @@ fn is_same(one: &Value, other: &Value) -> bool
         && number_at(one, "index") == number_at(other, "index")
         && are_alike(text_at(one, "ifName"), text_at(other, "ifName"))
         && are_alike(text_at(one, "ifAlias"), text_at(other, "ifAlias"))
+        && number_at(one, "speed") == number_at(other, "speed")
 }
 
 /// Returns `true` if the new tables are the old ones, and then those of the interfaces.

@@ -4,6 +4,8 @@ ghost use Rattle.std.specs.Prelude.{◌≡◌};
 ghost use Rattle.std.specs.List.{list_all};
 ghost use Rattle.mon_survey.specs.Text.{are_plain, is_plain, is_plain_octet, is_plain_peer};
 
+use crate::size::TargetSize;
+
 /// Another station that shares with this one.
 #[derive(Drop)]
 pub struct Peer {
@@ -36,6 +38,8 @@ pub struct Options<'a> {
     pub community: &'a str,
     /// How often a poll is sent in all, 1 to 8.
     pub tries: u8,
+    /// How many objects a target has at most.
+    pub size: TargetSize,
     /// Which part of an interface's speed raises an alarm, in percent to 100; 0 for no alarms.
     pub percent: u8,
 }

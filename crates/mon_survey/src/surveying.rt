@@ -11,9 +11,10 @@ use crate::choice::Choice;
 use crate::comparing::{Wanted, is_meant};
 use crate::drafting::draft;
 use crate::fault::{SurveyFault, given};
-use crate::longest::{Drafted, LongestRound, longest_round};
+use crate::longest::{Drafted, Reading, drafted_of, reading_of};
 use crate::options::Options;
 use crate::planning::plan;
+use crate::size::require_few_targets;
 use crate::writing::Naming;
 use mon_settings::{SettingsFault, StationSettings, read_station};
 use mon_smi::{InNumbers, NameTexts, Names};
@@ -28,34 +29,34 @@ pub struct Surveyed<'a> {
     pub answers: &'a Answers,
 }
 
-/// Requires that the settings are what was meant, and returns how long their rounds take at most.
+/// Requires that the settings are what was meant, and returns what they are read as.
 fn require_meant(
     alloc: Global,
     wanted: &Wanted<'_>,
     station: &StationSettings,
-) -> Result<LongestRound, SurveyFault>
+) -> Result<Reading, SurveyFault>
     requires few { length wanted.now.planned.now ≤ 256 }
     requires percent { wanted.now.options.now.percent ≤ 100 }
-    ensures gives { IfOk result (λ longest. IsMeant wanted.now.options.now wanted.now.engine.now wanted.now.answers.now wanted.now.planned.now (station_view station.now) × (longest ≡ longest_of (station_view station.now))) }
+    ensures gives { IfOk result (λ reading. IsMeant wanted.now.options.now wanted.now.engine.now wanted.now.answers.now wanted.now.planned.now (station_view station.now) × (reading.longest ≡ longest_of (station_view station.now)) × (reading.targets.items ≡ (station_view station.now).core.targets)) }
     ensures fault { IfErr result (IsUnlike (IsMeant wanted.now.options.now wanted.now.engine.now wanted.now.answers.now wanted.now.planned.now (station_view station.now))) }
 {
     if is_meant(alloc, wanted, station)? {
-        Ok(longest_round(station))
+        Ok(reading_of(alloc, station, station.core.targets())?)
     } else {
         Err(SurveyFault::Misread)
     }
 }
 
-/// Returns how long the rounds of a text's settings take at most, if it is read as what was meant.
+/// Returns what a text is read as, if that is what was meant.
 fn read_back(
     alloc: Global,
     names: &Names,
     wanted: &Wanted<'_>,
     text: &str,
-) -> Result<LongestRound, SurveyFault>
+) -> Result<Reading, SurveyFault>
     requires few { length wanted.now.planned.now ≤ 256 }
     requires percent { wanted.now.options.now.percent ≤ 100 }
-    ensures gives { IfOk result (IsReadBack names.now wanted.now.options.now wanted.now.engine.now wanted.now.answers.now wanted.now.planned.now text.now) }
+    ensures gives { IfOk result (λ reading. IsReadBack names.now wanted.now.options.now wanted.now.engine.now wanted.now.answers.now wanted.now.planned.now text.now reading.longest reading.targets.items) }
     ensures fault { IfErr result (IsNotReadBack names.now wanted.now.options.now wanted.now.engine.now wanted.now.answers.now wanted.now.planned.now text.now) }
 {
     match read_station(alloc, text, names) {
@@ -65,7 +66,7 @@ fn read_back(
     }
 }
 
-/// Returns the text and how long its rounds take at most, if it is read as what was meant.
+/// Returns the text and what it is read as, if that is what was meant.
 fn confirm(
     alloc: Global,
     names: &Names,
@@ -74,11 +75,11 @@ fn confirm(
 ) -> Result<Drafted, SurveyFault>
     requires few { length wanted.now.planned.now ≤ 256 }
     requires percent { wanted.now.options.now.percent ≤ 100 }
-    ensures gives { IfOk result (λ drafted. (drafted.text ≡ text) × IsReadBack names.now wanted.now.options.now wanted.now.engine.now wanted.now.answers.now wanted.now.planned.now (string_bytes text) drafted.longest) }
+    ensures gives { IfOk result (λ drafted. (drafted.text ≡ text) × IsReadBack names.now wanted.now.options.now wanted.now.engine.now wanted.now.answers.now wanted.now.planned.now (string_bytes text) drafted.longest drafted.targets.items) }
     ensures fault { IfErr result (IsNotReadBack names.now wanted.now.options.now wanted.now.engine.now wanted.now.answers.now wanted.now.planned.now (string_bytes text)) }
 {
-    let longest = given!(read_back(alloc, names, wanted, text.as_str()));
-    Ok(Drafted { text, longest })
+    let reading = given!(read_back(alloc, names, wanted, text.as_str()));
+    Ok(drafted_of(text, reading))
 }
 
 /// Returns the settings with names as they are shown.
@@ -90,10 +91,11 @@ fn settings_by<S: NameTexts>(
     choice: &Choice<'_>,
 ) -> Result<Drafted, SurveyFault>
     requires { options.now.percent ≤ 100 }
-    ensures reads { IfOk result (λ drafted. IsSettingsText names.now (S.shown shown.now.names.now) choice.now options.now engine.now shown.now.answers.now (string_bytes drafted.text) drafted.longest) }
+    ensures reads { IfOk result (λ drafted. IsSettingsText names.now (S.shown shown.now.names.now) choice.now options.now engine.now shown.now.answers.now (string_bytes drafted.text) drafted.longest drafted.targets.items) }
     ensures fault { IfErr result (IsFault names.now (S.shown shown.now.names.now) choice.now options.now engine.now shown.now.answers.now) }
 {
     let planned = given!(plan(shown.alloc, shown.answers, choice));
+    given!(require_few_targets(options.size, &[], &planned));
     let wanted = Wanted {
         options,
         engine,
@@ -107,10 +109,10 @@ fn settings_by<S: NameTexts>(
 
 /// Returns the settings of a station that polls the chosen counters of an agent, names by those of
 /// the options' modules, if there are some. The text was read back, as what was meant: how long a
-/// round takes at most follows from what was read.
+/// round takes at most and the targets follow from what was read.
 ///
 /// # Errors
-/// Those of `plan`; `BadText` where an option's text has a quote, a backslash or an octet outside 20
+/// Those of `plan`; `TooManyTargets` with the number of targets above 64; `BadText` where an option's text has a quote, a backslash or an octet outside 20
 /// to 7E; `Refused` where the text is no settings; `Misread` where it is read as other settings;
 /// `OutOfMemory`.
 pub fn settings(
@@ -121,7 +123,7 @@ pub fn settings(
     choice: &Choice<'_>,
 ) -> Result<Drafted, SurveyFault>
     requires { options.now.percent ≤ 100 }
-    ensures reads { IfOk result (λ drafted. IsSettingsText names.now (shown_by names.now (length options.now.modules.now)) choice.now options.now agent.now.engine.now agent.now.answers.now (string_bytes drafted.text) drafted.longest) }
+    ensures reads { IfOk result (λ drafted. IsSettingsText names.now (shown_by names.now (length options.now.modules.now)) choice.now options.now agent.now.engine.now agent.now.answers.now (string_bytes drafted.text) drafted.longest drafted.targets.items) }
     ensures fault { IfErr result (IsFault names.now (shown_by names.now (length options.now.modules.now)) choice.now options.now agent.now.engine.now agent.now.answers.now) }
 {
     if options.modules.is_empty() {

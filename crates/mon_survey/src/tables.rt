@@ -1,10 +1,10 @@
 //! The texts of interfaces as a file, whose texts become labels of Prometheus' series.
 
-ghost use Rattle.std.specs.Prelude.{◌≡◌, ◌++◌, [], ◌∷◌, IfOk, None, OnOk, codes, decimal, if◌then◌else◌, option_map, string_bytes};
+ghost use Rattle.std.specs.Prelude.{◌≡◌, ◌≤◌, ◌++◌, [], ◌∷◌, IfOk, None, OnOk, codes, decimal, if◌then◌else◌, option_map, string_bytes};
 ghost use Rattle.std.specs.List.{concat, flat_map};
 ghost use Rattle.hex.specs.Hex.{encode_lower};
-ghost use Rattle.mon_survey.specs.Answers.{octets_of, value_at};
-ghost use Rattle.mon_survey.specs.Labels.{begun, escaped, if_alias, if_name, indexes_after, interface_text, is_before, labels_text, line_of, text_of};
+ghost use Rattle.mon_survey.specs.Answers.{octets_of, speed_in, value_at};
+ghost use Rattle.mon_survey.specs.Labels.{begun, escaped, if_alias, if_name, indexes_after, interface_text, is_before, labels_text, line_of, speed_line, text_of};
 
 use crate::answers::Answers;
 use crate::column::Column;
@@ -106,6 +106,17 @@ fn put_text(alloc: Global, text: &mut Vec<u8>, key: &str, octets: &[u8]) -> Resu
     put_line(alloc, text, key, &value)
 }
 
+/// Adds the line of a speed in bits a second, unless it is 0.
+fn put_speed_line(alloc: Global, text: &mut Vec<u8>, speed: u64) -> Result<(), AllocError>
+    ensures { OnOk result (text.new.items ≡ text.old.items ++ speed_line speed) }
+{
+    if speed == 0 {
+        return Ok(());
+    }
+    let line = format!(in alloc; "speed = {speed}\n")?;
+    text.extend_from_slice(line.as_bytes())
+}
+
 /// Adds the head of an interface's table.
 fn put_head(alloc: Global, text: &mut Vec<u8>, engine: &str, index: u32) -> Result<(), AllocError>
     ensures { OnOk result (text.new.items ≡ text.old.items ++ concat (codes "\n[[interface]]\nengine = \"" ∷ engine.now ∷ codes "\"\nindex = " ∷ decimal index ∷ codes "\n" ∷ [])) }
@@ -137,6 +148,14 @@ impl Source<'_> {
         self.answers.octets(Column::IfX(18), index)
     }
 
+    /// Returns the interface's speed in bits a second; 0 if it is unknown.
+    pub(crate) fn speed(&self, index: u32) -> u64
+        ensures speed { result ≡ speed_in self.now.answers.now index }
+        ensures range { result ≤ 4_294_967_295_000_000 }
+    {
+        self.answers.speed(index)
+    }
+
     /// Adds the line of the interface's ifName, where it has one.
     fn put_name(&self, text: &mut Vec<u8>, index: u32) -> Result<(), AllocError>
         ensures { OnOk result (text.new.items ≡ text.old.items ++ line_of (codes "ifName") (if_name self.now.answers.now index)) }
@@ -151,6 +170,13 @@ impl Source<'_> {
         put_text(self.alloc, text, "ifAlias", self.alias(index))
     }
 
+    /// Adds the line of the interface's speed, if it is known.
+    fn put_speed(&self, text: &mut Vec<u8>, index: u32) -> Result<(), AllocError>
+        ensures { OnOk result (text.new.items ≡ text.old.items ++ speed_line (speed_in self.now.answers.now index)) }
+    {
+        put_speed_line(self.alloc, text, self.speed(index))
+    }
+
     /// Adds the table of an interface.
     #[tactic(auto, unfolding(crate::specs::Labels::interface_text))]
     fn put_interface(&self, text: &mut Vec<u8>, index: u32) -> Result<(), AllocError>
@@ -158,7 +184,8 @@ impl Source<'_> {
     {
         put_head(self.alloc, text, self.engine, index)?;
         self.put_name(text, index)?;
-        self.put_alias(text, index)
+        self.put_alias(text, index)?;
+        self.put_speed(text, index)
     }
 
     /// Adds the tables of interfaces.
@@ -182,7 +209,7 @@ impl Source<'_> {
 }
 
 /// The first line of a new file.
-const FIRST: &str = "# Labels of interfaces for Prometheus.\n";
+const FIRST: &str = "# Labels of interfaces.\n";
 
 /// The old text, or the first line of a new one.
 fn begun(old: &str) -> &str

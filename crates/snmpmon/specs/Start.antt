@@ -9,7 +9,7 @@ use Rattle.clap.specs.declared.error.Error.{Error}
 use Rattle.clap.specs.declared.error.kind.ErrorKind.{ErrorKind as UsageKind}
 use Rattle.clap.specs.declared.error.kind.ErrorKind.TheVariants as usage
 use Rattle.mon_app.specs.Network.{Agents, Ports}
-use Rattle.mon_cli.specs.Asked.{AsksFor, LacksInterval, LacksRounds, is_on}
+use Rattle.mon_cli.specs.Asked.{AsksFor, LacksColumns, LacksInterval, LacksRounds, is_on}
 use Rattle.mon_cli.specs.Program.{IsParseOf, Reads}
 use Rattle.mon_cli.specs.declared.meaning.Asked.{Asked}
 use Rattle.mon_cli.specs.declared.meaning.Asked.TheVariants as asked
@@ -154,11 +154,16 @@ abbrev pub no_interval : List ℕ
 no_interval =
     codes "snmpmon: station wants --interval SECONDS with --phase; see snmpmon station --help\n"
 
--- The command is run, unless a station lacks something, which one line says.
+-- what is said of rows that are to be sorted of a report that is no table
+abbrev pub no_columns : List ℕ
+no_columns = codes "snmpmon: --sort wants --columns; see snmpmon report --help\n"
+
+-- The command is run, unless a station or a report lacks something, which one line says.
 pub record IsStartOf (agents : Agents) (ports : Ports) (asked : Asked) (log : List AtHost) (status : ℕ) : Type 0 where
   pub rounds : LacksRounds asked → IsRefused no_rounds log status
   pub interval : ¬ (LacksRounds asked) → LacksInterval asked → IsRefused no_interval log status
-  pub run : ¬ (LacksRounds asked) → ¬ (LacksInterval asked) → IsRunFor agents ports asked log status
+  pub columns : ¬ (LacksRounds asked) → ¬ (LacksInterval asked) → LacksColumns asked → IsRefused no_columns log status
+  pub run : ¬ (LacksRounds asked) → ¬ (LacksInterval asked) → ¬ (LacksColumns asked) → IsRunFor agents ports asked log status
 
 -- what arguments ask for, by the rows that the command line makes of them
 pub record IsAskedBy (words : List Text) (a : Asked) : Type 0 where

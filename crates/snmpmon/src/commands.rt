@@ -40,6 +40,9 @@ const NO_ROUNDS: &str =
 const NO_INTERVAL: &str =
     "snmpmon: station wants --interval SECONDS with --phase; see snmpmon station --help\n";
 
+/// The line for rows that are to be sorted of a report that is no table.
+const NO_COLUMNS: &str = "snmpmon: --sort wants --columns; see snmpmon report --help\n";
+
 /// Runs the command that the arguments name, and returns the exit status.
 pub fn start<R: Clock + Files<File = File> + Net + AllocGlobal, N: Opens + Listens, H: Host>(
     rt: &R,
@@ -147,6 +150,9 @@ fn start_command<R: Clock + Files<File = File> + Net + AllocGlobal, N: Opens + L
     }
     if asked.lacks_interval() {
         return refuse(host, NO_INTERVAL);
+    }
+    if asked.lacks_columns() {
+        return refuse(host, NO_COLUMNS);
     }
     run_to_end(rt, net, host, asked)
 }

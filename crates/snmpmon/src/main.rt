@@ -8,11 +8,15 @@
 mod commands;
 
 use mon_app::SystemNetwork;
-use mon_host::System;
+use mon_host::{System, Terminals};
 use std::io::IsTerminal;
 use std::process::ExitCode;
 
 fn main(rt: HostRuntime) -> ExitCode {
-    let mut host = System::new(&rt, rt.stdin().is_terminal());
+    let terminals = Terminals {
+        input: rt.stdin().is_terminal(),
+        output: rt.stdout().is_terminal(),
+    };
+    let mut host = System::new(&rt, terminals);
     ExitCode::from(commands::start(&rt, &SystemNetwork::new(&rt), &mut host))
 }

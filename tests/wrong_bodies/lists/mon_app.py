@@ -311,16 +311,6 @@ BUGS = {
         "    let name = names.text(alloc, &binding.name)?;\n    text.push_str(name.as_str())?;\n",
         "",
     ),
-    "names_statuses_from_one": (
-        "src/status.rt",
-        "NAMES.get(number).copied()",
-        "NAMES.get(number.saturating_sub(1)).copied()",
-    ),
-    "has_no_inconsistent_name": (
-        "src/status.rt",
-        '    "inconsistentName",',
-        '    "inconsistentValue",',
-    ),
     "holds_257_instances": (
         "src/table.rt",
         "const LIMIT: usize = 256;",

@@ -83,8 +83,8 @@ BUGS = {
     ),
     "keeps_the_old_labels": (
         "src/printing.rt",
-        "            labels: _,\n        } = self;\n        Printing {",
-        "            labels: old,\n        } = self;\n        let labels = if labels.is_empty() { labels } else { old };\n        Printing {",
+        "            labels: _,\n            mut presentation,\n        } = self;\n",
+        "            labels: old,\n            mut presentation,\n        } = self;\n        let labels = if labels.is_empty() { labels } else { old };\n",
     ),
     "each_format_but_json_is_text": (
         "src/printing.rt",
@@ -108,8 +108,43 @@ BUGS = {
     ),
     "an_alarm_is_shown_in_numbers": (
         "src/printing.rt",
-        "            Some(names) => alarm_line(alloc, &names.labels(alloc)?, watch, change),",
-        "            Some(_) => alarm_line(alloc, &InNumbers, watch, change),",
+        "            Some(names) => alarm_line(alloc, &names.labels(alloc)?, board, labels, change),",
+        "            Some(_) => alarm_line(alloc, &InNumbers, board, labels, change),",
+    ),
+    "a_station_without_its_label": (
+        "src/labels.rt",
+        "    Ok((all, copied(alloc, &settings.label)?))\n",
+        "    Ok((all, None))\n",
+    ),
+    "an_alarm_without_labels": (
+        "src/printing.rt",
+        "            None => alarm_line(alloc, &InNumbers, board, labels, change),",
+        "            None => alarm_line(alloc, &InNumbers, board, &[], change),",
+    ),
+    "a_table_where_a_format_is_named": (
+        "src/printing.rt",
+        "        if self.chosen {\n            return;\n        }\n        if host.prints_to_terminal() {",
+        "        if host.prints_to_terminal() {",
+    ),
+    "a_table_in_a_pipe": (
+        "src/printing.rt",
+        "        if host.prints_to_terminal() {",
+        "        if !host.prints_to_terminal() {",
+    ),
+    "no_table_at_a_terminal": (
+        "src/printing.rt",
+        "            self.format = Format::Columns;\n",
+        "            self.format = Format::Text;\n",
+    ),
+    "a_table_sorted_by_name": (
+        "src/printing.rt",
+        "            presentation: presented(printed.sort),",
+        "            presentation: presented(None),",
+    ),
+    "a_file_of_no_age": (
+        "src/printing.rt",
+        "        printing.presentation.file_age = file_age;\n",
+        "        printing.presentation.file_age = None;\n        let _ = file_age;\n",
     ),
     "an_instance_is_shown_in_numbers": (
         "src/printing.rt",

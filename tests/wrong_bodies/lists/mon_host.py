@@ -66,6 +66,21 @@ BUGS = {
         "        self.record(find_node_step(self.alloc, path, node));",
         "        self.record(find_step(self.alloc, path, node.is_some()));",
     ),
+    "records_no_look_at_the_output": (
+        "src/recorder.rt",
+        "        self.record(Ok(Step::OutputAtTerminal(false)));\n        false",
+        "        false",
+    ),
+    "records_the_output_as_the_input": (
+        "src/recorder.rt",
+        "        self.record(Ok(Step::OutputAtTerminal(false)));",
+        "        self.record(Ok(Step::AtTerminal(false)));",
+    ),
+    "answers_another_terminal_than_it_records": (
+        "src/recorder.rt",
+        "        self.record(Ok(Step::OutputAtTerminal(false)));\n        false",
+        "        self.record(Ok(Step::OutputAtTerminal(false)));\n        true",
+    ),
     "has_no_file_where_none_is_dated": (
         "src/recorder.rt",
         "        self.record(date_file_step(self.alloc, path));\n        refused(Err(ErrorKind::Unsupported))",

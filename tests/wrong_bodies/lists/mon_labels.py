@@ -63,10 +63,6 @@ BUGS = {
         "        Ok(table) => Ok(table),",
         "        Ok(_) => Err(LabelsFault::NotToml(0)),",
     ),
-    "labels_by_the_first_part": ("src/labels.rt", "        name.last().copied()", "        name.first().copied()"),
-    "labels_of_any_name": ("src/labels.rt", "    of_if || of_if_x\n", "    of_if || of_if_x || name.len() == 11\n"),
-    "labels_of_if_table_alone": ("src/labels.rt", "    of_if || of_if_x\n", "    of_if || (of_if_x && name.len() == 11)\n"),
-    "labels_of_a_longer_index": ("src/labels.rt", "name.len() == entry.len() + 2", "name.len() >= entry.len() + 2"),
     "labels_of_no_instance": (
         "src/labels.rt",
         "            all.push(labels)?;",
@@ -74,10 +70,8 @@ BUGS = {
     ),
     "no_interface_is_found": (
         "src/labels.rt",
-        "            Some(labels) => joined(",
-        "            Some(_) => joined(",
-        "                labels.if_name.as_ref(),\n                labels.if_alias.as_ref(),",
-        "                None,\n                None,",
+        "            Some(labels) => of_interface(alloc, address, device, labels),",
+        "            Some(_) => of_device(alloc, address, device),",
     ),
     "the_address_of_the_first_target": (
         "src/labels.rt",
@@ -89,6 +83,13 @@ BUGS = {
         "            let address = address_of(reached, place);",
         "            let address = address_of(reached, place + 1);",
     ),
+    "labels_of_devices_of_other_targets": (
+        "src/labels.rt",
+        "            let device = device_of(reached, place);",
+        "            let device = device_of(reached, place + 1);",
+    ),
+    "no_speed_of_an_interface": ("src/labels.rt", "        speed: labels.speed,", "        speed: None,"),
+    "a_speed_of_0": ("src/table.rt", "        Ok(speed) if 1 <= speed => Some(speed),", "        Ok(speed) => Some(speed),"),
     "too_many_has_the_number_of_twice": (
         "src/fault.rt",
         "            LabelsFault::TooMany => 7,",
@@ -116,23 +117,23 @@ BUGS = {
     ),
     "the_labels_of_the_first_instance_for_all": (
         "src/labels.rt",
-        "self.of_instance(alloc, &watched.instance, address)?",
-        "self.of_instance(alloc, &instances.first().unwrap_or(watched).instance, address)?",
+        "self.of_instance(alloc, &watched.instance, address, device)?",
+        "self.of_instance(alloc, &instances.first().unwrap_or(watched).instance, address, device)?",
     ),
     "forgets_the_address_with_an_interface": (
         "src/labels.rt",
-        "            Some(labels) => joined(\n                alloc,\n                address,",
-        "            Some(labels) => joined(\n                alloc,\n                None,",
+        "            Some(labels) => of_interface(alloc, address, device, labels),",
+        "            Some(labels) => of_interface(alloc, None, device, labels),",
     ),
     "forgets_the_address_without_an_interface": (
         "src/labels.rt",
-        "            None => joined(alloc, address, None, None),",
-        "            None => joined(alloc, None, None, None),",
+        "            None => of_device(alloc, address, device),",
+        "            None => of_device(alloc, None, device),",
     ),
     "the_name_for_the_alias": (
         "src/labels.rt",
-        "        if_alias: copied(alloc, if_alias)?,",
-        "        if_alias: copied(alloc, if_name)?,",
+        "        if_alias: copied(alloc, labels.if_alias.as_ref())?,",
+        "        if_alias: copied(alloc, labels.if_name.as_ref())?,",
     ),
     "copies_no_text": (
         "src/labels.rt",
@@ -224,5 +225,5 @@ BUGS = {
 PROMISES = {
     "reads_no_interface": "reading::read_tree",
     "takes_an_interface_twice": "reading::unless_twice",
-    "labels_of_any_name": "labels::is_column",
+    "forgets_the_address_with_an_interface": "labels::Labels::of_instance",
 }

@@ -3,8 +3,8 @@
 BUGS = {
     "leaves_less_than": (
         "src/escape.rt",
-        '        b\'<\' => text.extend_from_slice(b"&lt;"),',
-        '        b\'<\' => text.extend_from_slice(b"<"),',
+        "        b'<' => text.extend_from_slice(b\"&lt;\"),",
+        "        b'<' => text.extend_from_slice(b\"<\"),",
     ),
     "leaves_quotes": (
         "src/escape.rt",
@@ -16,91 +16,6 @@ BUGS = {
         "        b'&' => text.extend_from_slice(b\"&amp;\"),",
         "        b'&' => text.extend_from_slice(b\"&\"),",
     ),
-    "name_as_it_is": (
-        "src/name.rt",
-        "    put_escaped(text, name.as_bytes())",
-        "    text.extend_from_slice(name.as_bytes())",
-    ),
-    "label_as_it_is": (
-        "src/name.rt",
-        "    put_escaped(text, label)?;",
-        "    text.extend_from_slice(label)?;",
-    ),
-    "labels_of_the_neighbour": (
-        "src/rows.rt",
-        "            labels: self.labels.get(place),",
-        "            labels: self.labels.get(place + 1),",
-    ),
-    "labels_of_the_first": (
-        "src/rows.rt",
-        "            labels: self.labels.get(place),",
-        "            labels: self.labels.first(),",
-    ),
-    "row_without_its_labels": (
-        "src/name.rt",
-        "        Some(labels) => put_labels(text, labels),",
-        "        Some(_) => Ok(()),",
-    ),
-    "page_without_its_labels": (
-        "src/page.rt",
-        "        labels: extras.labels,",
-        "        labels: &[],",
-    ),
-    "if_name_for_if_alias": (
-        "src/name.rt",
-        "    put_label_if(text, b\"ifAlias\", &labels.if_alias)",
-        "    put_label_if(text, b\"ifAlias\", &labels.if_name)",
-    ),
-    "label_under_the_other_title": (
-        "src/name.rt",
-        "    put_label_if(text, b\"ifName\", &labels.if_name)?;",
-        "    put_label_if(text, b\"ifAlias\", &labels.if_name)?;",
-    ),
-    "line_of_a_label_that_is_not_known": (
-        "src/name.rt",
-        "        None => Ok(()),\n        Some(label) =>",
-        "        None => put_label(text, title, b\"\"),\n        Some(label) =>",
-    ),
-    "address_as_it_is": (
-        "src/station.rt",
-        "    put_escaped(text, target.address.as_bytes())?;",
-        "    text.extend_from_slice(target.address.as_bytes())?;",
-    ),
-    "reason_as_it_is": (
-        "src/station.rt",
-        "    put_escaped(text, reason)",
-        "    text.extend_from_slice(reason)",
-    ),
-    "every_target_is_up": (
-        "src/station.rt",
-        '    if up { b"up" } else { b"down" }',
-        '    if up { b"up" } else { b"up" }',
-    ),
-    "debt_of_the_peer_as_number": (
-        "src/station.rt",
-        "    let number = digits.format(peer);",
-        "    let number = digits.format(count);",
-    ),
-    "says_no_debts": (
-        "src/station.rt",
-        "        put_debt(text, *peer, *count)?;",
-        "        if *count == u32::MAX {\n            put_debt(text, *peer, *count)?;\n        }",
-    ),
-    "rounds_for_seconds": (
-        "src/station.rt",
-        "    let seconds = digits.format(target.seconds);",
-        "    let seconds = digits.format(target.rounds);",
-    ),
-    "first_row_again": (
-        "src/rows.rt",
-        "            instance: &self.entries[place],",
-        "            instance: &self.entries[0],",
-    ),
-    "age_of_the_first": (
-        "src/rows.rt",
-        "        let age = self.ages.get(place).copied();",
-        "        let age = self.ages.first().copied();",
-    ),
     "clear_hides_raised": (
         "src/cells.rt",
         "    if is_any_raised(&alarms) {",
@@ -111,80 +26,15 @@ BUGS = {
         "alarms.iter().any(|alarm|",
         "alarms.iter().all(|alarm|",
     ),
-    "oldest_value": (
-        "src/rows.rt",
-        "    let Some(newest) = samples.last() else {",
-        "    let Some(newest) = samples.first() else {",
-    ),
-    "never_loads_again": (
-        "src/page.rt",
-        "        Some(seconds) => put_seconds(text, seconds),",
-        "        Some(_) => Ok(()),",
-    ),
-    "loads_again_after_the_limit_of_ages": (
-        "src/page.rt",
-        "        Some(figures) => refresh_after(figures.interval),",
-        "        Some(figures) => refresh_after(figures.stale_after),",
-    ),
-    "loads_again_at_once": (
-        "src/page.rt",
-        "    if interval == 0 {",
-        "    if interval == 1 {",
-    ),
     "no_ages": (
         "src/freshness.rt",
         "        Some(figures) => figures.ages.as_slice(),",
         "        Some(_) => &[],",
     ),
-    "no_station": (
-        "src/station.rt",
-        "        Some(figures) => put_station(text, figures),",
-        "        Some(_) => Ok(()),",
-    ),
-    "joins_over_boots": (
-        "src/plot.rt",
-        "            before.boots() == sample.boots() && before.discontinuity() == sample.discontinuity()",
-        "            before.discontinuity() == sample.discontinuity()",
-    ),
-    "joins_over_discontinuities": (
-        "src/plot.rt",
-        "            before.boots() == sample.boots() && before.discontinuity() == sample.discontinuity()",
-        "            before.boots() == sample.boots()",
-    ),
-    "plots_counters_values": (
-        "src/plot.rt",
-        "    if !is_counter(sample.kind()) {\n        return Some",
-        "    if is_counter(sample.kind()) || before.is_none() {\n        return Some",
-    ),
-    "plots_upside_down": (
-        "src/plot.rt",
-        "    200 - (above * 200 / span).min(200)",
-        "    (above * 200 / span).min(200)",
-    ),
-    "always_joined": (
-        "src/plot.rt",
-        "        let joined = after && joins(before, sample);",
-        "        let joined = after || joins(before, sample);",
-    ),
-    "scale_without_thresholds": (
-        "src/plot.rt",
-        "        scale = with_rule(counted, scale, rule);",
-        "        let _ = with_rule(counted, scale, rule);",
-    ),
-    "one_threshold": (
-        "src/plot.rt",
-        "    put_limit(text, scale, limit_level(counted, rule.falling()))",
-        "    put_limit(text, scale, limit_level(counted, rule.rising()))",
-    ),
-    "plots_nothing": (
-        "src/plot.rt",
-        "        Some(level) => put_point(",
-        "        Some(_) if spot.count > 0 => Ok(()),\n        Some(level) => put_point(",
-    ),
     "no_rule_is_clear": (
         "src/cells.rt",
-        '        return Ok("-");',
-        '        return Ok("clear");',
+        "        return Ok(\"-\");",
+        "        return Ok(\"clear\");",
     ),
     "clear_is_raised": (
         "src/cells.rt",
@@ -211,27 +61,410 @@ BUGS = {
         "    text.extend_from_slice(octets)?;\n    text.extend_from_slice(after)",
         "    let _ = after;\n    text.extend_from_slice(octets)",
     ),
-    "the_engine_before_the_labels": (
-        "src/name.rt",
-        "    put_labels_if(text, labels)?;\n    put_engine(alloc, text, instance)",
-        "    put_engine(alloc, text, instance)?;\n    put_labels_if(text, labels)",
+    "an_instance_at_the_limit_is_fresh": (
+        "src/freshness.rt",
+        "        Some(age) => age < limit,",
+        "        Some(age) => age <= limit,",
     ),
-    "engine_ids_in_raw_octets": (
-        "src/name.rt",
-        '    let engine = hex::encode(alloc, instance.engine())?;\n    put_between(text, b"<small>", engine.as_bytes(),',
-        '    let _ = alloc;\n    put_between(text, b"<small>", instance.engine(),',
+    "every_instance_is_fresh": (
+        "src/freshness.rt",
+        "        Some(age) => age < limit,",
+        "        Some(_) => true,",
+    ),
+    "an_instance_without_an_age_is_stale": (
+        "src/freshness.rt",
+        "        None => true,\n        Some(age) =>",
+        "        None => false,\n        Some(age) =>",
+    ),
+    "a_stale_rate_is_kept": (
+        "src/freshness.rt",
+        "    if !is_fresh {\n        return None;\n    }\n",
+        "    let _ = is_fresh;\n",
+    ),
+    "a_fresh_rate_is_lost": (
+        "src/freshness.rt",
+        "    if !is_fresh {\n        return None;",
+        "    if is_fresh {\n        return None;",
+    ),
+    "no_instance_reaches_the_limit": (
+        "src/freshness.rt",
+        "        Some(figures) => figures.stale_after,",
+        "        Some(_) => u32::MAX,",
+    ),
+    "the_limit_is_the_interval": (
+        "src/freshness.rt",
+        "        Some(figures) => figures.stale_after,",
+        "        Some(figures) => figures.interval,",
+    ),
+    "a_stale_alarm_is_kept": (
+        "src/cells.rt",
+        "    if !is_fresh {\n        return Ok(\"stale\");\n    }\n",
+        "    let _ = is_fresh;\n",
+    ),
+    "a_stale_alarm_is_clear": (
+        "src/cells.rt",
+        "        return Ok(\"stale\");",
+        "        return Ok(\"clear\");",
+    ),
+    "name_as_it_is": (
+        "src/wrong.rt",
+        "    put_escaped(text, name.as_bytes())",
+        "    text.extend_from_slice(name.as_bytes())",
+    ),
+    "label_as_it_is": (
+        "src/table.rt",
+        "    put_escaped(text, label)?;",
+        "    text.extend_from_slice(label)?;",
+    ),
+    "labels_of_the_neighbour": (
+        "src/row.rt",
+        "        listing.labels.get(place),",
+        "        listing.labels.get(place + 1),",
+    ),
+    "labels_of_the_first": (
+        "src/row.rt",
+        "        listing.labels.get(place),",
+        "        listing.labels.first(),",
+    ),
+    "page_without_its_labels": (
+        "src/row.rt",
+        "            labels: extras.labels,",
+        "            labels: &[],",
+    ),
+    "if_name_for_if_alias": (
+        "src/table.rt",
+        "    put_label_if(text, b\"ifAlias\", row.if_alias())",
+        "    put_label_if(text, b\"ifAlias\", row.if_name())",
+    ),
+    "label_under_the_other_title": (
+        "src/table.rt",
+        "    put_label_if(text, b\"ifName\", row.if_name())",
+        "    put_label_if(text, b\"ifAlias\", row.if_name())",
     ),
     "a_label_without_its_end": (
-        "src/name.rt",
-        '    put_escaped(text, label)?;\n    text.extend_from_slice(b"</div>")',
+        "src/table.rt",
+        "    put_escaped(text, label)?;\n    text.extend_from_slice(b\"</div>\")",
         "    put_escaped(text, label)",
     ),
-    "the_table_before_the_station": (
+    "a_device_label_as_it_is": (
+        "src/words.rt",
+        "    put_escaped(text, words.as_bytes())",
+        "    text.extend_from_slice(words.as_bytes())",
+    ),
+    "an_if_name_as_it_is": (
+        "src/words.rt",
+        "        Some(name) => put_escaped(text, name.as_bytes()),",
+        "        Some(name) => text.extend_from_slice(name.as_bytes()),",
+    ),
+    "a_title_as_it_is": (
+        "src/head.rt",
+        "        Some(label) => put_escaped(text, label.as_bytes()),",
+        "        Some(label) => text.extend_from_slice(label.as_bytes()),",
+    ),
+    "address_as_it_is": (
+        "src/wrong.rt",
+        "    put_escaped(text, words.as_bytes())",
+        "    text.extend_from_slice(words.as_bytes())",
+    ),
+    "reason_as_it_is": (
+        "src/wrong.rt",
+        "    text.extend_from_slice(b\": \")?;\n    put_escaped(text, reason)",
+        "    text.extend_from_slice(b\": \")?;\n    text.extend_from_slice(reason)",
+    ),
+    "first_row_again": (
+        "src/row.rt",
+        "        &listing.entries[place],",
+        "        &listing.entries[0],",
+    ),
+    "age_of_the_first": (
+        "src/row.rt",
+        "        listing.ages.get(place).copied(),",
+        "        listing.ages.first().copied(),",
+    ),
+    "a_row_that_is_always_fresh": (
+        "src/row.rt",
+        "        let is_fresh = is_fresh(limit, age);",
+        "        let is_fresh = is_fresh(limit, None);",
+    ),
+    "the_alarm_of_a_stale_row": (
+        "src/row.rt",
+        "        let state = state_cell(alloc, entry, is_fresh)?;",
+        "        let state = state_cell(alloc, entry, true)?;",
+    ),
+    "leaves_out_the_first_row": (
+        "src/row.rt",
+        "    for place in 0..listing.entries.len() {",
+        "    for place in 1..listing.entries.len() {",
+    ),
+    "a_page_a_round_late": (
+        "src/row.rt",
+        "    let limit = limit_of(extras.station);",
+        "    let limit = limit_of(extras.station).saturating_add(1);",
+    ),
+    "the_rate_of_a_stale_row": (
+        "src/words.rt",
+        "    let rate = fresh_rate(row.entry(), row.is_fresh());",
+        "    let rate = fresh_rate(row.entry(), true);",
+    ),
+    "the_errors_of_a_stale_row": (
+        "src/table.rt",
+        "    let rate = fresh_rate(row.entry(), row.is_fresh());\n    put_fault_if",
+        "    let rate = fresh_rate(row.entry(), true);\n    put_fault_if",
+    ),
+    "oldest_value": (
+        "src/words.rt",
+        "    let Some(newest) = samples.last() else {\n        return text",
+        "    let Some(newest) = samples.first() else {\n        return text",
+    ),
+    "no_rate_is_0": (
+        "src/words.rt",
+        "        None => text.extend_from_slice(b\"-\"),\n        Some(rate) =>",
+        "        None => text.extend_from_slice(b\"0 /s\"),\n        Some(rate) =>",
+    ),
+    "an_unknown_age_is_0": (
+        "src/words.rt",
+        "        None => text.extend_from_slice(b\"-\"),\n        Some(age) =>",
+        "        None => text.extend_from_slice(b\"0\"),\n        Some(age) =>",
+    ),
+    "octets_as_bits": (
+        "src/words.rt",
+        "    8 * rate.min(1 << 124)",
+        "    rate.min(1 << 124)",
+    ),
+    "every_rate_in_bits": (
+        "src/words.rt",
+        "    matches!(column, Column::InOctets | Column::OutOctets)",
+        "    matches!(column, Column::InOctets | Column::OutOctets | Column::InErrors)",
+    ),
+    "hours_for_days": (
+        "src/words.rt",
+        "    } else if seconds < 86400 {",
+        "    } else if seconds < 864000 {",
+    ),
+    "a_second_counter_in_the_row": (
+        "src/seats.rt",
+        "        Column::InOctets => !has_in(before, index),",
+        "        Column::InOctets => true,",
+    ),
+    "others_without_interfaces": (
+        "src/seats.rt",
+        "        if !has_place(&device[..place], row) {",
+        "        if row.index().is_none() {",
+    ),
+    "an_interface_twice": (
+        "src/seats.rt",
+        "    if has_index(before, index) {",
+        "    if has_in(before, index) {",
+    ),
+    "an_interface_of_the_first": (
+        "src/seats.rt",
+        "        if row.is_at(index) {\n            found.push",
+        "        if row.is_at(index) && found.is_empty() {\n            found.push",
+    ),
+    "out_for_in": (
+        "src/table.rt",
+        "    put_octets_if(alloc, text, first_in(rows))",
+        "    put_octets_if(alloc, text, first_out(rows))",
+    ),
+    "a_part_of_twice_the_speed": (
+        "src/table.rt",
+        "    bits_of(rate) / (10 * u128::from(speed.max(1)))",
+        "    bits_of(rate) / (20 * u128::from(speed.max(1)))",
+    ),
+    "errors_of_0_are_shown": (
+        "src/table.rt",
+        "    if rate == 0 {\n        return Ok(());",
+        "    if rate == 1 {\n        return Ok(());",
+    ),
+    "clear_before_raised": (
+        "src/table.rt",
+        "    if has_state(rows, \"RAISED\") {\n        \"RAISED\"\n    } else if has_state(rows, \"clear\") {\n        \"clear\"",
+        "    if has_state(rows, \"clear\") {\n        \"clear\"\n    } else if has_state(rows, \"RAISED\") {\n        \"RAISED\"",
+    ),
+    "the_least_age": (
+        "src/table.rt",
+        "        Some(other) => Some(some.max(other)),",
+        "        Some(other) => Some(some.min(other)),",
+    ),
+    "one_device_for_all": (
+        "src/devices.rt",
+        "        Some(before) => !before.is_of(row.entry().engine()),",
+        "        Some(_) => false,",
+    ),
+    "a_device_of_one_instance": (
+        "src/devices.rt",
+        "        Some(end) => &rows[..end],",
+        "        Some(_) => &rows[..1],",
+    ),
+    "a_device_is_up_if_a_target_is": (
+        "src/devices.rt",
+        "    targets.iter().all(|target| is_fine(target, engine))",
+        "    targets.iter().any(|target| is_fine(target, engine))",
+    ),
+    "a_stale_device_is_closed": (
+        "src/devices.rt",
+        "        !self.is_up(targets) || (has_stale(self.rows) || has_alarm(self.rows))",
+        "        !self.is_up(targets) || has_alarm(self.rows)",
+    ),
+    "the_oldest_stamp": (
+        "src/devices.rt",
+        "        newest = newest.max(stamp_of(row.entry().samples()));",
+        "        newest = newest.min(stamp_of(row.entry().samples()));",
+    ),
+    "the_last_row_names_a_device": (
+        "src/devices.rt",
+        "        None => device.first(),",
+        "        None => device.last(),",
+    ),
+    "five_devices_are_few": (
+        "src/section.rt",
+        "        is_open: !(4 < count)",
+        "        is_open: !(5 < count)",
+    ),
+    "every_device_has_number_1": (
+        "src/section.rt",
+        "    let heading = heading_of(page.station, page.devices.len(), place + 1, device);",
+        "    let heading = heading_of(page.station, page.devices.len(), 1, device);",
+    ),
+    "a_link_to_the_first_device": (
+        "src/section.rt",
+        "    text.extend_from_slice(b\"\\\">\\n<h3><a href=\\\"#d\")?;\n    put_count(text, heading.number)?;",
+        "    text.extend_from_slice(b\"\\\">\\n<h3><a href=\\\"#d\")?;\n    put_count(text, 1)?;",
+    ),
+    "one_alarm_less": (
+        "src/head.rt",
+        "    Ok(alarms.len())",
+        "    Ok(alarms.len().saturating_sub(1))",
+    ),
+    "fresh_instances_are_stale": (
+        "src/head.rt",
+        "    rows.iter().filter(|row| !row.is_fresh()).count()",
+        "    rows.iter().filter(|row| row.is_fresh()).count()",
+    ),
+    "silent_peers_are_heard": (
+        "src/head.rt",
+        "    peers.iter().filter(|peer| !peer.silent).count()",
+        "    peers.iter().filter(|peer| peer.silent).count()",
+    ),
+    "all_devices_are_up": (
+        "src/head.rt",
+        "        up: count_up(targets_of(station), found.as_slice()),",
+        "        up: found.len(),",
+    ),
+    "peers_for_devices": (
+        "src/head.rt",
+        "    put_part_item(text, counts.up, counts.devices,",
+        "    put_part_item(text, counts.heard, counts.peers,",
+    ),
+    "a_good_count_is_bad": (
+        "src/head.rt",
+        "    text.extend_from_slice(count_start(count < all))?;",
+        "    text.extend_from_slice(count_start(count <= all))?;",
+    ),
+    "a_file_without_its_age": (
+        "src/head.rt",
+        "        Some(seconds) => put_file_age(text, seconds),",
+        "        Some(_) => Ok(()),",
+    ),
+    "no_round_was_in_1970": (
+        "src/head.rt",
+        "        None => Ok(()),\n        Some(seconds) => put_date",
+        "        None => put_date(text, 0),\n        Some(seconds) => put_date",
+    ),
+    "a_round_without_its_date": (
+        "src/head.rt",
+        "        Some(seconds) => put_date(text, seconds),",
+        "        Some(_) => Ok(()),",
+    ),
+    "a_round_a_second_late": (
+        "src/head.rt",
+        "HttpDate::from_unix_secs(seconds)",
+        "HttpDate::from_unix_secs(seconds.saturating_add(1))",
+    ),
+    "the_number_for_the_incarnation": (
+        "src/head.rt",
+        "    put_small(text, figures.incarnation)?;",
+        "    put_small(text, figures.station)?;",
+    ),
+    "the_incarnation_for_the_number": (
+        "src/head.rt",
+        "    text.extend_from_slice(b\"station \")?;\n    put_small(text, figures.station)\n",
+        "    text.extend_from_slice(b\"station \")?;\n    put_small(text, figures.incarnation)\n",
+    ),
+    "the_label_of_no_station": (
+        "src/head.rt",
+        "        Some(label) => put_labelled_station(text, figures, label.as_bytes()),",
+        "        Some(_) => put_station_number(text, figures),",
+    ),
+    "an_alarm_twice": (
+        "src/wrong.rt",
+        "        found.push(RaisedAlarm { row, alarm })?;",
+        "        found.push(RaisedAlarm { row, alarm })?;\n        found.push(RaisedAlarm { row, alarm })?;",
+    ),
+    "clear_alarms_are_listed": (
+        "src/wrong.rt",
+        "    if alarm.state.is_raised() {",
+        "    if !alarm.state.is_raised() {",
+    ),
+    "the_first_alarm_alone": (
+        "src/wrong.rt",
+        "        put_alarm(alloc, text, names, alarm)?;\n    }\n    Ok(())",
+        "        return put_alarm(alloc, text, names, alarm);\n    }\n    Ok(())",
+    ),
+    "a_device_that_is_down_is_not_listed": (
+        "src/wrong.rt",
+        "    if target.up {\n        return Ok(());",
+        "    if !target.up {\n        return Ok(());",
+    ),
+    "the_first_target_alone": (
+        "src/wrong.rt",
+        "        put_down(alloc, text, rows, target)?;\n    }\n    Ok(())",
+        "        return put_down(alloc, text, rows, target);\n    }\n    Ok(())",
+    ),
+    "a_heard_peer_is_silent": (
+        "src/wrong.rt",
+        "    if peer.silent {",
+        "    if !peer.silent {",
+    ),
+    "one_failed_save_is_none": (
+        "src/wrong.rt",
+        "    if failed == 0 {",
+        "    if failed <= 1 {",
+    ),
+    "rounds_for_seconds": (
+        "src/wrong.rt",
+        "    put_large(text, target.seconds)?;",
+        "    put_small(text, target.rounds)?;",
+    ),
+    "hides_why_a_response_was_refused": (
+        "src/wrong.rt",
+        "        Some(reason) => put_reason_text(text, reason.as_bytes()),",
+        "        Some(_) => Ok(()),",
+    ),
+    "nothing_is_ever_wrong": (
+        "src/wrong.rt",
+        "    if items.is_empty() {",
+        "    if !items.is_empty() {",
+    ),
+    "since_the_boots": (
+        "src/wrong.rt",
+        "    text.extend_from_slice(b\":\")?;\n    put_small(text, time)",
+        "    text.extend_from_slice(b\":\")?;\n    put_small(text, boots)",
+    ),
+    "never_loads_again": (
         "src/page.rt",
-        "    put_station_if(text, extras.station)?;\n    let listing",
-        "    let listing",
-        "    put_table(alloc, text, names, listing)?;\n    put_between",
-        "    put_table(alloc, text, names, listing)?;\n    put_station_if(text, extras.station)?;\n    put_between",
+        "        Some(seconds) => put_seconds(text, seconds),",
+        "        Some(_) => Ok(()),",
+    ),
+    "loads_again_after_the_limit_of_ages": (
+        "src/page.rt",
+        "        Some(figures) => refresh_after(figures.interval),",
+        "        Some(figures) => refresh_after(figures.stale_after),",
+    ),
+    "loads_again_at_once": (
+        "src/page.rt",
+        "    if interval == 0 {",
+        "    if interval == 1 {",
     ),
     "every_page_loads_again": (
         "src/page.rt",
@@ -240,7 +473,7 @@ BUGS = {
     ),
     "a_page_without_its_head": (
         "src/page.rt",
-        "    put_head(&mut text, refresh_of(extras.station))?;\n",
+        "    put_head_of(&mut text, extras)?;\n",
         "",
     ),
     "a_head_without_a_style": (
@@ -248,40 +481,40 @@ BUGS = {
         "    put_style(text)?;\n",
         "",
     ),
-    "leaves_out_the_first_row": (
-        "src/rows.rt",
-        "    for place in 0..listing.entries.len() {",
-        "    for place in 1..listing.entries.len() {",
+    "counts_below_the_list": (
+        "src/page.rt",
+        "    put_row_counts(alloc, text, origin.station, rows)?;\n    put_wrong(alloc, text, names, rows, origin.station)?;",
+        "    put_wrong(alloc, text, names, rows, origin.station)?;\n    put_row_counts(alloc, text, origin.station, rows)?;",
     ),
-    "counts_the_labels": (
-        "src/rows.rt",
-        "digits.format(listing.entries.len())",
-        "digits.format(listing.labels.len())",
-    ),
-    "the_age_before_the_alarm": (
-        "src/rows.rt",
-        "    put_class_cell(\n        text,\n        state_cell(alloc, row.instance, row.is_fresh)?.as_bytes(),\n    )?;\n    put_age(text, row.age)",
-        "    put_age(text, row.age)?;\n    put_class_cell(\n        text,\n        state_cell(alloc, row.instance, row.is_fresh)?.as_bytes(),\n    )",
-    ),
-    "no_rate_is_0": (
-        "src/rows.rt",
-        '        None => put_cell(text, b"-"),\n        Some(rate) =>',
-        '        None => put_cell(text, b"0/s"),\n        Some(rate) =>',
-    ),
-    "a_rate_without_its_unit": (
-        "src/rows.rt",
-        '    octets.extend_from_slice(b"/s")?;\n',
+    "a_page_behind_what_the_buffer_had": (
+        "src/page.rt",
+        "    text.clear();\n",
         "",
     ),
-    "an_unknown_age_is_0": (
-        "src/rows.rt",
-        '        None => put_cell(text, b"-"),\n        Some(age) =>',
-        '        None => put_cell(text, b"0"),\n        Some(age) =>',
+    "gives_the_buffer_back": (
+        "src/page.rt",
+        "    put_body(alloc, &mut text, names, entries, extras)?;\n    Ok(text)",
+        "    put_body(alloc, &mut text, names, entries, extras)?;\n    text.clear();\n    Ok(text)",
     ),
-    "plots_without_rules": (
-        "src/rows.rt",
-        "    put_plot(text, entry.samples(), rules.as_slice())",
-        "    let _ = rules;\n    put_plot(text, entry.samples(), &[])",
+    "no_style_for_narrow_windows": (
+        "src/style.rt",
+        "    text.extend_from_slice(plots())?;\n    text.extend_from_slice(narrow())",
+        "    text.extend_from_slice(plots())",
+    ),
+    "plots_counters_values": (
+        "src/plot.rt",
+        "    if !is_counter(sample.kind()) {\n        return Some",
+        "    if is_counter(sample.kind()) || before.is_none() {\n        return Some",
+    ),
+    "scale_without_thresholds": (
+        "src/plot.rt",
+        "        scale = with_rule(counted, scale, rule);",
+        "        let _ = with_rule(counted, scale, rule);",
+    ),
+    "one_threshold": (
+        "src/plot.rt",
+        "    put_limit(text, scale, limit_level(counted, rule.falling()))",
+        "    put_limit(text, scale, limit_level(counted, rule.rising()))",
     ),
     "values_below_0_are_high": (
         "src/plot.rt",
@@ -298,26 +531,6 @@ BUGS = {
         "            low: scale.low.min(level),",
         "            low: scale.low,",
     ),
-    "a_scale_of_the_last_level": (
-        "src/plot.rt",
-        "        scale = widened(scale, level(before_at(samples, place), &samples[place]));",
-        "        scale = widened(Scale { low: u128::MAX, high: 0 }, level(before_at(samples, place), &samples[place]));",
-    ),
-    "plots_from_the_right": (
-        "src/plot.rt",
-        "    1000 - (behind * 1000 / newest.max(1)).min(1000)",
-        "    (behind * 1000 / newest.max(1)).min(1000)",
-    ),
-    "the_newest_point_before_the_edge": (
-        "src/plot.rt",
-        "    let newest = (count as u128).saturating_sub(1);",
-        "    let newest = count as u128;",
-    ),
-    "only_dots": (
-        "src/plot.rt",
-        "    if joined {\n        put_line(text, x, y)\n    } else {\n        put_dot(text, x, y)\n    }",
-        "    let _ = joined;\n    put_dot(text, x, y)",
-    ),
     "a_threshold_in_thousandths_of_a_value": (
         "src/plot.rt",
         "i128::from(threshold / 1000)",
@@ -333,61 +546,71 @@ BUGS = {
         "        put_rule(text, counted, scale, rule)?;\n    }\n    Ok(())",
         "        return put_rule(text, counted, scale, rule);\n    }\n    Ok(())",
     ),
-    "says_the_first_target_alone": (
-        "src/station.rt",
-        "        put_target(text, target)?;\n    }\n    Ok(())",
-        "        return put_target(text, target);\n    }\n    Ok(())",
+    "joins_over_boots": (
+        "src/plot.rt",
+        "    before.boots() == sample.boots()\n        && (before",
+        "    sample.boots() == sample.boots()\n        && (before",
     ),
-    "debts_before_targets": (
-        "src/station.rt",
-        "    put_targets(text, figures.targets.as_slice())?;\n    put_debts(text, figures.debts.as_slice())?;",
-        "    put_debts(text, figures.debts.as_slice())?;\n    put_targets(text, figures.targets.as_slice())?;",
+    "joins_over_discontinuities": (
+        "src/plot.rt",
+        "before.discontinuity() == sample.discontinuity()",
+        "sample.discontinuity() == sample.discontinuity()",
     ),
-    "hides_why_a_response_was_refused": (
-        "src/station.rt",
-        "        Some(reason) => put_reason_text(text, reason.as_bytes()),",
-        "        Some(_) => Ok(()),",
+    "joins_over_missed_rounds": (
+        "src/plot.rt",
+        "            && !is_missed(frame, seconds_after(before, sample)))",
+        "            && !is_missed(frame, 0))",
     ),
-    "the_class_of_a_target_is_up": (
-        "src/station.rt",
-        '    put_between(text, b"<li class=\\"", state_word(target.up), b"\\">target ")?;',
-        '    put_between(text, b"<li class=\\"", state_word(true), b"\\">target ")?;',
+    "always_joined": (
+        "src/plot.rt",
+        "    if joins(frame, before, sample) {\n        spot",
+        "    if joins(frame, before, sample) || spot.is_some() {\n        spot",
     ),
-    "no_style_for_narrow_windows": (
-        "src/style.rt",
-        "    text.extend_from_slice(narrow())?;\n",
-        "",
+    "plots_upside_down": (
+        "src/plot.rt",
+        "    40 - (above * 40 / span).min(40)",
+        "    (above * 40 / span).min(40)",
     ),
-    "a_page_behind_what_the_buffer_had": ("src/page.rt", "    text.clear();\n", ""),
-    "gives_the_buffer_back": ("src/page.rt", "    put_body(alloc, &mut text, names, entries, extras)?;\n    Ok(text)", "    put_body(alloc, &mut text, names, entries, extras)?;\n    text.clear();\n    Ok(text)"),
-    "a_page_in_a_buffer_without_its_head": ("src/page.rt", "    text.clear();\n    put_head(&mut text, refresh_of(extras.station))?;\n", "    if text.is_empty() {\n        put_head(&mut text, refresh_of(extras.station))?;\n    }\n    text.clear();\n"),
-    # Stale instances, and which station it is.
-    "an_instance_at_the_limit_is_fresh": ("src/freshness.rt", "        Some(age) => age < limit,", "        Some(age) => age <= limit,"),
-    "every_instance_is_fresh": ("src/freshness.rt", "        Some(age) => age < limit,", "        Some(_) => true,"),
-    "an_instance_without_an_age_is_stale": ("src/freshness.rt", "        None => true,\n        Some(age) =>", "        None => false,\n        Some(age) =>"),
-    "a_stale_rate_is_kept": ("src/freshness.rt", "    if !is_fresh {\n        return None;\n    }\n", "    let _ = is_fresh;\n"),
-    "a_fresh_rate_is_lost": ("src/freshness.rt", "    if !is_fresh {\n        return None;", "    if is_fresh {\n        return None;"),
-    "no_instance_reaches_the_limit": ("src/freshness.rt", "        Some(figures) => figures.stale_after,", "        Some(_) => u32::MAX,"),
-    "the_limit_is_the_interval": ("src/freshness.rt", "        Some(figures) => figures.stale_after,", "        Some(figures) => figures.interval,"),
-    "a_stale_alarm_is_kept": ("src/cells.rt", '    if !is_fresh {\n        return Ok("stale");\n    }\n', "    let _ = is_fresh;\n"),
-    "a_stale_alarm_is_clear": ("src/cells.rt", '        return Ok("stale");', '        return Ok("clear");'),
-    "fresh_by_the_first_age": ("src/rows.rt", "is_fresh: is_fresh(self.limit, age),", "is_fresh: is_fresh(self.limit, self.ages.first().copied()),"),
-    "a_row_that_is_always_fresh": ("src/rows.rt", "is_fresh: is_fresh(self.limit, age),", "is_fresh: true,"),
-    "a_stale_value_is_lost": (
-        "src/rows.rt",
-        "    put_value(text, row.instance.samples())?;",
-        "    put_value(text, if row.is_fresh { row.instance.samples() } else { &[] })?;",
+    "plots_from_the_right": (
+        "src/plot.rt",
+        "    240 - (behind * 240 / u128::from(span.max(1))).min(240)",
+        "    (behind * 240 / u128::from(span.max(1))).min(240)",
     ),
-    "a_stale_age_is_lost": ("src/rows.rt", "    put_age(text, row.age)", "    put_age(text, if row.is_fresh { row.age } else { None })"),
-    "the_rate_of_a_stale_row": ("src/rows.rt", "fresh_rate(row.instance, row.is_fresh)", "fresh_rate(row.instance, true)"),
-    "the_alarm_of_a_stale_row": ("src/rows.rt", "state_cell(alloc, row.instance, row.is_fresh)", "state_cell(alloc, row.instance, true)"),
-    "a_page_a_round_late": ("src/page.rt", "        limit: limit_of(extras.station),", "        limit: limit_of(extras.station).saturating_add(1),"),
-    "no_round_was_in_1970": ("src/station.rt", "        None => Ok(()),\n        Some(seconds) =>", "        None => put_date(text, 0),\n        Some(seconds) =>"),
-    "a_round_without_its_date": ("src/station.rt", "        Some(seconds) => put_date(text, seconds),", "        Some(_) => Ok(()),"),
-    "a_round_a_second_late": ("src/station.rt", "HttpDate::from_unix_secs(seconds)", "HttpDate::from_unix_secs(seconds.saturating_add(1))"),
-    "the_incarnation_for_the_number": ("src/station.rt", "digits.format(figures.station)", "digits.format(figures.incarnation)"),
-    "the_number_for_the_incarnation": ("src/station.rt", "digits.format(figures.incarnation)", "digits.format(figures.station)"),
-    "a_page_without_the_stations_line": ("src/station.rt", "    put_line(text, figures)?;\n", ""),
+    "points_a_unit_to_the_left": (
+        "src/plot.rt",
+        "    240 - (behind * 240 / u128::from(span.max(1))).min(240)",
+        "    239 - (behind * 240 / u128::from(span.max(1))).min(239)",
+    ),
+    "evenly_spaced_points": (
+        "src/plot.rt",
+        "        sample.time().saturating_sub(before.time())",
+        "        1",
+    ),
+    "only_dots": (
+        "src/plot.rt",
+        "        Some(start) => put_line(text, start, spot),",
+        "        Some(_) => put_dot(text, spot),",
+    ),
+    "a_counter_from_its_least_rate": (
+        "src/plot.rt",
+        "        low: if counted { 0 } else { u128::MAX },",
+        "        low: if counted { u128::MAX } else { u128::MAX },",
+    ),
+    "lines_only_go_down": (
+        "src/plot.rt",
+        "        text.extend_from_slice(b\"-\")?;\n        put_wide(text, y - down)",
+        "        text.extend_from_slice(b\" \")?;\n        put_wide(text, y - down)",
+    ),
+    "plots_without_rules": (
+        "src/plot.rt",
+        "            rules: rules.as_slice(),",
+        "            rules: if rules.is_empty() { rules.as_slice() } else { &[] },",
+    ),
+    "the_falling_threshold_beside_a_plot": (
+        "src/plot.rt",
+        "        limit_level(counted, rule.rising()),\n    )",
+        "        limit_level(counted, rule.falling()),\n    )",
+    ),
 }
 
 PROMISES = {
@@ -395,6 +618,8 @@ PROMISES = {
     "a_stale_rate_is_kept": "freshness::fresh_rate",
     "a_stale_alarm_is_kept": "cells::state_cell",
     "leaves_less_than": "escape::put_octet",
-    "name_as_it_is": "name::put_shown",
-    "label_as_it_is": "name::put_label",
+    "name_as_it_is": "wrong::put_shown",
+    "label_as_it_is": "table::put_label",
+    "an_alarm_twice": "wrong::push_if_raised",
+    "a_device_that_is_down_is_not_listed": "wrong::put_down",
 }

@@ -426,6 +426,41 @@ BUGS = {
         "        Value::Integer(number) => match u32::try_from(*number) {\n            Ok(number) => Some(number),\n            Err(_) => None,\n        },",
         "        Value::Integer(number) => Some(number.unsigned_abs()),",
     ),
+    "names_statuses_from_one": (
+        "src/status.rt",
+        "NAMES.get(number).copied()",
+        "NAMES.get(number.saturating_sub(1)).copied()",
+    ),
+    "has_no_inconsistent_name": (
+        "src/status.rt",
+        '    "inconsistentName",',
+        '    "inconsistentValue",',
+    ),
+    "names_no_status": (
+        "src/fault.rt",
+        "            ResponseFault::AgentError(status, index) => match status_name(status) {",
+        "            ResponseFault::AgentError(status, index) => match status_name(-1) {",
+    ),
+    "names_the_status_of_the_index": (
+        "src/fault.rt",
+        "            ResponseFault::AgentError(status, index) => match status_name(status) {",
+        "            ResponseFault::AgentError(status, index) => match status_name(index) {",
+    ),
+    "a_stray_is_from_another_address": (
+        "src/fault.rt",
+        'ResponseFault::Stray => f.write_str("no open poll has its request-id"),',
+        'ResponseFault::Stray => f.write_str("it came from another address"),',
+    ),
+    "asks_for_no_name": (
+        "src/asking.rt",
+        "    names_of(alloc, bindings.as_slice())\n",
+        "    names_of(alloc, &[])\n",
+    ),
+    "asks_for_the_first_name_again": (
+        "src/asking.rt",
+        "        names.push(binding.name.try_clone(alloc)?)?;\n    }\n    Ok(names)\n",
+        "        names.push(bindings[0].name.try_clone(alloc)?)?;\n    }\n    Ok(names)\n",
+    ),
 }
 
 # Those that break a promise as a whole, each with its function: tests/bodies tries them in the gate.

@@ -163,12 +163,12 @@ BUGS = {
     ),
     "prints_settings_before_labels_are_written": (
         "src/settings.rt",
-        "    write_labels(alloc, host, ground, old)?;\n    print_drafted(alloc, host, &drafted)\n",
-        "    print_drafted(alloc, host, &drafted)?;\n    write_labels(alloc, host, ground, old)\n",
+        "    write_labels(alloc, host, ground, old)?;\n    print_drafted(alloc, host, drafted)\n",
+        "    print_drafted(alloc, host, drafted)?;\n    write_labels(alloc, host, ground, old)\n",
     ),
     "prints_the_old_labels": (
         "src/settings.rt",
-        "    write_labels(alloc, host, ground, old)?;\n    print_drafted(alloc, host, &drafted)\n",
+        "    write_labels(alloc, host, ground, old)?;\n    print_drafted(alloc, host, drafted)\n",
         "    write_labels(alloc, host, ground, old)?;\n    print_noted(alloc, host, old.as_bytes(), \"these settings\", drafted.longest)\n",
     ),
     "swallows_a_fault_of_labels": (
@@ -198,8 +198,8 @@ BUGS = {
     ),
     "prints_in_place_of_splitting": (
         "src/settings.rt",
-        "        Some(folder) => write_parts(alloc, host, ground, folder),",
-        "        Some(_) => print_whole(alloc, host, ground),",
+        "        Some(folder) => write_parts(alloc, host, net, ground, folder),",
+        "        Some(_) => print_whole(alloc, host, net, ground),",
     ),
     "takes_labels_from_another_file": (
         "src/labelling.rt",
@@ -263,13 +263,18 @@ BUGS = {
     ),
     "says_no_count": (
         "src/asking.rt",
-        "        Some(number) if number as usize != count => {",
-        "        Some(number) if number as usize > count + 1 => {",
+        "        Some(number) if number as usize != count => note_count",
+        "        Some(number) if number as usize > count + 1 => note_count",
     ),
     "says_each_count": (
         "src/asking.rt",
-        "        Some(number) if number as usize != count => {",
-        "        Some(number) if number as usize != count + 1 => {",
+        "        Some(number) if number as usize != count => note_count",
+        "        Some(number) if number as usize != count + 1 => note_count",
+    ),
+    "says_a_count_of_interfaces_as_ifnumber": (
+        "src/asking.rt",
+        "{agent}: ifNumber is {number}, and ifTable has {count}{interfaces}",
+        "{agent}: ifNumber is {count}, and ifTable has {count}{interfaces}",
     ),
     "reads_the_file_before_the_arguments": (
         "src/settings.rt",
@@ -348,8 +353,8 @@ BUGS = {
     ),
     "asks_in_the_address": (
         "src/asking.rt",
-        '        community: asked.community,\n',
-        '        community: asked.agent.word.as_bytes(),\n',
+        "    match exchange(alloc, asker, asked.community, asking, names) {",
+        "    match exchange(alloc, asker, asked.agent.word.as_bytes(), asking, names) {",
     ),
     "asks_for_no_names": (
         "src/asking.rt",
@@ -358,8 +363,8 @@ BUGS = {
     ),
     "no_answer_is_an_empty_one": (
         "src/asking.rt",
-        '        Err(fault) => Err(answer_failure(alloc, asked.agent.word, fault)),\n    }\n}\n\n/// The variable bindings of a reply without',
-        '        Err(_) => Ok(Vec::new(alloc)),\n    }\n}\n\n/// The variable bindings of a reply without',
+        "        Ok(bindings) => Ok(bindings.into_vec()),\n        Err(fault) => Err(answer_failure(alloc, asked.agent.word, fault)),",
+        "        Ok(bindings) => Ok(bindings.into_vec()),\n        Err(_) => Ok(Vec::new(alloc)),",
     ),
     "surveys_no_column": (
         "src/asking.rt",
@@ -470,8 +475,8 @@ BUGS = {
     ),
     "says_one_for_two": (
         "src/noting.rt",
-        "    if count == 1 {",
-        "    if count == 2 {",
+        "    if count == 1 {\n        host",
+        "    if count == 2 {\n        host",
     ),
     "counts_the_interfaces_with_a_speed": (
         "src/noting.rt",
@@ -540,13 +545,13 @@ BUGS = {
     ),
     "says_of_speeds_before_it_prints": (
         "src/settings.rt",
-        "    put_texts(alloc, host, ground)?;\n    note_speeds(host, ground);\n    Ok(())\n",
-        "    note_speeds(host, ground);\n    put_texts(alloc, host, ground)\n",
+        "    put_texts(alloc, host, net, ground)?;\n    note_speeds(host, ground);\n    Ok(())\n",
+        "    note_speeds(host, ground);\n    put_texts(alloc, host, net, ground)\n",
     ),
     "says_nothing_of_speeds_of_a_further_agent": (
         "src/settings.rt",
-        "    put_longer(alloc, host, ground, existing, old)?;\n    note_speeds(host, ground);\n",
-        "    put_longer(alloc, host, ground, existing, old)?;\n",
+        "    put_longer(alloc, host, ground, drafted, old)?;\n    note_speeds(host, ground);\n",
+        "    put_longer(alloc, host, ground, drafted, old)?;\n",
     ),
     "replaces_a_file_that_is_there": (
         "src/parts.rt",
@@ -578,10 +583,72 @@ BUGS = {
         "        Fault::App(AppFault::FileFault),\n",
         "        Fault::App(AppFault::BadText),\n",
     ),
+    "tries_no_poll": (
+        "src/trying.rt",
+        "    try_targets(alloc, &mut asker, asked, targets)\n",
+        "    try_targets(alloc, &mut asker, asked, &[])\n",
+    ),
+    "tries_the_first_target_only": (
+        "src/trying.rt",
+        "    try_targets(alloc, asker, asked, rest)\n",
+        "    try_targets(alloc, asker, asked, &[])\n",
+    ),
+    "tries_a_poll_of_no_names": (
+        "src/trying.rt",
+        "    match exchange(alloc, asker, asked.community, Asking::Get, &names) {",
+        "    match exchange(alloc, asker, asked.community, Asking::Get, &[]) {",
+    ),
+    "tries_a_poll_by_get_next": (
+        "src/trying.rt",
+        "    match exchange(alloc, asker, asked.community, Asking::Get, &names) {",
+        "    match exchange(alloc, asker, asked.community, Asking::GetNext, &names) {",
+    ),
+    "takes_an_error_status_for_an_answer": (
+        "src/trying.rt",
+        "        Err(fault) => Err(poll_failure(alloc, asked.agent.word, target, fault)),",
+        "        Err(_) => Ok(()),",
+    ),
+    "never_halves": (
+        "src/trying.rt",
+        "        Some(less) => fit(alloc, net, ground, wish, less),",
+        "        Some(_) => Err(failure),",
+    ),
+    "halves_after_any_fault": (
+        "src/trying.rt",
+        "    if !is_too_big(failure.fault) {",
+        "    if failure.is_of_memory() {",
+    ),
+    "takes_general_errors_for_too_big": (
+        "src/trying.rt",
+        "const TOO_BIG: i32 = 1;",
+        "const TOO_BIG: i32 = 5;",
+    ),
+    "prints_settings_whose_polls_were_not_tried": (
+        "src/settings.rt",
+        "    let drafted = fit(alloc, net, ground, Wish::New(None), TargetSize::Sixteen)?;",
+        "    let _ = net;\n    let drafted = settings_of(alloc, ground, None, TargetSize::Sixteen)?;",
+    ),
+    "tries_small_targets_first": (
+        "src/settings.rt",
+        "    let drafted = fit(alloc, net, ground, Wish::New(None), TargetSize::Sixteen)?;",
+        "    let drafted = fit(alloc, net, ground, Wish::New(None), TargetSize::One)?;",
+    ),
+    "blames_the_settings_for_labels": (
+        "src/failing.rt",
+        "{path}: an interface in it has this agent's engine id: name another file, or remove the agent's",
+        "{path}: a target of the settings has this agent's engine id",
+    ),
+    "says_1_objects": (
+        "src/noting.rt",
+        "    if count == 1 { one } else { many }",
+        "    if count == 0 { one } else { many }",
+    ),
 }
 
 # Those that break a promise as a whole, each with its function: tests/bodies tries them in the gate.
 PROMISES = {
+    "tries_no_poll": "trying::try_polls",
+    "never_halves": "trying::fit",
     "prints_no_settings": "settings::print_whole",
     "replaces_no_labels": "labelling::write_labels_file",
     "writes_one_text_to_all_parts": "parts::write_all",

@@ -8,18 +8,53 @@ BUGS = {
     ),
     "says_no_age": (
         "src/opening.rt",
-        "    tell_age(host, &settings.file);\n",
-        "",
+        "    let age = tell_age(host, &settings.file);\n",
+        "    let age = None;\n",
     ),
     "says_the_age_of_another_file": (
         "src/opening.rt",
-        "    tell_age(host, &settings.file);\n",
-        '    tell_age(host, "station.mon");\n',
+        "    let age = tell_age(host, &settings.file);\n",
+        '    let age = tell_age(host, "station.mon");\n',
     ),
     "says_the_age_after_the_report": (
         "src/opening.rt",
-        "    tell_age(host, &settings.file);\n    let text = printing.report(alloc, &board, None)?;\n    print(alloc, host, text.as_slice())\n",
-        "    let text = printing.report(alloc, &board, None)?;\n    let done = print(alloc, host, text.as_slice());\n    tell_age(host, &settings.file);\n    done\n",
+        "    let age = tell_age(host, &settings.file);\n    let printing = printing.with_file_age(age);\n    let text = printing.report(alloc, &board, None)?;\n    print(alloc, host, text.as_slice())\n",
+        "    let text = printing.report(alloc, &board, None)?;\n    let done = print(alloc, host, text.as_slice());\n    let _ = tell_age(host, &settings.file);\n    done\n",
+    ),
+    "an_alarm_of_no_round": (
+        "src/live.rt",
+        "        round: Some(number),",
+        "        round: None,",
+    ),
+    "raised_in_a_round_at_the_start": (
+        "src/telling.rt",
+        "        round: None,\n    };\n    tell_alarms",
+        "        round: Some(1),\n    };\n    tell_alarms",
+    ),
+    "one_of_many": (
+        "src/telling.rt",
+        "    if number == 1 { \"\" } else { \"s\" }",
+        "    if number <= 1 { \"\" } else { \"s\" }",
+    ),
+    "each_peer_is_heard": (
+        "src/figures.rt",
+        "        silent: peer.rounds >= limit,",
+        "        silent: peer.rounds > limit,",
+    ),
+    "no_peer_is_said": (
+        "src/figures.rt",
+        "        figures.push(one_peer(peer, limit))?;",
+        "        let _ = one_peer(peer, limit);",
+    ),
+    "the_last_report_is_not_fitted": (
+        "src/printing.rt",
+        "    live.reports.printing.fit_output(host);\n    print_report(alloc, host, live)",
+        "    print_report(alloc, host, live)",
+    ),
+    "the_age_is_said_and_not_printed": (
+        "src/opening.rt",
+        "    let printing = printing.with_file_age(age);\n",
+        "    let _ = age;\n",
     ),
     "ages_are_milliseconds": (
         "src/age.rt",
@@ -68,8 +103,8 @@ BUGS = {
     ),
     "looks_at_alarms_between_rounds": (
         "src/live.rt",
-        "    tell_alarm_changes(alloc, host, live, is_round(span))\n",
-        "    tell_alarm_changes(alloc, host, live, true)\n",
+        "    tell_alarm_changes(alloc, host, live, number, is_round(span))\n",
+        "    tell_alarm_changes(alloc, host, live, number, true)\n",
     ),
     "shows_alarms_that_were_not_announced": (
         "src/printing.rt",
@@ -302,8 +337,8 @@ BUGS = {
     ),
     "a_report_of_the_settings_file": (
         "src/opening.rt",
-        "    print_saved(alloc, host, &settings, &printing)",
-        "    let _ = host.read_file(words.settings);\n    print_saved(alloc, host, &settings, &printing)",
+        "    print_saved(alloc, host, &settings, printing)",
+        "    let _ = host.read_file(words.settings);\n    print_saved(alloc, host, &settings, printing)",
     ),
     "the_first_head_twice": (
         "src/opening.rt",
@@ -387,13 +422,13 @@ BUGS = {
     ),
     "an_alarm_without_a_line": (
         "src/telling.rt",
-        "        tell_line(host, &line);",
+        "        tell_line(host, alarms.round, &line);",
         "        let _ = line;",
     ),
     "no_raised_alarm_is_said": (
         "src/telling.rt",
-        "    tell_alarms(\n        alloc,\n        host,\n        &live.reports.printing,\n        board.watch(),\n        raised.as_slice(),\n    )",
-        "    let _ = (host, raised);\n    Ok(())",
+        "    tell_alarms(alloc, host, alarms, raised.as_slice())\n",
+        "    let _ = (host, alarms, raised);\n    Ok(())\n",
     ),
     "targets_for_peers": (
         "src/live.rt",
@@ -412,8 +447,8 @@ BUGS = {
     ),
     "an_alarm_without_a_colon": (
         "src/telling.rt",
-        '    host.note(format_args!("snmpmon: {line}\\n"));',
-        '    host.note(format_args!("snmpmon {line}\\n"));',
+        '        None => host.note(format_args!("snmpmon: {line}\\n")),',
+        '        None => host.note(format_args!("snmpmon {line}\\n")),',
     ),
     "checks_another_interval": (
         "src/station.rt",
@@ -542,8 +577,8 @@ BUGS = {
     ),
     "alarms_that_changed_are_not_said": (
         "src/live.rt",
-        "        changes.as_slice(),\n    )?;\n",
-        "        &[],\n    )?;\n",
+        "    tell_alarms(alloc, host, alarms, changes.as_slice())?;\n",
+        "    tell_alarms(alloc, host, alarms, &[])?;\n",
     ),
     "a_station_does_not_say_where_it_is": (
         "src/live.rt",

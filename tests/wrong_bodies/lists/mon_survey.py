@@ -82,9 +82,9 @@ BUGS = {
         "    if shown.answers.is_marked(index) && index == 0 {",
     ),
     "fills_targets_with_17": (
-        "src/drafting.rt",
-        "const MOST_OBJECTS: usize = 16;",
-        "const MOST_OBJECTS: usize = 17;",
+        "src/size.rt",
+        "            TargetSize::Sixteen => 16,",
+        "            TargetSize::Sixteen => 17,",
     ),
     "writes_texts_as_they_are": (
         "src/drafting.rt",
@@ -122,14 +122,14 @@ BUGS = {
         "    if !station.core.targets().is_empty() {",
     ),
     "adds_a_target_too_many": (
-        "src/appending.rt",
-        "    if targets > MOST_TARGETS {",
-        "    if targets > MOST_TARGETS + 1 {",
+        "src/size.rt",
+        "    if targets > MAX_TARGETS {",
+        "    if targets > MAX_TARGETS + 1 {",
     ),
     "refuses_what_is_appended": (
         "src/appending.rt",
-        "    if is_appended(alloc, wanted, old, new)? {\n        Ok(longest_round(new))",
-        "    if is_appended(alloc, wanted, old, new)? {\n        Err(SurveyFault::Misread)",
+        "        Ok(reading_of(alloc, new, added)?)\n",
+        "        let _ = added;\n        Err(SurveyFault::Misread)\n",
     ),
     "finds_no_old_targets_kept": (
         "src/kept.rt",
@@ -213,8 +213,8 @@ BUGS = {
     ),
     "reads_nothing_back": (
         "src/surveying.rt",
-        "    let longest = given!(read_back(alloc, names, wanted, text.as_str()));\n",
-        "    let _ = read_back(alloc, names, wanted, text.as_str());\n    let longest = LongestRound {\n        most: 0,\n        wait_ms: 0,\n        tries: 0,\n    };\n",
+        "    let reading = given!(read_back(alloc, names, wanted, text.as_str()));\n",
+        "    let reading = given!(read_back(alloc, names, wanted, \"\"));\n",
     ),
     "confirms_no_settings": (
         "src/surveying.rt",
@@ -223,13 +223,13 @@ BUGS = {
     ),
     "returns_another_text": (
         "src/surveying.rt",
-        "    let longest = given!(read_back(alloc, names, wanted, text.as_str()));\n    Ok(Drafted",
-        "    let longest = given!(read_back(alloc, names, wanted, text.as_str()));\n    let mut text = text;\n    text.push_str(\"#\")?;\n    Ok(Drafted",
+        "    let reading = given!(read_back(alloc, names, wanted, text.as_str()));\n    Ok(",
+        "    let reading = given!(read_back(alloc, names, wanted, text.as_str()));\n    let mut text = text;\n    text.push_str(\"#\")?;\n    Ok(",
     ),
     "refuses_what_is_read": (
         "src/surveying.rt",
-        "    if is_meant(alloc, wanted, station)? {\n        Ok(longest_round(station))",
-        "    if is_meant(alloc, wanted, station)? {\n        Err(SurveyFault::Misread)",
+        "        Ok(reading_of(alloc, station, station.core.targets())?)\n",
+        "        Err(SurveyFault::Misread)\n",
     ),
     "misreads_what_is_refused": (
         "src/surveying.rt",
@@ -293,8 +293,8 @@ BUGS = {
     ),
     "the_round_of_the_old_settings": (
         "src/appending.rt",
-        "        Ok(longest_round(new))",
-        "        Ok(longest_round(old))",
+        "        Ok(reading_of(alloc, new, added)?)\n",
+        "        Ok(reading_of(alloc, old, added)?)\n",
     ),
     "the_longest_round_answers": (
         "src/longest.rt",
@@ -323,8 +323,8 @@ BUGS = {
     ),
     "appends_what_was_not_read_back": (
         "src/appending.rt",
-        "    let longest = given!(read_appended(alloc, existing, &wanted, text.as_str()));\n",
-        "    let longest = longest_round(existing.station);\n",
+        "    let reading = given!(read_appended(alloc, existing, &wanted, text.as_str()));\n",
+        "    let reading = reading_of(alloc, existing.station, existing.station.core.targets())?;\n",
     ),
     "compares_no_old_peers": (
         "src/kept.rt",
@@ -421,10 +421,46 @@ BUGS = {
         "        .filter(|cell| lacks_speed(answers, choice, cell))\n        .count()",
         "        .filter(|cell| lacks_speed(answers, choice, cell))\n        .count()\n        .saturating_sub(1)",
     ),
+    "half_of_sixteen_is_four": (
+        "src/size.rt",
+        "            TargetSize::Sixteen => Some(TargetSize::Eight),",
+        "            TargetSize::Sixteen => Some(TargetSize::Four),",
+    ),
+    "halves_no_further_than_two": (
+        "src/size.rt",
+        "            TargetSize::Two => Some(TargetSize::One),",
+        "            TargetSize::Two => None,",
+    ),
+    "gives_no_targets": (
+        "src/longest.rt",
+        "        targets: copy_targets(alloc, targets)?,",
+        "        targets: copy_targets(alloc, &[])?,",
+    ),
+    "gives_the_old_targets_too": (
+        "src/appending.rt",
+        "        let added = after(new.core.targets(), old.core.targets().len());",
+        "        let added = after(new.core.targets(), 0);",
+    ),
+    "takes_targets_of_any_size": (
+        "src/comparing.rt",
+        "    target.objects.as_slice().len() <= size.objects()",
+        "    target.objects.as_slice().len() <= size.objects().max(16)",
+    ),
+    "drafts_any_number_of_targets": (
+        "src/surveying.rt",
+        "    given!(require_few_targets(options.size, &[], &planned));\n",
+        "",
+    ),
+    "starts_a_target_at_each_sixteenth": (
+        "src/drafting.rt",
+        "    if place % options.size.objects() == 0 {",
+        "    if place % 16 == 0 {",
+    ),
 }
 
 # what the gate tries: the function that each is in
 PROMISES = {
+    "gives_no_targets": "longest::reading_of",
     "takes_ifspeed_at_its_greatest": "answers::speed_of",
     "polls_32_bits_first": "planning::width_of",
     "polls_interfaces_that_are_down": "choice::Choice::takes",

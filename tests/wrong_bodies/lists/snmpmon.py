@@ -11,6 +11,16 @@ BUGS = {
         "if reads {",
         "if !reads {",
     ),
+    "sorts_what_is_no_table": (
+        "src/commands.rt",
+        "    if asked.lacks_columns() {\n        return refuse(host, NO_COLUMNS);\n    }\n",
+        "",
+    ),
+    "looks_at_standard_output_for_a_hint": (
+        "src/commands.rt",
+        "if host.is_at_terminal() {",
+        "if host.prints_to_terminal() {",
+    ),
     "runs_another_command": (
         "src/commands.rt",
         "Asked::Get(request) => get(alloc, host, net, request),",

@@ -80,7 +80,7 @@ fn object_and_index(name: &str) -> (&str, &str)
 }
 
 /// Returns `true` if a name begins with a digit.
-fn is_in_numbers(name: &str) -> bool
+pub(crate) fn is_in_numbers(name: &str) -> bool
     ensures { result ≡ is_in_numbers name.now }
 {
     match name.as_bytes() {
@@ -102,7 +102,7 @@ fn at_last_dot(name: &str) -> (&str, &str)
 
 /// What is before and behind the first dot.
 #[tactic(auto, unfolding(crate::specs::Prometheus::at_first_dot))]
-fn at_first_dot(name: &str) -> (&str, &str)
+pub(crate) fn at_first_dot(name: &str) -> (&str, &str)
     ensures { (result.0.now, result.1.now) ≡ at_first_dot name.now }
 {
     match name.split_once('.') {

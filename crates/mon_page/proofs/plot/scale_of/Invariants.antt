@@ -4,4 +4,4 @@ use Rattle.mon_page.proofs.plot.scale_of.Given as goal
 
 -- what is found so far, and the samples that are left, give the whole
 abbrev pub invariant-loop-place : goal.invariant-loop-place
-invariant-loop-place l = scale_from l.samples l.scale l.place (drop l.place l.samples) ≡ scale_of l.samples
+invariant-loop-place l = scale_from l.samples l.scale l.place (drop l.place l.samples) ≡ scale_of l.counted l.samples

@@ -26,3 +26,7 @@ returns-in-Err-number-clause-gives c = grind (arith, common_steps)
 pub returns-in-Err-size_or-clause-gives : goal.returns-in-Err-size_or-clause-gives
 unfolding scalars_of
 returns-in-Err-size_or-clause-gives c = grind (arith, common_steps)
+
+pub returns-in-Err-label-clause-gives : goal.returns-in-Err-label-clause-gives
+unfolding scalars_of
+returns-in-Err-label-clause-gives c = grind (arith, common_steps)

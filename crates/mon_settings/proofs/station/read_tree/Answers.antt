@@ -24,8 +24,8 @@ core_from-requires-clause-core c =
     let read = core_read find tree scalars targets instances peers rules c.in-Ok-read_scalars.ensures.station c.in-Ok-read_scalars.ensures.gives c.in-Ok-rows.ensures
     (ap instances_of_rows (sym c.as_slice.ensures.value) ∙ c.in-Ok-instances_of.ensures.gives) c.in-Ok-peers_at.ensures.others
     (ap (λ (l : List Watched). rules_at find scalars.sizes l tree) (sym c.as_slice-3.ensures.value) ∙ c.in-Ok-rules_at.ensures) in
-    subst (λ (l : List PeerRow). IsCore (core_from scalars.station c.as_slice-5.result.now l instances rules)) (sym c.as_slice-6.ensures.value)
-    (subst (λ (l : List TargetRow). IsCore (core_from scalars.station l peers instances rules)) (sym c.as_slice-5.ensures.value) read)
+    subst (λ (l : List PeerRow). IsCore (core_from scalars.station c.as_slice-6.result.now l instances rules)) (sym c.as_slice-7.ensures.value)
+    (subst (λ (l : List TargetRow). IsCore (core_from scalars.station l peers instances rules)) (sym c.as_slice-6.ensures.value) read)
 
 pub returns : goal.returns
 unfolding station_of

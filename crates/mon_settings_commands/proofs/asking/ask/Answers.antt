@@ -1,13 +1,21 @@
-use Rattle.std.proofs.Common.{rules}
 use Rattle.std.specs.Prelude.{Err, Ok}
-use Rattle.mon_settings_commands.proofs.Exchanged.{one_question}
+use Rattle.std.proofs.Common.{List}
+use Rattle.mon_settings_commands.specs.Exchange.{Exchange, IsExchange, IsQuestion}
+use Rattle.mon_settings_commands.proofs.Exchanged.{asks_so}
 use Rattle.mon_settings_commands.proofs.asking.ask.Goals as goal
 
 pub returns-in-Ok : goal.returns-in-Ok
-returns-in-Ok g c = one_question c.args.asked.agent.word.now c.args.asked.community.now c.args.asking c.args.names.now c.args.asker.now.last_id c.next_id-id.result _ (Ok c.in-Ok.message)
-    c.bindings_of.result (g.W.Wire.told c.args.asker.now.wire) (g.W.Wire.told c.send_request.new.wire) c.next_id-id.ensures.next (search rules) c.in-Ok.ensures.asked c.bindings_of.ensures
+returns-in-Ok g c =
+    let asking = c.args.asking in
+    let names = c.args.names.now in
+    asks_so c.args.asked.community.now (λ log. IsExchange asking names log (Ok c.in-Ok.bindings)) (λ log. IsQuestion c.args.asked.agent.word.now asking names log (Ok c.into_vec.result))
+    c.args.asker.now.last_id c.exchange.new.asker.last_id (g.W.Wire.told c.args.asker.now.wire) (g.W.Wire.told c.exchange.new.asker.wire)
+    (λ (es : List Exchange) is. (Ok c.in-Ok.bindings, is, c.into_vec.ensures)) c.in-Ok.ensures
 
 pub returns-in-Err : goal.returns-in-Err
-returns-in-Err g c = one_question c.args.asked.agent.word.now c.args.asked.community.now c.args.asking c.args.names.now c.args.asker.now.last_id c.next_id-id.result _ (Err c.in-Err.fault)
-    (Err c.answer_failure.result) (g.W.Wire.told c.args.asker.now.wire) (g.W.Wire.told c.send_request.new.wire) c.next_id-id.ensures.next (search rules) c.in-Err.ensures.asked
-    (c.answer_failure.ensures.fault, c.answer_failure.ensures.more)
+returns-in-Err g c =
+    let asking = c.args.asking in
+    let names = c.args.names.now in
+    asks_so c.args.asked.community.now (λ log. IsExchange asking names log (Err c.in-Err.fault)) (λ log. IsQuestion c.args.asked.agent.word.now asking names log (Err c.answer_failure.result))
+    c.args.asker.now.last_id c.exchange.new.asker.last_id (g.W.Wire.told c.args.asker.now.wire) (g.W.Wire.told c.exchange.new.asker.wire)
+    (λ (es : List Exchange) is. (Err c.in-Err.fault, is, (c.answer_failure.ensures.fault, c.answer_failure.ensures.more))) c.in-Err.ensures

@@ -23,9 +23,9 @@ returns g c =
     let names = c.in_ok-names.names in
     let survey = c.in_ok-survey.survey in
     let r = c.write_new.result in
-    then_follows (AreNames (map (λ (m : Bor (List ℕ)). m.now) words.modules.now)) (λ (names : List Definition). Then (IsAsking agents asked) (λ (survey : Survey). AreNewTexts (source words asked names survey)))
+    then_follows (AreNames (map (λ (m : Bor (List ℕ)). m.now) words.modules.now)) (λ (names : List Definition). Then (IsAsking agents asked) (λ (survey : Survey). AreNewTexts agents (source words asked names survey)))
     (Ok names) r before named end c.in_ok-names.ensures
-    (then_follows (IsAsking agents asked) (λ (survey : Survey). AreNewTexts (source words asked names survey)) (Ok survey) r named surveyed end c.in_ok-survey.ensures c.write_new.ensures)
+    (then_follows (IsAsking agents asked) (λ (survey : Survey). AreNewTexts agents (source words asked names survey)) (Ok survey) r named surveyed end c.in_ok-survey.ensures c.write_new.ensures)
 
 pub returns-in_err-survey : goal.returns-in_err-survey
 returns-in_err-survey g c =
@@ -37,6 +37,6 @@ returns-in_err-survey g c =
     let surveyed = g.H.Host.log c.ask_agent.new.host in
     let names = c.in_ok-names.names in
     let r = c.from_residual-in_err-survey.result in
-    then_follows (AreNames (map (λ (m : Bor (List ℕ)). m.now) words.modules.now)) (λ (names : List Definition). Then (IsAsking agents asked) (λ (survey : Survey). AreNewTexts (source words asked names survey)))
+    then_follows (AreNames (map (λ (m : Bor (List ℕ)). m.now) words.modules.now)) (λ (names : List Definition). Then (IsAsking agents asked) (λ (survey : Survey). AreNewTexts agents (source words asked names survey)))
     (Ok names) r before named surveyed c.in_ok-names.ensures
-    (fails (IsAsking agents asked) (λ (survey : Survey). AreNewTexts (source words asked names survey)) c.in_err-survey.field-0.0 r named surveyed c.from_residual-in_err-survey.ensures.1 c.in_err-survey.ensures)
+    (fails (IsAsking agents asked) (λ (survey : Survey). AreNewTexts agents (source words asked names survey)) c.in_err-survey.field-0.0 r named surveyed c.from_residual-in_err-survey.ensures.1 c.in_err-survey.ensures)

@@ -1,25 +1,11 @@
 use Rattle.std.specs.Prelude.{Ok}
-use Rattle.mon_host.specs.Then.{Then}
 use Rattle.mon_host.proofs.Promised.{then_follows}
-use Rattle.mon_survey.specs.declared.longest.Drafted.{Drafted}
-use Rattle.mon_settings_commands.specs.Appended.{IsAppendedOf}
 use Rattle.mon_settings_commands.specs.Settings.{AreLabels, IsDraftPrinted}
 use Rattle.mon_settings_commands.specs.Source.{source_in}
-use Rattle.mon_settings_commands.proofs.Turns.{fails_quietly, quietly_then}
 use Rattle.mon_settings_commands.proofs.settings.put_longer.Goals as goal
-
-pub returns-in_err-drafted : goal.returns-in_err-drafted
-returns-in_err-drafted g c =
-    let s = source_in c.args.ground.now in
-    fails_quietly (IsAppendedOf s c.args.existing.now) (λ (drafted : Drafted). Then (AreLabels s c.args.old.now) (λ done. IsDraftPrinted drafted)) c.in_err-drafted.field-0.0 c.from_residual.result
-    (g.H.Host.log c.args.host.now) c.from_residual.ensures.1 c.in_err-drafted.ensures
 
 pub returns : goal.returns
 returns g c =
     let s = source_in c.args.ground.now in
-    let now = g.H.Host.log c.args.host.now in
-    let labelled = g.H.Host.log c.write_labels.new.host in
-    let end = g.H.Host.log c.print_drafted.new.host in
-    let drafted = c.in_ok-drafted.drafted in
-    quietly_then (IsAppendedOf s c.args.existing.now) (λ (drafted : Drafted). Then (AreLabels s c.args.old.now) (λ done. IsDraftPrinted drafted)) drafted c.print_drafted.result now end c.in_ok-drafted.ensures
-    (then_follows (AreLabels s c.args.old.now) (λ done. IsDraftPrinted drafted) (Ok c.in_ok-write_labels.field-0) c.print_drafted.result now labelled end c.in_ok-write_labels.ensures c.print_drafted.ensures)
+    then_follows (AreLabels s c.args.old.now) (λ done. IsDraftPrinted c.args.drafted.now) (Ok c.in_ok-write_labels.field-0) c.print_drafted.result (g.H.Host.log c.args.host.now)
+    (g.H.Host.log c.write_labels.new.host) (g.H.Host.log c.print_drafted.new.host) c.in_ok-write_labels.ensures c.print_drafted.ensures

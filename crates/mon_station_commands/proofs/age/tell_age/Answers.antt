@@ -6,7 +6,7 @@ pub returns-in-Some : goal.returns-in-Some
 returns-in-Some g c =
     let told = g.H.Host.log c.changed.new.self in
     let end = g.H.Host.log c.tell_since.new.host in
-    age_said c.args.path.now c.changed.result c.in-Some.changed (g.H.Host.log c.args.host.now) told end (sym c.ok.ensures.value ∙ c.in-Some.is) c.changed.ensures
+    age_said c.args.path.now c.changed.result c.in-Some.changed c.tell_since.result (g.H.Host.log c.args.host.now) told end (sym c.ok.ensures.value ∙ c.in-Some.is) c.changed.ensures
     c.tell_since.ensures
 
 pub returns-in-None : goal.returns-in-None

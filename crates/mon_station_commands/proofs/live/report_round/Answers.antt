@@ -1,6 +1,5 @@
 use Rattle.std.proofs.Common.{◌∙◌, Bool, List, ℕ, map, subst}
 use Rattle.std.specs.List.{flat_map}
-use Rattle.mon_console.specs.Shown.{shown_by}
 use Rattle.mon_host.specs.Log.{GoesOnBy}
 use Rattle.mon_rounds.specs.Noted.{notices_of}
 use Rattle.mon_station.specs.State.{state_of}
@@ -14,7 +13,7 @@ pub returns-in_err-report-clause-account : goal.returns-in_err-report-clause-acc
 returns-in_err-report-clause-account g c =
     let live = c.args.live.now in
     let round = live.transport.rounds.round in
-    unreported (IsOfRun round.targets round.events live.run) (announced_notes (shown_by live.reports.printing.names) (state_of live.station.life).board (map (λ w. w.items) live.course.windows.items) live.course.announcer) c.args.number (is_round c.args.spell.span) live.kept.unsaved live.kept.unsaved
+    unreported (IsOfRun round.targets round.events live.run) (announced_notes live.reports.printing c.args.number (state_of live.station.life).board (map (λ w. w.items) live.course.windows.items) live.course.announcer) c.args.number (is_round c.args.spell.span) live.kept.unsaved live.kept.unsaved
     c.from_residual.result (g.H.Host.log c.args.host.now) c.from_residual.ensures.1 (λ i. live.kept.unsaved)
 
 pub returns-clause-account : goal.returns-clause-account
@@ -24,7 +23,7 @@ returns-clause-account g c =
     let is = c.in_ok-report.ensures in
     let start = g.H.Host.log c.args.host.now in
     let told = g.H.Host.log c.tell_restarts.new.host in
-    reported (IsOfRun round.targets round.events live.run) (announced_notes (shown_by live.reports.printing.names) (state_of live.station.life).board (map (λ w. w.items) live.course.windows.items) live.course.announcer) c.args.number c.in_ok-report.report c.targets.result.now (is_round c.args.spell.span)
+    reported (IsOfRun round.targets round.events live.run) (announced_notes live.reports.printing c.args.number (state_of live.station.life).board (map (λ w. w.items) live.course.windows.items) live.course.announcer) c.args.number c.in_ok-report.report c.targets.result.now (is_round c.args.spell.span)
     live.kept.unsaved c.unsaved_after-live.result c.tell_changes.new.live.kept.unsaved c.tell_changes.result start told
     (g.H.Host.log c.tell_changes.new.host)
     record { noticed = is.notices ∙ (λ i. notices_of (c.round.ensures i).targets (c.round.ensures i).events live.run.answers.items); sources = is.source; sends = is.sends }
@@ -32,5 +31,5 @@ returns-clause-account g c =
     (noted_on (round_lines c.args.number c.in_ok-report.report) (flat_map (restart_lines c.args.number) c.targets.result.now) start (g.H.Host.log c.tell_notices.new.host) told c.tell_notices.ensures c.tell_restarts.ensures)
     c.unsaved_after-live.ensures
     (subst (λ (lines : Bool → List (List ℕ)). GoesOnBy (λ log. AreChanges lines c.args.number (is_round c.args.spell.span) log c.tell_changes.result) told
-    (g.H.Host.log c.tell_changes.new.host)) (λ i. announced_notes (shown_by live.reports.printing.names) (state_of live.station.life).board (map (λ w. w.items) (c.add.ensures.windows i).items) (c.add.ensures.announcer i))
+    (g.H.Host.log c.tell_changes.new.host)) (λ i. announced_notes live.reports.printing c.args.number (state_of live.station.life).board (map (λ w. w.items) (c.add.ensures.windows i).items) (c.add.ensures.announcer i))
     c.tell_changes.ensures.said)

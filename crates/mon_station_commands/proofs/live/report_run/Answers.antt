@@ -1,6 +1,5 @@
 use Rattle.std.proofs.Common.{map, refl, subst, sym}
 use Rattle.std.specs.Prelude.{Result}
-use Rattle.mon_console.specs.Shown.{shown_by}
 use Rattle.mon_host.specs.Log.{GoesOnBy}
 use Rattle.mon_rounds.specs.declared.freshness.Spell.{Spell}
 use Rattle.mon_station.specs.declared.fault.StationFault.{StationFault}
@@ -14,7 +13,7 @@ pub returns-in-Ok-clause-account : goal.returns-in-Ok-clause-account
 returns-in-Ok-clause-account g c =
     let live = c.args.live.now in
     let round = live.transport.rounds.round in
-    subst (λ (n : Result Spell StationFault). GoesOnBy (λ log. IsAccountOf n (IsOfRun round.targets round.events live.run) (announced_notes (shown_by live.reports.printing.names) (state_of live.station.life).board (map (λ w. w.items) live.course.windows.items) live.course.announcer) c.args.number
+    subst (λ (n : Result Spell StationFault). GoesOnBy (λ log. IsAccountOf n (IsOfRun round.targets round.events live.run) (announced_notes live.reports.printing c.args.number (state_of live.station.life).board (map (λ w. w.items) live.course.windows.items) live.course.announcer) c.args.number
     live.kept.unsaved c.report_round.new.live.kept.unsaved log c.report_round.result) (g.H.Host.log c.args.host.now) (g.H.Host.log c.report_round.new.host)) (sym c.in-Ok.is)
     c.report_round.ensures.account
 
@@ -22,5 +21,5 @@ pub returns-in-Err-clause-account : goal.returns-in-Err-clause-account
 returns-in-Err-clause-account g c =
     let live = c.args.live.now in
     let round = live.transport.rounds.round in
-    unran (IsOfRun round.targets round.events live.run) (announced_notes (shown_by live.reports.printing.names) (state_of live.station.life).board (map (λ w. w.items) live.course.windows.items) live.course.announcer) c.args.number c.args.ran c.in-Err.fault live.kept.unsaved live.kept.unsaved _
+    unran (IsOfRun round.targets round.events live.run) (announced_notes live.reports.printing c.args.number (state_of live.station.life).board (map (λ w. w.items) live.course.windows.items) live.course.announcer) c.args.number c.args.ran c.in-Err.fault live.kept.unsaved live.kept.unsaved _
     (g.H.Host.log c.args.host.now) c.in-Err.is c.from.ensures refl

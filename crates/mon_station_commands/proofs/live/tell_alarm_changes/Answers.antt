@@ -1,9 +1,8 @@
 use Rattle.std.proofs.Common.{◌∙◌, List, ℕ, ap, map, subst}
-use Rattle.std.specs.Prelude.{Ok, Result}
+use Rattle.std.specs.Prelude.{Ok, Result, Some}
 use Rattle.std.specs.declared.alloc.AllocError.{AllocError}
 use Rattle.mon_alarms.specs.Announcing.{announced_of}
 use Rattle.mon_board.specs.declared.board.Board.{Board}
-use Rattle.mon_console.specs.Shown.{shown_by}
 use Rattle.mon_host.specs.Log.{GoesOnBy}
 use Rattle.mon_rounds.specs.Course.{changes_since}
 use Rattle.mon_station.specs.State.{state_of}
@@ -14,7 +13,7 @@ use Rattle.mon_station_commands.proofs.live.tell_alarm_changes.Goals as goal
 pub returns-in_err-changes-clause-said : goal.returns-in_err-changes-clause-said
 returns-in_err-changes-clause-said g c =
     let live = c.args.live.now in
-    unalarmed (announced_notes (shown_by live.reports.printing.names) (state_of live.station.life).board (map (λ w. w.items) live.course.windows.items) live.course.announcer c.args.looks)
+    unalarmed (announced_notes live.reports.printing c.args.number (state_of live.station.life).board (map (λ w. w.items) live.course.windows.items) live.course.announcer c.args.looks)
     c.from_residual.result (g.H.Host.log c.args.host.now) c.from_residual.ensures.1
 
 pub returns-in_err-tell_alarms-clause-said : goal.returns-in_err-tell_alarms-clause-said
@@ -22,27 +21,25 @@ returns-in_err-tell_alarms-clause-said g c =
     let live = c.args.live.now in
     let start = g.H.Host.log c.args.host.now in
     let end = g.H.Host.log c.tell_alarms.new.host in
-    let shown = shown_by live.reports.printing.names in
+    let printing = live.reports.printing in
     let seen = map (λ w. w.items) live.course.windows.items in
     let announcer = live.course.announcer in
     let board = (state_of live.station.life).board in
-    let watch = c.watch.ensures.watch ∙ ap (λ (b : Board). b.watch) c.board-board.ensures in
     let changes = c.as_slice.ensures.value ∙ (c.in_ok-changes.ensures.changes ∙ ap (λ (b : Board). announced_of c.args.looks (changes_since b seen) announcer) c.board-board.ensures) in
     let r = c.from_residual-in_err-tell_alarms in
-    half_alarmed (announced_notes shown board seen announcer c.args.looks) c.tell_alarms.result r.result start end r.ensures.1
-    (subst (λ (lines : List (List ℕ)). GoesOnBy (λ log. AreSaid lines log c.tell_alarms.result) start end) (λ i. map (alarm_note shown (watch i)) (changes i)) c.tell_alarms.ensures)
+    half_alarmed (announced_notes printing c.args.number board seen announcer c.args.looks) c.tell_alarms.result r.result start end r.ensures.1
+    (subst (λ (lines : List (List ℕ)). GoesOnBy (λ log. AreSaid lines log c.tell_alarms.result) start end) (λ i. map (alarm_note (Some c.args.number) printing (c.board-board.ensures i)) (changes i)) c.tell_alarms.ensures)
 
 pub returns-clause-said : goal.returns-clause-said
 returns-clause-said g c =
     let live = c.args.live.now in
     let start = g.H.Host.log c.args.host.now in
     let end = g.H.Host.log c.tell_alarms.new.host in
-    let shown = shown_by live.reports.printing.names in
+    let printing = live.reports.printing in
     let seen = map (λ w. w.items) live.course.windows.items in
     let announcer = live.course.announcer in
     let board = (state_of live.station.life).board in
-    let watch = c.watch.ensures.watch ∙ ap (λ (b : Board). b.watch) c.board-board.ensures in
     let changes = c.as_slice.ensures.value ∙ (c.in_ok-changes.ensures.changes ∙ ap (λ (b : Board). announced_of c.args.looks (changes_since b seen) announcer) c.board-board.ensures) in
-    alarmed (announced_notes shown board seen announcer c.args.looks) c.in_ok-tell_alarms.field-0 start end
+    alarmed (announced_notes printing c.args.number board seen announcer c.args.looks) c.in_ok-tell_alarms.field-0 start end
     (subst (λ (lines : List (List ℕ)). GoesOnBy (λ log. AreSaid lines log (let r : Result Unit AllocError = Ok c.in_ok-tell_alarms.field-0 in r)) start end)
-    (λ i. map (alarm_note shown (watch i)) (changes i)) c.in_ok-tell_alarms.ensures)
+    (λ i. map (alarm_note (Some c.args.number) printing (c.board-board.ensures i)) (changes i)) c.in_ok-tell_alarms.ensures)

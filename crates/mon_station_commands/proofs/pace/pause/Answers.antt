@@ -1,6 +1,5 @@
 use Rattle.std.proofs.Common.{◌∙◌, false, map, refl}
 use Rattle.std.specs.Prelude.{Ok, Err}
-use Rattle.mon_console.specs.Shown.{shown_by}
 use Rattle.mon_station.specs.State.{state_of}
 use Rattle.mon_station_commands.specs.Telling.{announced_notes}
 use Rattle.mon_station_commands.specs.Spans.{IsOfRun}
@@ -20,7 +19,7 @@ loop-preserved g c =
     let end = g.H.Host.log c.run_span.new.host in
     let after = c.run_span.new.live in
     let round = after.transport.rounds.round in
-    let shown = announced_notes (shown_by c.loop.live.reports.printing.names) (state_of after.station.life).board (map (λ w. w.items) c.loop.live.course.windows.items) c.loop.live.course.announcer in
+    let shown = announced_notes c.loop.live.reports.printing c.args.number (state_of after.station.life).board (map (λ w. w.items) c.loop.live.course.windows.items) c.loop.live.course.announcer in
     let inv = c.loop.invariant in (
       quiet_on start timed end (quiet_on start before timed inv.0 (time before timed _ c.in_ok-now.ensures))
           (span_quiet (IsOfRun round.targets round.events after.run) shown c.args.number false c.loop.live.kept after.kept (Ok c.in_ok-run_span.field-0) timed end
@@ -67,7 +66,7 @@ returns-in_err-run_span-clause-quiet g c =
     let end = g.H.Host.log c.run_span.new.host in
     let after = c.run_span.new.live in
     let round = after.transport.rounds.round in
-    let shown = announced_notes (shown_by c.loop.live.reports.printing.names) (state_of after.station.life).board (map (λ w. w.items) c.loop.live.course.windows.items) c.loop.live.course.announcer in
+    let shown = announced_notes c.loop.live.reports.printing c.args.number (state_of after.station.life).board (map (λ w. w.items) c.loop.live.course.windows.items) c.loop.live.course.announcer in
     let failure = c.in_err-run_span.field-0.0 in
     let r = c.from_residual-in_err-run_span.result in
     no_wait failure r start end (failure_is r failure c.from_residual-in_err-run_span.ensures.1)
@@ -99,7 +98,7 @@ pub returns-in_err-run_span-clause-kept : goal.returns-in_err-run_span-clause-ke
 returns-in_err-run_span-clause-kept g c =
     let after = c.run_span.new.live in
     let round = after.transport.rounds.round in
-    between_kept (IsOfRun round.targets round.events after.run) (announced_notes (shown_by c.loop.live.reports.printing.names) (state_of after.station.life).board (map (λ w. w.items) c.loop.live.course.windows.items) c.loop.live.course.announcer) c.args.number c.loop.live.kept after.kept c.run_span.result
+    between_kept (IsOfRun round.targets round.events after.run) (announced_notes c.loop.live.reports.printing c.args.number (state_of after.station.life).board (map (λ w. w.items) c.loop.live.course.windows.items) c.loop.live.course.announcer) c.args.number c.loop.live.kept after.kept c.run_span.result
     (g.H.Host.log c.now.new.host) (g.H.Host.log c.run_span.new.host) c.run_span.ensures.run ∙ c.loop.invariant.3
 
 pub returns-clause-kept : goal.returns-clause-kept

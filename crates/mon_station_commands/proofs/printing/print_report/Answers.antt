@@ -9,7 +9,7 @@ pub returns-then-is_plain-clause-report : goal.returns-then-is_plain-clause-repo
 returns-then-is_plain-clause-report g c =
     let is = c.is_plain.ensures.0 c.if-is_plain.true in
     printed _ c.put_lines.new.lines.items c.as_slice.result.now c.print.result (g.H.Host.log c.args.host.now) (g.H.Host.log c.print.new.host)
-    (plain _ c.args.live.now.reports.printing _ c.board.result.now _ c.put_lines.new.lines.items is.0 is.1 c.board.ensures c.in_ok-put_lines.ensures) c.as_slice.ensures.value
+    (plain _ c.args.live.now.reports.printing _ c.board.result.now _ c.put_lines.new.lines.items is.0 is.1 c.board.ensures (λ p. c.in_ok-put_lines.ensures p)) c.as_slice.ensures.value
     c.print.ensures
 
 pub returns-in_err-text-clause-report : goal.returns-in_err-text-clause-report

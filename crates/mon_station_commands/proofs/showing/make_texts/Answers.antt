@@ -12,7 +12,7 @@ pub returns : goal.returns
 returns g c =
     let are = c.as_slice-entries.ensures.value ∙ c.in_ok-entries.ensures
     ∙ (λ i. entries_by (c.board.ensures i) ((c.as_slice.ensures.value ∙ c.in_ok-states.ensures) i)) in
-    let of_board = λ (format : Format). ap (λ (es : List Entry). formatted format (shown_by c.args.live.now.reports.printing.names) es (Some c.in_ok-figures.figures) c.args.live.now.reports.printing.labels.items) are in
+    let of_board = λ (format : Format). ap (λ (es : List Entry). formatted format (shown_by c.args.live.now.reports.printing.names) es (Some c.in_ok-figures.figures) c.args.live.now.reports.printing.labels.items c.args.live.now.reports.printing.presentation) are in
     record {
       figures = c.in_ok-figures.figures;
       holds = c.in_ok-figures.ensures;

@@ -1,6 +1,5 @@
 use Rattle.std.proofs.Common.{◌∙◌, option_map, string_bytes, subst, true, map}
 use Rattle.std.specs.Prelude.{Result, Ok}
-use Rattle.mon_console.specs.Shown.{shown_by}
 use Rattle.mon_console.specs.declared.printing.Printing.{Printing}
 use Rattle.mon_host.specs.Log.{GoesOnBy}
 use Rattle.mon_station.specs.State.{state_of}
@@ -31,8 +30,8 @@ returns-clause-run g c =
     let last = c.write_out.new.live.kept in
     let seen = map (λ w. w.items) looked.course.windows.items in
     let board = (state_of after.station.life).board in
-    let span = subst (λ (k : Kept). GoesOnBy (λ log. IsSpan (IsOfRun round.targets round.events after.run) (announced_notes (shown_by live.reports.printing.names) board seen looked.course.announcer) c.args.number true k after.kept log) found ran) look.kept
-    (subst (λ (p : Printing). GoesOnBy (λ log. IsSpan (IsOfRun round.targets round.events after.run) (announced_notes (shown_by p.names) board seen looked.course.announcer) c.args.number true looked.kept after.kept log) found ran) (λ i. (look.reports i).printing) c.in_ok-run_span.ensures.run) in
+    let span = subst (λ (k : Kept). GoesOnBy (λ log. IsSpan (IsOfRun round.targets round.events after.run) (announced_notes live.reports.printing c.args.number board seen looked.course.announcer) c.args.number true k after.kept log) found ran) look.kept
+    (subst (λ (p : Printing). GoesOnBy (λ log. IsSpan (IsOfRun round.targets round.events after.run) (announced_notes p c.args.number board seen looked.course.announcer) c.args.number true looked.kept after.kept log) found ran) (λ i. (look.reports i).printing) c.in_ok-run_span.ensures.run) in
     round_is c.args.number live.reports.printing live.reports.paths round.targets round.events after.run live.kept after.kept last
     moment seen looked.course.announcer looked.kept.strayed (g.H.Host.log c.args.host.now) found ran end (c.run_span.ensures.printing ∙ (λ i. (look.reports i).printing)) (λ i. after.kept.round_at)
     c.write_out.ensures.kept look.looked span
@@ -52,5 +51,5 @@ returns-in_err-run_span-clause-run g c =
     round_fails c.args.number live.reports.printing live.reports.paths live.kept after.kept failure r start ran
     (failure_is r failure c.from_residual.ensures.1)
     (stopped_on failure start found ran (look_quiet c.args.number (string_bytes live.reports.paths.file) live.kept.strayed looked.kept.strayed start found c.keep_file.ensures.looked)
-    (span_stopped (IsOfRun round.targets round.events after.run) (announced_notes (shown_by looked.reports.printing.names) (state_of after.station.life).board (map (λ w. w.items) looked.course.windows.items) looked.course.announcer) c.args.number true looked.kept after.kept failure found ran
+    (span_stopped (IsOfRun round.targets round.events after.run) (announced_notes looked.reports.printing c.args.number (state_of after.station.life).board (map (λ w. w.items) looked.course.windows.items) looked.course.announcer) c.args.number true looked.kept after.kept failure found ran
     c.in_err-run_span.ensures.run))

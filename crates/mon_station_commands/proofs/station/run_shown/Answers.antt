@@ -1,6 +1,5 @@
 use Rattle.std.proofs.Common.{◌∙◌, length}
 use Rattle.std.specs.Prelude.{Ok, Err}
-use Rattle.mon_console.specs.Shown.{shown_by}
 use Rattle.mon_station.specs.State.{state_of}
 use Rattle.mon_station_commands.proofs.Joined.{run_of, seen_run, seen_unheard, seen_unopened, seen_unstarted, started}
 use Rattle.mon_station_commands.proofs.Steps.{failure_is}
@@ -31,7 +30,7 @@ returns-in_err-live g c =
     let end = g.H.Host.log c.start_station.new.host in
     seen_unstarted c.args.timing c.args.setup.reports s c.args.front.at c.in_ok-socket.field-0.place.at c.in_ok-socket.field-0.at failure r (g.H.Host.log c.args.host.now) opened end
     (failure_is r failure c.from_residual-in_err-live.ensures.1) c.in_ok-socket.ensures
-    (started (shown_by c.args.setup.reports.printing.names) s c.in_ok-socket.field-0.place.at t.number (length t.engines.items) t.peers.items (Err failure) opened end
+    (started c.args.setup.reports.printing s c.in_ok-socket.field-0.place.at t.number (length t.engines.items) t.peers.items (Err failure) opened end
     is.number is.engines is.peers c.in_err-live.ensures.opening)
 
 pub returns : goal.returns
@@ -49,7 +48,7 @@ returns g c =
     let after = c.show.new.live in
     seen_run c.args.timing reports s c.args.front.at c.in_ok-socket.field-0.place.at c.in_ok-socket.field-0.at (state_of live.station.life) c.run_rounds.result (g.H.Host.log c.args.host.now) opened begun told end
     c.in_ok-socket.ensures
-    (started (shown_by reports.printing.names) s c.in_ok-socket.field-0.place.at t.number (length t.engines.items) t.peers.items (Ok (state_of live.station.life)) opened begun
+    (started reports.printing s c.in_ok-socket.field-0.place.at t.number (length t.engines.items) t.peers.items (Ok (state_of live.station.life)) opened begun
     is.number is.engines is.peers c.in_ok-live.ensures.opening) c.tell_http.ensures
     (run_of c.args.timing reports s after.reports after.kept c.run_rounds.result told end (c.show.ensures.printing ∙ (λ i. (same i).printing))
     (c.show.ensures.paths ∙ (λ i. (same i).paths)) (c.show.ensures.kept ∙ c.in_ok-live.ensures.kept) c.run_rounds.ensures)

@@ -1,5 +1,4 @@
 use Rattle.std.proofs.Common.{◌≡◌, map, take}
-use Rattle.mon_console.specs.Shown.{shown_by}
 use Rattle.mon_host.specs.AtHost.{Noted}
 use Rattle.mon_host.specs.Log.{GoesOnBy}
 use Rattle.mon_station_commands.specs.Telling.{alarm_note}
@@ -8,5 +7,5 @@ use Rattle.mon_station_commands.proofs.telling.tell_alarms.Given as goal
 -- the lines of the alarms so far were sent
 abbrev pub invariant-loop-change : goal.invariant-loop-change
 invariant-loop-change g l =
-    GoesOnBy (λ log. log ≡ map Noted (take l.change-index (map (alarm_note (shown_by l.fn.printing.names) l.fn.watch) l.changes)))
+    GoesOnBy (λ log. log ≡ map Noted (take l.change-index (map (alarm_note l.fn.alarms.round l.fn.alarms.printing.now l.fn.alarms.board.now) l.changes)))
     (g.H.Host.log l.fn.host) (g.H.Host.log l.host)

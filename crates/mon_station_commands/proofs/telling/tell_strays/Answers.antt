@@ -1,8 +1,8 @@
-use Rattle.std.proofs.Common.{codes, decimal, subst, sym}
+use Rattle.std.proofs.Common.{◌∙◌, ◌++◌, List, ℕ, ap, codes, decimal, subst, sym}
 use Rattle.std.specs.Prelude.{Option}
 use Rattle.mon_host.specs.Log.{GoesOnBy}
-use Rattle.mon_station_commands.specs.Telling.{AreNoted, stray_lines}
-use Rattle.mon_station_commands.proofs.Notes.{line_noted, seven_pieces}
+use Rattle.mon_station_commands.specs.Telling.{AreNoted, plural, stray_lines}
+use Rattle.mon_station_commands.proofs.Notes.{line_noted, nine_pieces}
 use Rattle.mon_station_commands.proofs.telling.tell_strays.Goals as goal
 use Rattle.mon_udp.specs.Addr.{addr_text}
 use Rattle.mon_udp.specs.declared.addr.Addr.{Addr}
@@ -13,5 +13,7 @@ returns-in-Some g c =
     let end = g.H.Host.log c.note.new.self in
     subst (λ (last : Option Addr). GoesOnBy (AreNoted (stray_lines c.args.round c.args.count last)) start end) (sym c.in-Some.is)
     (line_noted _ _ start end
-    (seven_pieces (codes "snmpmon: round ") (decimal c.args.round) (codes ": ") (decimal c.args.count)
-    (codes " responses came from addresses of no target, the last from ") (addr_text c.in-Some.from) (codes "\n")) c.note.ensures)
+    (nine_pieces (codes "snmpmon: round ") (decimal c.args.round) (codes ": ") (decimal c.args.count) (codes " response") c.plural-end.result.now
+    (codes " came from addresses of no target, the last from ") (addr_text c.in-Some.from) (codes "\n")
+    ∙ ap (λ (s : List ℕ). codes "snmpmon: round " ++ decimal c.args.round ++ codes ": " ++ decimal c.args.count ++ codes " response" ++ s
+    ++ codes " came from addresses of no target, the last from " ++ addr_text c.in-Some.from ++ codes "\n") (c.plural-end.ensures ∙ ap plural c.from.ensures)) c.note.ensures)

@@ -6,7 +6,7 @@ use Rattle.mon_survey.proofs.surveying.read_back.Goals as goal
 pub returns-in-Ok-clause-gives : goal.returns-in-Ok-clause-gives
 returns-in-Ok-clause-gives c =
     let says = rw c.in-Ok.is at c.read_station.ensures.accepted in
-    IfOk-weaker c.require_meant.result _ _ (λ longest meant. (station_view c.in-Ok.station, says, meant.0, meant.1)) c.require_meant.ensures.gives
+    IfOk-weaker c.require_meant.result _ _ (λ reading meant. (station_view c.in-Ok.station, says, meant.0, meant.1, meant.2)) c.require_meant.ensures.gives
 
 pub returns-in-Ok-clause-fault : goal.returns-in-Ok-clause-fault
 returns-in-Ok-clause-fault c =

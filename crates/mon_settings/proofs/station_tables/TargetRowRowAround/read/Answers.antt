@@ -30,3 +30,7 @@ returns-in-Err-number c = grind (arith, common_steps)
 pub returns-in-Err-rows : goal.returns-in-Err-rows
 unfolding target_of
 returns-in-Err-rows c = grind (arith, common_steps)
+
+pub returns-in-Err-label : goal.returns-in-Err-label
+unfolding target_of
+returns-in-Err-label c = grind (arith, common_steps)

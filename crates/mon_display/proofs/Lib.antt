@@ -1,0 +1,3 @@
+mod Exponents
+mod Ports
+mod Rounding

@@ -1,0 +1,4 @@
+pub mod Rate
+pub mod Interface
+pub mod Visible
+pub mod Naming

@@ -1,6 +1,0 @@
-use Rattle.std.proofs.Common.{arith}
-use Rattle.std.proofs.lemmas.Grind.{common_steps}
-use Rattle.mon_formats.proofs.columns.put_row.Goals as goal
-
-pub returns : goal.returns
-returns g c = grind (arith, common_steps)

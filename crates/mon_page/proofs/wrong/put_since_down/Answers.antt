@@ -1,0 +1,13 @@
+use Rattle.mon_page.specs.Page.{since_text}
+use Rattle.mon_page.proofs.Chains.{join, written}
+use Rattle.mon_page.proofs.wrong.put_since_down.Goals as goal
+
+pub returns : goal.returns
+unfolding since_text
+returns c =
+    let start = c.args.text.now.items in
+    written c.extend_from_slice-3.result start _ _ _ _ (join start _ _ _ _ (join start _ _ _ _ (join start _ _ _ _ c.in_ok-extend_from_slice.ensures.items
+    c.in_ok-put_large.ensures)
+    c.in_ok-extend_from_slice-2.ensures.items)
+    c.in_ok-put_small.ensures)
+    c.extend_from_slice-3.ensures.items

@@ -1,0 +1,54 @@
+-- Settings whose polls the agent answers.
+use Rattle.std.specs.Prelude.{◌≡◌, ◌⊎◌, ◌<◌, true, false, List, [], ◌∷◌, Result, Ok, Err}
+use Rattle.mon_app.specs.Network.{Agents}
+use Rattle.mon_console.specs.declared.failure.Failure.{Failure}
+use Rattle.mon_survey.specs.declared.longest.Drafted.{Drafted}
+use Rattle.mon_survey.specs.declared.size.TargetSize.{TargetSize}
+use Rattle.mon_survey.specs.declared.size.TargetSize.TheVariants.{Sixteen}
+use Rattle.mon_survey.specs.Size.{sizes_from}
+use Rattle.mon_settings_commands.specs.Appended.{IsAppendedOf}
+use Rattle.mon_settings_commands.specs.Settings.{IsSettingsOf, up_of}
+use Rattle.mon_settings_commands.specs.Source.{Source}
+use Rattle.mon_settings_commands.specs.Tried.{IsTrial, is_too_big}
+use Rattle.mon_settings_commands.specs.declared.settings.Asked.{Asked}
+use Rattle.mon_settings_commands.specs.declared.trying.Wish.{Wish}
+use Rattle.mon_settings_commands.specs.declared.trying.Wish.TheVariants.{Longer, New}
+
+-- ports can be counted up so far
+abbrev pub IsWish : Wish → Type 0
+IsWish (New group) = up_of group < 65536
+IsWish (Longer existing) = Unit {0}
+
+-- new settings, or those that are there with more targets
+abbrev pub IsDraft : Source → Wish → TargetSize → Result Drafted Failure → Type 0
+IsDraft s (New group) size = IsSettingsOf s group size
+IsDraft s (Longer existing) size = IsAppendedOf s existing.now size
+
+-- settings by targets of this size were drafted, and their polls came to this when they were tried
+pub record IsDraftTried (agents : Agents) (asked : Asked) (Draft : TargetSize → Result Drafted Failure → Type 0) (size : TargetSize) (drafted : Drafted) (came : Result Unit Failure) : Type 0 where
+  pub draft : Draft size (Ok drafted)
+  pub trial : IsTrial agents asked drafted.targets.items came
+
+-- What came of settings by targets of a size, if no smaller one is tried: the agent answered each poll; or
+-- there are no such settings; or it gave a poll no answer, or one with an error status, which is tooBig
+-- only if there is no smaller size.
+abbrev pub IsLastTried : Agents → Asked → (TargetSize → Result Drafted Failure → Type 0) → TargetSize → List TargetSize → Result Drafted Failure → Type 0
+IsLastTried agents asked Draft size smaller (Ok drafted) = IsDraftTried agents asked Draft size drafted (Ok tt)
+IsLastTried agents asked Draft size smaller (Err failure) = Draft size (Err failure)
+    ⊎ ((drafted : Drafted) × IsDraftTried agents asked Draft size drafted (Err failure)
+    × ((is_too_big failure.fault ≡ false) ⊎ (smaller ≡ [])))
+
+-- the agent answered tooBig to a poll by targets of this size
+abbrev pub IsTooBigAt : Agents → Asked → (TargetSize → Result Drafted Failure → Type 0) → TargetSize → Type 0
+IsTooBigAt agents asked Draft size = (drafted : Drafted) × (failure : Failure)
+    × IsDraftTried agents asked Draft size drafted (Err failure) × (is_too_big failure.fault ≡ true)
+
+-- Settings are by targets of the first of these sizes to whose polls the agent does not answer tooBig.
+abbrev pub IsFitting : Agents → Asked → (TargetSize → Result Drafted Failure → Type 0) → List TargetSize → Result Drafted Failure → Type 0
+IsFitting agents asked Draft [] result = ⊥
+IsFitting agents asked Draft (size ∷ smaller) result = IsLastTried agents asked Draft size smaller result
+    ⊎ (IsTooBigAt agents asked Draft size × IsFitting agents asked Draft smaller result)
+
+-- the same from the largest size on, which is 16 objects
+abbrev pub AreFitting : Agents → Asked → (TargetSize → Result Drafted Failure → Type 0) → Result Drafted Failure → Type 0
+AreFitting agents asked Draft = IsFitting agents asked Draft (sizes_from Sixteen)

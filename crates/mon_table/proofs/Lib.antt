@@ -1,0 +1,3 @@
+mod Aligned
+mod Entries
+mod Placed

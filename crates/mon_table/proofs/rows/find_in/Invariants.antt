@@ -1,0 +1,7 @@
+use Rattle.std.proofs.Common.{◌≡◌, drop}
+use Rattle.mon_table.specs.Rows.{in_from}
+use Rattle.mon_table.proofs.rows.find_in.Given as goal
+
+-- none of those before is it
+abbrev pub invariant-loop-place : goal.invariant-loop-place
+invariant-loop-place l = in_from l.entry l.place (drop l.place l.entries) ≡ in_from l.entry 0 l.entries
