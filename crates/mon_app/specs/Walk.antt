@@ -4,6 +4,7 @@ use Rattle.std.specs.Ordering.{nat_cmp}
 use Rattle.std.specs.Cmp.Lexicographic.{slice_cmp}
 use Rattle.std.specs.declared.cmp.Ordering.TheVariants.{Less}
 use Rattle.mon_host.specs.AtHost.{AtHost, Noted, Printed, Unprinted}
+use Rattle.mon_host.specs.declared.level.Level.TheVariants as level
 use Rattle.mon_host.specs.Reason.{why}
 use Rattle.mon_host.specs.Then.{Then}
 use Rattle.mon_oid.specs.Oid.{IsPrefix}
@@ -150,7 +151,7 @@ empty_line name = codes "snmpmon: nothing is below " ++ name ++ codes "\n"
 
 -- it is said that nothing is below a name, unless memory ran out for the line
 abbrev pub IsEmptyNoted : List ℕ → List AtHost → Result Unit WalkFault → Type 0
-IsEmptyNoted name said (Ok done) = said ≡ Noted (empty_line name) ∷ []
+IsEmptyNoted name said (Ok done) = said ≡ Noted level.Info (empty_line name) ∷ []
 IsEmptyNoted name said (Err fault) = (said ≡ []) × (fault ≡ App OutOfMemory)
 
 -- what is said after a walk from a name that ended well: nothing if it printed a line

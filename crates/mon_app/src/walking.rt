@@ -13,7 +13,7 @@ use crate::printed::put_binding;
 use crate::question::{Asking, Question, Repeats};
 use crate::wire::Wire;
 use mon_ber::Value;
-use mon_host::Host;
+use mon_host::{Host, Level};
 use mon_oid::Oid;
 use mon_pdu::{Binding, Bindings};
 use mon_smi::NameTexts;
@@ -141,7 +141,10 @@ fn note_empty<S: NameTexts, H: Host>(
     ensures fault { IfErr result IsOfLines }
 {
     let name = names.text(alloc, start)?;
-    host.note(format_args!("snmpmon: nothing is below {name}\n"));
+    host.note(
+        Level::Info,
+        format_args!("snmpmon: nothing is below {name}\n"),
+    );
     Ok(())
 }
 

@@ -150,6 +150,7 @@ IsStation rows w = IsSettings rows w.settings
     × IsTiming rows w.timing
     × IsNumberOr 32 3 (one_of (codes "stale-after") rows) w.stale_after
     × IsNumberOr 32 1 (one_of (codes "alarm-after") rows) w.alarm_after
+    × (w.log_levels ≡ is_on (codes "log-levels") rows)
     × (option_map (λ o. o.now) w.out ≡ first_of (codes "out") rows)
     × (option_map (λ o. o.now) w.http ≡ first_of (codes "http") rows)
     × (texts w.http_hosts.now ≡ all_in (codes "http-host") rows)

@@ -116,6 +116,7 @@ arguments commands.Station = settings
     ∷ option (codes "report-every") (up_to 1 1000000)
     ∷ option (codes "stale-after") (up_to 1 1000000)
     ∷ option (codes "alarm-after") (up_to 1 1000000)
+    ∷ flag (codes "log-levels")
     ∷ option (codes "out") Text
     ∷ option (codes "http") Text
     ∷ repeated (codes "http-host")

@@ -388,6 +388,16 @@ between, 1 to 1000000; each change at once if not
 given",
 };
 
+const LOG_LEVELS: Line = Line {
+    id: "log-levels",
+    form: Form::Long,
+    takes: Takes::Nothing,
+    needed: false,
+    shown: "",
+    help: "Puts <3> to <6> before each line on standard error,
+for systemd's journal",
+};
+
 const OUT: Line = Line {
     id: "out",
     form: Form::Long,
@@ -630,7 +640,7 @@ static ANSWER: [Line; 7] = [AGENT_SETTINGS, BOOTS, AT, FUSES, TIMES, MODULE, NAM
 
 static MIB: [Line; 2] = [FILE, MODULE];
 
-static STATION: [Line; 17] = [
+static STATION: [Line; 18] = [
     SETTINGS,
     ROUNDS,
     CHECK,
@@ -639,6 +649,7 @@ static STATION: [Line; 17] = [
     REPORT_EVERY,
     STALE_AFTER,
     ALARM_AFTER,
+    LOG_LEVELS,
     OUT,
     HTTP,
     HTTP_HOST,

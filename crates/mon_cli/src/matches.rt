@@ -234,6 +234,7 @@ fn station<'m, 'a>(matches: &'m ArgMatches<'a>) -> StationArgs<'m, 'a>
         timing: timing(matches),
         stale_after: number_or(matches, "stale-after", USUAL_ROUNDS),
         alarm_after: number_or(matches, "alarm-after", 1),
+        log_levels: is_on(matches, "log-levels"),
         out: find_value(matches, "out"),
         http: find_value(matches, "http"),
         http_hosts: all(matches, "http-host"),

@@ -180,6 +180,8 @@ pub struct StationArgs<'m, 'a> {
     /// At the ends of how many rounds a change of an alarm must have held before it is announced;
     /// with 1 each change is announced at once.
     pub alarm_after: u32,
+    /// `true` if each line on standard error has its level before it.
+    pub log_levels: bool,
     /// The file that each round's report is written to.
     pub out: Option<&'a str>,
     /// The address at which its report is served over HTTP.

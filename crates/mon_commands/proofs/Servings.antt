@@ -18,6 +18,7 @@ use Rattle.mon_faults.specs.declared.fault.Fault.{Fault}
 use Rattle.mon_faults.specs.declared.fault.Fault.TheVariants.{App}
 use Rattle.mon_host.proofs.Promised.{goes_on, stays, weaker}
 use Rattle.mon_host.specs.AtHost.{AtHost, Noted}
+use Rattle.mon_host.specs.declared.level.Level.TheVariants as level
 use Rattle.mon_host.specs.Log.{GoesOnBy}
 
 -- what a port states, and what a host states
@@ -37,12 +38,12 @@ pub moved : {P S : Type 0} → (Holds : P → S → Type 0) (policy other : P) (
 moved Holds policy other settings others same alike holds = subst (λ s. Holds other s) alike (subst (λ p. Holds p settings) same holds)
 
 -- a failure that says that memory ran out is told in one line
-pub told_of_memory : (failure : Failure) (done more : Done) → IsMemory failure → GoesOnBy (IsTold failure) done more
+pub told_of_memory : (failure : Failure) (done more : Done) → IsMemory failure → GoesOnBy (IsTold level.Warning failure) done more
     → GoesOnBy (λ log. log ≡ untaken_lines Untaken) done more
 told_of_memory failure done more memory told =
-    weaker (IsTold failure) (λ log. log ≡ untaken_lines Untaken) done more (λ log is.
-    let none : is.rest ≡ [] = subst (λ (f : Fault). IsToldMore (is_memory f) (option_map string_bytes failure.more) is.rest) memory.0 is.more in
-    is.log_is ∙ (ap (λ (f : Fault). Noted (first_line f) ∷ is.rest) memory.0 ∙ ap (λ (l : List AtHost). Noted (first_line (App faults.OutOfMemory)) ∷ l) none)) told
+    weaker (IsTold level.Warning failure) (λ log. log ≡ untaken_lines Untaken) done more (λ log is.
+    let none : is.rest ≡ [] = subst (λ (f : Fault). IsToldMore level.Warning (is_memory f) (option_map string_bytes failure.more) is.rest) memory.0 is.more in
+    is.log_is ∙ (ap (λ (f : Fault). Noted level.Warning (first_line f) ∷ is.rest) memory.0 ∙ ap (λ (l : List AtHost). Noted level.Warning (first_line (App faults.OutOfMemory)) ∷ l) none)) told
 
 module _ {S : Type 0} (Answers : S → S → List ℕ → ℕ → Reply → Type 0) where
   -- the next datagram came, and what is said of it was said

@@ -18,6 +18,7 @@ use Rattle.mon_formats.specs.Formats.{formatted}
 use Rattle.mon_formats.specs.declared.format.Format.{Format}
 use Rattle.mon_formats.specs.declared.format.Format.TheVariants as format
 use Rattle.mon_host.specs.AtHost.{AtHost, Noted}
+use Rattle.mon_host.specs.declared.level.Level.TheVariants as level
 use Rattle.mon_host.specs.Then.{Quietly, Then}
 
 -- the text of the windows of what an input records, by the grammar of messages; or memory ran out
@@ -43,7 +44,7 @@ IsReported size input p (Err failure) = IsMemory failure
 -- The lines of what is refused are printed with lines of text, and else sent to standard error.
 abbrev pub AreRefused : Format → List ℕ → List AtHost → Result Unit Failure → Type 0
 AreRefused format.Text lines log result = IsPrint lines log result
-AreRefused _ lines log result = (log ≡ Noted lines ∷ []) × (result ≡ Ok tt)
+AreRefused _ lines log result = (log ≡ Noted level.Warning lines ∷ []) × (result ≡ Ok tt)
 
 -- standard input is read, the lines of what is refused come first, and the report is printed
 abbrev pub PrintsReport : ℕ → Printing → List AtHost → Result Unit Failure → Type 0

@@ -19,6 +19,7 @@ use Rattle.mon_console.specs.Failure.{IsMemory, IsPlain, IsUnopened, first_line}
 use Rattle.mon_console.specs.declared.failure.Failure.{Failure}
 use Rattle.mon_faults.specs.declared.fault.Fault.TheVariants.{App}
 use Rattle.mon_host.specs.AtHost.{AtHost, Noted}
+use Rattle.mon_host.specs.declared.level.Level.TheVariants as level
 use Rattle.mon_host.specs.Then.{Quietly, Then}
 use Rattle.mon_mib.specs.Change.{IsOf}
 use Rattle.mon_mib.specs.Sim.{Sim, held_of, indexes_of}
@@ -28,7 +29,7 @@ use Rattle.mon_udp.specs.declared.addr.Addr.{Addr}
 -- what is said of a datagram: a line if memory ran out for it
 abbrev pub untaken_lines : Served → List AtHost
 untaken_lines Answered = []
-untaken_lines Untaken = Noted (first_line (App faults.OutOfMemory)) ∷ []
+untaken_lines Untaken = Noted level.Warning (first_line (App faults.OutOfMemory)) ∷ []
 
 -- a datagram came, and what is said of it
 abbrev pub IsOneServed : {S : Type 0} → (S → S → List ℕ → ℕ → Reply → Type 0) → S → S
@@ -95,7 +96,7 @@ SimAnswers agent = AnswersIt held_of (λ s. s.failures)
 
 -- what is said of where an agent listens
 abbrev pub port_lines : SocketAddr → List AtHost
-port_lines at = Noted (codes "snmpmon: agent at " ++ socket_text at ++ 10 ∷ []) ∷ []
+port_lines at = Noted level.Info (codes "snmpmon: agent at " ++ socket_text at ++ 10 ∷ []) ∷ []
 
 -- no port could be opened at an address, which the failure says
 abbrev pub IsDeafFor : (Addr → AppFault → Type 0) → Addr → Failure → Type 0

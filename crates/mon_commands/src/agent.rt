@@ -17,7 +17,7 @@ use mon_answers::{Scene, answer_lines};
 use mon_app::{AppFault, Listens, Port, Served, serve_one};
 use mon_cli::{AgentArgs, AnswerArgs, Named};
 use mon_console::{Failure, names_of, print, read_input_text, read_text, settings_failure};
-use mon_host::Host;
+use mon_host::{Host, Level};
 use mon_mib::{Device, FuseDevice, Moment, SimDevice};
 use mon_settings::{AgentSettings, SettingsKind, read_agent};
 use mon_smi::{Labels, Names};
@@ -99,7 +99,7 @@ fn listen_at<L: Listens>(
 fn tell_port<H: Host>(host: &mut H, at: SocketAddr)
     ensures { GoesOnBy (λ log. log ≡ port_lines at) (H.log host.old) (H.log host.new) }
 {
-    host.note(format_args!("snmpmon: agent at {at}\n"));
+    host.note(Level::Info, format_args!("snmpmon: agent at {at}\n"));
 }
 
 /// Serves the agent this many datagrams, and reports each for which memory ran out.
@@ -150,7 +150,7 @@ fn tell_untaken<H: Host>(host: &mut H, served: Served)
 {
     match served {
         Served::Answered => {}
-        Served::Untaken => Failure::from(AppFault::OutOfMemory).tell(host),
+        Served::Untaken => Failure::from(AppFault::OutOfMemory).tell(host, Level::Warning),
     }
 }
 

@@ -7,7 +7,7 @@ ghost use Rattle.mon_commands.specs.Replaying.{AreRefused, IsBuiltIn, IsRecordin
 use mon_app::Recorded;
 use mon_cli::{Printed, ReplayArgs};
 use mon_console::{Failure, KnownNames, Printing, print, read_input};
-use mon_host::Host;
+use mon_host::{Host, Level};
 use std::alloc::{AllocError, Global};
 
 /// Prints the windows of the responses on standard input, or their report if asked to.
@@ -131,6 +131,6 @@ fn put_refused<H: Host>(
     if printing.is_text() {
         return print(alloc, host, refused.as_bytes());
     }
-    host.note(refused);
+    host.note(Level::Warning, refused);
     Ok(())
 }

@@ -7,6 +7,7 @@ use Rattle.mon_console.specs.Files.{IsRename, IsReplacingBy}
 use Rattle.mon_console.specs.declared.failure.Failure.{Failure}
 use Rattle.mon_faults.specs.Fault.{innermost_of}
 use Rattle.mon_host.specs.AtHost.{AtHost, IsNoted, Noted}
+use Rattle.mon_host.specs.declared.level.Level.{Level}
 use Rattle.mon_host.specs.Log.{GoesOnBy}
 use Rattle.mon_host.specs.Then.{Then}
 use Rattle.mon_host.proofs.Promised.{goes_on, then_follows, weaker}
@@ -16,18 +17,18 @@ other_number : (n : ℕ) → n ≢ 1 → (n == 1) ≡ false
 other_number n other = grind (arith, nat_tests)
 
 -- both lines of a failure
-pub told : (failure : Failure) (named : Told) (before between after : Option (List AtHost)) → named ≡ innermost_of failure.fault → named.number ≢ 1
-    → GoesOnBy (IsNoted (Some (codes "snmpmon: " ++ (told_text named ++ 10 ∷ [])))) before between
-    → GoesOnBy (IsSecond (option_map string_bytes failure.more)) between after → GoesOnBy (IsTold failure) before after
-told failure named before between after is other first second =
+pub told : (level : Level) (failure : Failure) (named : Told) (before between after : Option (List AtHost)) → named ≡ innermost_of failure.fault → named.number ≢ 1
+    → GoesOnBy (IsNoted level (Some (codes "snmpmon: " ++ (told_text named ++ 10 ∷ [])))) before between
+    → GoesOnBy (IsSecond level (option_map string_bytes failure.more)) between after → GoesOnBy (IsTold level failure) before after
+told level failure named before between after is other first second =
     let more = option_map string_bytes failure.more in
     let no_memory : is_memory failure.fault ≡ false = ap (λ (t : Told). t.number == 1) (sym is) ∙ other_number named.number other in
-    let line : first.more ≡ Noted (first_line failure.fault) ∷ [] = first.holds.2 ∙ ap (λ (o : List ℕ). Noted o ∷ []) (first.holds.1 ∙ ap (λ (t : Told). codes "snmpmon: " ++ told_text t ++ 10 ∷ []) is) in
+    let line : first.more ≡ Noted level (first_line failure.fault) ∷ [] = first.holds.2 ∙ ap (λ (o : List ℕ). Noted level o ∷ []) (first.holds.1 ∙ ap (λ (t : Told). codes "snmpmon: " ++ told_text t ++ 10 ∷ []) is) in
     record {
       more = first.more ++ second.more;
       holds = record {
         rest = second.more;
-        more = subst (λ (b : Bool). IsToldMore b more second.more) (sym no_memory) second.holds;
+        more = subst (λ (b : Bool). IsToldMore level b more second.more) (sym no_memory) second.holds;
         log_is = ap (λ (l : List AtHost). l ++ second.more) line;
       };
       on = goes_on first.more second.more before between after first.on second.on;

@@ -11,6 +11,7 @@ use Rattle.mon_console.specs.declared.failure.Failure.{Failure}
 use Rattle.mon_faults.specs.Fault.{innermost_of}
 use Rattle.mon_faults.specs.declared.fault.Fault.{Fault}
 use Rattle.mon_faults.specs.declared.fault.Fault.TheVariants.{App}
+use Rattle.mon_host.specs.declared.level.Level.{Level}
 use Rattle.mon_host.specs.AtHost.{AtHost, Noted}
 use Rattle.mon_host.specs.Reason.{Why}
 use Rattle.mon_station.specs.Fault.{told_text}
@@ -79,21 +80,21 @@ abbrev pub first_line : Fault → List ℕ
 first_line fault = codes "snmpmon: " ++ told_text (innermost_of fault) ++ 10 ∷ []
 
 -- the second line: what the failure has, or some words for its fault
-abbrev pub IsSecond : Option (List ℕ) → List AtHost → Type 0
-IsSecond (Some more) log = log ≡ Noted (more ++ 10 ∷ []) ∷ []
-IsSecond None log = (words : List ℕ) × (log ≡ Noted words ∷ [])
+abbrev pub IsSecond : Level → Option (List ℕ) → List AtHost → Type 0
+IsSecond level (Some more) log = log ≡ Noted level (more ++ 10 ∷ []) ∷ []
+IsSecond level None log = (words : List ℕ) × (log ≡ Noted level words ∷ [])
 
 -- what is said after the first line: nothing more if memory ran out
-abbrev pub IsToldMore : Bool → Option (List ℕ) → List AtHost → Type 0
-IsToldMore true more log = log ≡ []
-IsToldMore false more log = IsSecond more log
+abbrev pub IsToldMore : Level → Bool → Option (List ℕ) → List AtHost → Type 0
+IsToldMore level true more log = log ≡ []
+IsToldMore level false more log = IsSecond level more log
 
 -- whether memory ran out
 abbrev pub is_memory : Fault → Bool
 is_memory fault = (innermost_of fault).number == 1
 
--- what is said of a failure on standard error
-pub record IsTold (failure : Failure) (log : List AtHost) : Type 0 where
+-- what is said of a failure on standard error, at this level
+pub record IsTold (level : Level) (failure : Failure) (log : List AtHost) : Type 0 where
   pub rest : List AtHost
-  pub more : IsToldMore (is_memory failure.fault) (option_map string_bytes failure.more) rest
-  pub log_is : log ≡ Noted (first_line failure.fault) ∷ rest
+  pub more : IsToldMore level (is_memory failure.fault) (option_map string_bytes failure.more) rest
+  pub log_is : log ≡ Noted level (first_line failure.fault) ∷ rest

@@ -13,7 +13,7 @@ ghost use Rattle.mon_host.specs.Reason.{why};
 
 use mon_app::{AppFault, SocketReason};
 use mon_faults::{Fault, StationFault};
-use mon_host::{Host, Reason};
+use mon_host::{Host, Level, Reason};
 use mon_mib::DeviceFault;
 use mon_smi::NamesFault;
 use std::alloc::{AllocError, AllocFailed, Global};
@@ -135,27 +135,27 @@ impl Failure {
     }
 
     /// Sends the fault's line to standard error, and a second one that says what was wrong and
-    /// where. If memory ran out, the first line says all.
-    pub fn tell<H: Host>(&self, host: &mut H)
-        ensures { GoesOnBy (IsTold self.now) (H.log host.old) (H.log host.new) }
+    /// where, both of this level. If memory ran out, the first line says all.
+    pub fn tell<H: Host>(&self, host: &mut H, level: Level)
+        ensures { GoesOnBy (IsTold level self.now) (H.log host.old) (H.log host.new) }
     {
         let innermost = self.fault.innermost();
-        host.note(format_args!("snmpmon: {innermost}\n"));
+        host.note(level, format_args!("snmpmon: {innermost}\n"));
         if innermost.number != OUT_OF_MEMORY {
-            self.tell_more(host);
+            self.tell_more(host, level);
         }
     }
 
     /// Sends the second line to standard error.
-    fn tell_more<H: Host>(&self, host: &mut H)
-        ensures { GoesOnBy (IsSecond (option_map string_bytes self.now.more))
+    fn tell_more<H: Host>(&self, host: &mut H, level: Level)
+        ensures { GoesOnBy (IsSecond level (option_map string_bytes self.now.more))
             (H.log host.old) (H.log host.new) }
     {
         match &self.more {
-            Some(more) => host.note(format_args!("{more}\n")),
+            Some(more) => host.note(level, format_args!("{more}\n")),
             None => {
                 let fault = self.fault;
-                host.note(format_args!("{fault}\n"));
+                host.note(level, format_args!("{fault}\n"));
             }
         }
     }

@@ -81,7 +81,7 @@ number_text (negsuc n) = codes "-" ++ thousandths_text (suc n)
 abbrev pub is_octets : Column → Bool
 is_octets InOctets = true
 is_octets OutOctets = true
-is_octets other = false
+is_octets _ = false
 
 -- How values of a column are shown, by the kind of a sample: those of octets' counters in bits, and of others' as rates. Without a
 -- sample the column decides.

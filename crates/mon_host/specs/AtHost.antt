@@ -5,6 +5,7 @@ use Rattle.std.specs.declared.time.Instant.{Instant}
 use Rattle.std.specs.declared.time.SystemTime.{SystemTime}
 use Rattle.mon_host.specs.Reason.{Why, why}
 use Rattle.mon_host.specs.declared.host.Part.{Part}
+use Rattle.mon_host.specs.declared.level.Level.{Level}
 use Rattle.mon_host.specs.declared.reason.Reason.{Reason}
 
 -- An event: a call, with what it was asked and gave, or why it failed. Where octets could not be
@@ -16,7 +17,8 @@ pub data AtHost : Type 0 where
   OutputAtTerminal : Bool → AtHost
   Printed : List ℕ → AtHost
   Unprinted : List ℕ → Why → AtHost
-  Noted : List ℕ → AtHost
+  Noted : Level → List ℕ → AtHost
+  LevelsShown : AtHost
   InputRead : List ℕ → AtHost
   InputUnread : Why → AtHost
   FileRead : List ℕ → List ℕ → AtHost
@@ -113,6 +115,7 @@ abbrev pub telling_date : Result SystemTime Reason → AtHost
 telling_date (Ok now) = Dated now
 telling_date (Err reason) = Undated (why reason)
 
--- a text was sent to standard error, whose octets are these if its type states them
-abbrev pub IsNoted : Option (List ℕ) → List AtHost → Type 0
-IsNoted text log = (octets : List ℕ) × IfSome text (λ t. octets ≡ t) × (log ≡ Noted octets ∷ [])
+-- a text of this level was sent to standard error, whose octets are these if its type states them
+abbrev pub IsNoted : Level → Option (List ℕ) → List AtHost → Type 0
+IsNoted level text log =
+    (octets : List ℕ) × IfSome text (λ t. octets ≡ t) × (log ≡ Noted level octets ∷ [])

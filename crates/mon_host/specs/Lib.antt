@@ -1,4 +1,5 @@
 pub mod AtHost
+pub mod Level
 pub mod Log
 pub mod Reason
 pub mod Recorded

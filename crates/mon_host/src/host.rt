@@ -1,5 +1,6 @@
 //! What a program is run on, as the code that runs on it sees it.
 
+use crate::level::Level;
 use crate::reason::Reason;
 use std::fmt::Display;
 use std::time::{Instant, SystemTime};
@@ -15,7 +16,7 @@ pub struct Part {
 /// log.
 pub trait Host {
     ghost use Rattle.std.specs.Prelude.{[], ◌∷◌, List, Option};
-    ghost use Rattle.mon_host.specs.AtHost.{AtHost, IsNoted, dating_file, finding, finding_node, listing_arguments, looking_at_output, looking_at_terminal, permitting, printing, reading_file, reading_input, reading_part, renaming, telling_date, telling_time, writing};
+    ghost use Rattle.mon_host.specs.AtHost.{AtHost, IsNoted, LevelsShown, dating_file, finding, finding_node, listing_arguments, looking_at_output, looking_at_terminal, permitting, printing, reading_file, reading_input, reading_part, renaming, telling_date, telling_time, writing};
     ghost use Rattle.mon_host.specs.Log.{GoesOn, GoesOnBy};
 
     // The log, if there is one.
@@ -38,9 +39,13 @@ pub trait Host {
     fn print(&mut self, octets: &[u8]) -> Result<(), Reason>
         ensures { GoesOn (printing octets.now result ∷ []) (log self.old) (log self.new) };
 
-    /// Sends a text to standard error. Where that fails nobody is told.
-    fn note<D: Display + Drop>(&mut self, text: D)
-        ensures { GoesOnBy (IsNoted (D.output text)) (log self.old) (log self.new) };
+    /// Sends a text of this level to standard error. Where that fails nobody is told.
+    fn note<D: Display + Drop>(&mut self, level: Level, text: D)
+        ensures { GoesOnBy (IsNoted level (D.output text)) (log self.old) (log self.new) };
+
+    /// Puts the mark of its level before each text on standard error from now on.
+    fn show_levels(&mut self)
+        ensures { GoesOn (LevelsShown ∷ []) (log self.old) (log self.new) };
 
     /// Reads standard input to its end.
     fn read_input(&mut self) -> Result<Vec<u8>, Reason>

@@ -6,11 +6,13 @@
 
 mod host;
 pub mod laws;
+mod level;
 mod reason;
 mod recorder;
 mod system;
 
 pub use host::{Host, Part};
+pub use level::Level;
 pub use reason::Reason;
 pub use recorder::{Given, Page, Recorder, Step};
 pub use system::{System, Terminals};

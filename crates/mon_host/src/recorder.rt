@@ -7,6 +7,7 @@ ghost use Rattle.mon_host.specs.Log.{GoesOn};
 ghost use Rattle.mon_host.specs.Recorded.{IsStepOf, recorded, refused, step_of};
 
 use crate::host::{Host, Part};
+use crate::level::Level;
 use crate::reason::Reason;
 use std::alloc::{AllocError, Global};
 use std::fmt::Display;
@@ -20,7 +21,8 @@ pub enum Step {
     AtTerminal(bool),
     OutputAtTerminal(bool),
     Print(Vec<u8>, Result<(), ErrorKind>),
-    Note(String),
+    Note(Level, String),
+    ShowLevels,
     Input(Result<Vec<u8>, ErrorKind>),
     File(String, Result<Vec<u8>, ErrorKind>),
     Part(String, Part, Result<Vec<u8>, ErrorKind>),
@@ -223,10 +225,10 @@ fn print_step(
 }
 
 /// Records a text for standard error.
-fn note_step<D: Display + Drop>(alloc: Global, text: D) -> Result<Step, AllocError>
-    ensures { IfOk result (λ step. IsNoted (D.output text) (step_of step ∷ [])) }
+fn note_step<D: Display + Drop>(alloc: Global, level: Level, text: D) -> Result<Step, AllocError>
+    ensures { IfOk result (λ step. IsNoted level (D.output text) (step_of step ∷ [])) }
 {
-    Ok(Step::Note(format!(in alloc; "{text}")?))
+    Ok(Step::Note(level, format!(in alloc; "{text}")?))
 }
 
 /// Records what was read from standard input.
@@ -351,8 +353,12 @@ impl Host for Recorder {
         refused(given)
     }
 
-    fn note<D: Display + Drop>(&mut self, text: D) {
-        self.record(note_step(self.alloc, text));
+    fn note<D: Display + Drop>(&mut self, level: Level, text: D) {
+        self.record(note_step(self.alloc, level, text));
+    }
+
+    fn show_levels(&mut self) {
+        self.record(Ok(Step::ShowLevels));
     }
 
     fn read_input(&mut self) -> Result<Vec<u8>, Reason> {

@@ -1,8 +1,9 @@
 //! The system's arguments, streams, files and clocks.
 
-ghost use Rattle.std.specs.Prelude.{◌≡◌};
+ghost use Rattle.std.specs.Prelude.{◌≡◌, false};
 
 use crate::host::{Host, Part};
+use crate::level::Level;
 use crate::reason::Reason;
 use std::alloc::Global;
 use std::fmt::Display;
@@ -37,6 +38,8 @@ pub struct Terminals {
 pub struct System<'a, R> {
     rt: &'a R,
     terminals: Terminals,
+    /// `true` if each text on standard error has the mark of its level before it.
+    shows_levels: bool,
 }
 
 impl<'a, R: AllocGlobal> System<'a, R> {
@@ -44,8 +47,13 @@ impl<'a, R: AllocGlobal> System<'a, R> {
     pub fn new(rt: &'a R, terminals: Terminals) -> Self
         ensures runtime { result.rt.now ≡ rt.now }
         ensures terminals { result.terminals ≡ terminals }
+        ensures levels { result.shows_levels ≡ false }
     {
-        System { rt, terminals }
+        System {
+            rt,
+            terminals,
+            shows_levels: false,
+        }
     }
 
     /// Returns what a call gave, with the reason in words if it failed.
@@ -79,8 +87,15 @@ impl<R: Env + Clock + Files<File = File> + Input + Print + Eprint + AllocGlobal>
         self.given(io::writer(self.rt).write_all(octets))
     }
 
-    fn note<D: Display + Drop>(&mut self, text: D) {
+    fn note<D: Display + Drop>(&mut self, level: Level, text: D) {
+        if self.shows_levels {
+            let _ = self.rt.eprint(level.mark());
+        }
         let _ = self.rt.eprint(text);
+    }
+
+    fn show_levels(&mut self) {
+        self.shows_levels = true;
     }
 
     fn read_input(&mut self) -> Result<Vec<u8>, Reason> {

@@ -4,6 +4,7 @@ use Rattle.mon_app.specs.Network.{Agents}
 use Rattle.mon_cli.specs.declared.meaning.SettingsArgs.{SettingsArgs}
 use Rattle.mon_console.specs.declared.failure.Failure.{Failure}
 use Rattle.mon_host.specs.AtHost.{AtHost, Noted}
+use Rattle.mon_host.specs.declared.level.Level.TheVariants as level
 use Rattle.mon_survey.specs.Answers.{count_of}
 use Rattle.mon_udp.specs.Addr.{addr_of}
 use Rattle.mon_settings_commands.specs.Kinds.{AreKinds, IsFirstNoKind, IsKindWord, kind_words}
@@ -50,7 +51,7 @@ count_line agent number count = agent ++ (codes ": ifNumber is " ++ (decimal num
 -- it is said if the two numbers differ
 abbrev pub count_lines : List ℕ → Option ℕ → ℕ → List AtHost
 count_lines agent None count = []
-count_lines agent (Some number) count = if number == count then [] else Noted (count_line agent number count) ∷ []
+count_lines agent (Some number) count = if number == count then [] else Noted level.Warning (count_line agent number count) ∷ []
 
 -- An agent is asked: nothing is printed, read or replaced. If it answered all, at most one line is
 -- said, of its ifNumber.

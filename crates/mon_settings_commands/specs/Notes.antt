@@ -3,6 +3,7 @@ use Rattle.std.specs.Prelude.{◌≡◌, ◌++◌, ◌==◌, ◌∷◌, ℕ, Lis
 use Rattle.mon_console.specs.Files.{IsPrint}
 use Rattle.mon_console.specs.declared.failure.Failure.{Failure}
 use Rattle.mon_host.specs.AtHost.{AtHost, Noted}
+use Rattle.mon_host.specs.declared.level.Level.TheVariants as level
 use Rattle.mon_host.specs.Then.{Then}
 use Rattle.mon_survey.specs.Plan.{count_without_speed}
 use Rattle.mon_survey.specs.declared.choice.Choice.{Choice}
@@ -25,7 +26,7 @@ round_line settings longest = codes "snmpmon: a round of " ++ settings ++ codes 
 
 -- it is said how long a round takes at most, in one line
 abbrev pub IsRoundNoted : List ℕ → LongestRound → List AtHost → Type 0
-IsRoundNoted settings longest log = log ≡ Noted (round_line settings longest) ∷ []
+IsRoundNoted settings longest log = log ≡ Noted level.Info (round_line settings longest) ∷ []
 
 -- octets are printed, and after that it is said how long a round takes at most
 abbrev pub IsPrintNoted : List ℕ → List ℕ → LongestRound → List AtHost → Result Unit Failure → Type 0
@@ -40,7 +41,7 @@ speed_line count = if count == 1 then codes "snmpmon: no threshold for 1 interfa
 abbrev pub speed_notes : (percent count : ℕ) → List AtHost
 speed_notes percent count = if percent == 0 then []
     else if count == 0 then []
-    else (Noted (speed_line count) ∷ [])
+    else (Noted level.Warning (speed_line count) ∷ [])
 
 -- of all interfaces whose octets are polled, in whichever file, those are counted whose speed is unknown
 abbrev pub AreSpeedsNoted : Source → List AtHost → Type 0

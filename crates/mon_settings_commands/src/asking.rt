@@ -7,6 +7,7 @@ ghost use Rattle.mon_app.specs.Walk.{IsPast, IsUnderStart};
 ghost use Rattle.mon_app.specs.declared.question.Asking.TheVariants.{Get};
 ghost use Rattle.mon_console.specs.Failure.{IsMemory};
 ghost use Rattle.mon_host.specs.AtHost.{Noted};
+ghost use Rattle.mon_host.specs.declared.level.Level.TheVariants.{Warning};
 ghost use Rattle.mon_host.specs.Log.{GoesOnBy};
 ghost use Rattle.mon_pdu.specs.declared.message.Body.TheVariants as bodies;
 ghost use Rattle.mon_survey.specs.Column.{column_name, columns};
@@ -24,7 +25,7 @@ use crate::settings::Asked;
 use mon_app::{AppFault, Asking, Opens, Question, Repeats, Wire, send_request};
 use mon_ber::Value;
 use mon_console::{Failure, Fault, answer_failure};
-use mon_host::Host;
+use mon_host::{Host, Level};
 use mon_oid::Oid;
 use mon_pdu::{Binding, Bindings, Body, Message, Pdu};
 use mon_survey::{Answers, Column, SurveyFault, columns, engine_of};
@@ -91,11 +92,14 @@ fn tell_count<H: Host>(host: &mut H, agent: &str, number: Option<u32>, count: us
 
 /// Says that ifNumber is another number than that of ifTable's interfaces.
 fn note_count<H: Host>(host: &mut H, agent: &str, number: u32, count: usize)
-    ensures { GoesOnBy (λ log. log ≡ Noted (count_line agent.now number count) ∷ [])
+    ensures { GoesOnBy (λ log. log ≡ Noted Warning (count_line agent.now number count) ∷ [])
         (H.log host.old) (H.log host.new) }
 {
     let interfaces = form_of(count, " interface", " interfaces");
-    host.note(format_args!("{agent}: ifNumber is {number}, and ifTable has {count}{interfaces}\n"));
+    host.note(
+        Level::Warning,
+        format_args!("{agent}: ifNumber is {number}, and ifTable has {count}{interfaces}\n"),
+    );
 }
 
 /// Asks the agent for its engine and its interfaces, by a wire of its own.

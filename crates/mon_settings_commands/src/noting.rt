@@ -2,13 +2,14 @@
 
 ghost use Rattle.std.specs.Prelude.{◌≡◌, ◌∷◌, []};
 ghost use Rattle.mon_host.specs.AtHost.{Noted};
+ghost use Rattle.mon_host.specs.declared.level.Level.TheVariants.{Warning};
 ghost use Rattle.mon_host.specs.Log.{GoesOnBy};
 ghost use Rattle.mon_settings_commands.specs.Notes.{AreSpeedsNoted, IsPrintNoted, IsRoundNoted, form_of, speed_line, speed_notes};
 ghost use Rattle.mon_settings_commands.specs.Source.{source_in};
 
 use crate::settings::Ground;
 use mon_console::{Failure, print};
-use mon_host::Host;
+use mon_host::{Host, Level};
 use mon_survey::{LongestRound, count_without_speed};
 use std::alloc::Global;
 
@@ -37,9 +38,12 @@ fn note_round<H: Host>(host: &mut H, settings: &str, longest: LongestRound)
         wait_ms,
         tries,
     } = longest;
-    host.note(format_args!(
-        "snmpmon: a round of {settings} takes at most {most} ms (wait_ms = {wait_ms}, tries = {tries})\n"
-    ));
+    host.note(
+        Level::Info,
+        format_args!(
+            "snmpmon: a round of {settings} takes at most {most} ms (wait_ms = {wait_ms}, tries = {tries})\n"
+        ),
+    );
 }
 
 /// Returns the form of a word for a count: the first for 1, else the second.
@@ -72,13 +76,19 @@ fn note_count<H: Host>(host: &mut H, percent: u8, count: usize)
 
 /// Says for how many interfaces there is no threshold.
 fn note_speed<H: Host>(host: &mut H, count: usize)
-    ensures { GoesOnBy (λ log. log ≡ Noted (speed_line count) ∷ []) (H.log host.old) (H.log host.new) }
+    ensures { GoesOnBy (λ log. log ≡ Noted Warning (speed_line count) ∷ []) (H.log host.old) (H.log host.new) }
 {
     if count == 1 {
-        host.note("snmpmon: no threshold for 1 interface: its speed is not known\n");
+        host.note(
+            Level::Warning,
+            "snmpmon: no threshold for 1 interface: its speed is not known\n",
+        );
     } else {
-        host.note(format_args!(
-            "snmpmon: no threshold for {count} interfaces: their speed is not known\n"
-        ));
+        host.note(
+            Level::Warning,
+            format_args!(
+                "snmpmon: no threshold for {count} interfaces: their speed is not known\n"
+            ),
+        );
     }
 }

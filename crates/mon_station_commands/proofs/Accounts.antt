@@ -11,7 +11,8 @@ use Rattle.mon_console.specs.declared.failure.Failure.{Failure}
 use Rattle.mon_disk.specs.Fault.{number_of}
 use Rattle.mon_disk.specs.declared.fault.KeeperFault.{KeeperFault}
 use Rattle.mon_faults.specs.Fault.{station_fault}
-use Rattle.mon_host.specs.AtHost.{AtHost, Dated, Noted, Timed}
+use Rattle.mon_host.specs.declared.level.Level.{Level}
+use Rattle.mon_host.specs.AtHost.{AtHost, Dated, Timed}
 use Rattle.mon_host.specs.Log.{GoesOnBy}
 use Rattle.mon_host.specs.Then.{Follows}
 use Rattle.mon_host.proofs.Promised.{goes_on, stays, then_fails, then_follows, weaker}
@@ -27,6 +28,7 @@ use Rattle.mon_rounds.specs.declared.round.Span.TheVariants.{Between, Round}
 use Rattle.mon_station.specs.declared.fault.StationFault.{StationFault}
 use Rattle.mon_station.specs.declared.fault.StationFault.TheVariants.{OutOfMemory}
 use Rattle.mon_station.specs.declared.running.Run.{Run}
+use Rattle.mon_station_commands.specs.Line.{noted}
 use Rattle.mon_station_commands.specs.Pace.{IsDate, IsPassed, IsStopped, IsWait}
 use Rattle.mon_station_commands.specs.Quiet.{AreQuiet}
 use Rattle.mon_station_commands.specs.Spans.{AreAlarms, AreChanges, AreTroubles, AreTroublesOf, IsAccount, IsAccountOf, IsNoReport, IsOfRun, IsReportOr, IsSavedAfter, IsSpan, IsSpanRun, IsTimedRun, IsUnsavedBy, is_round, round_after}
@@ -39,24 +41,24 @@ use Rattle.mon_station_commands.proofs.Steps.{tried}
 use Rattle.mon_udp.specs.declared.addr.Addr.{Addr}
 
 -- what is said of a span is quiet
-are_alarms : (alarms : List (List ℕ)) (log : List AtHost) (r : Result Unit Failure) → AreAlarms alarms log r → AreQuiet log
-are_alarms alarms log (Ok done) is = are_quiet_as (map Noted alarms) log is (are_said alarms)
-are_alarms alarms log (Err failure) (memory, (many, is)) = are_quiet_as (map Noted (take many alarms)) log is (are_said (take many alarms))
+are_alarms : (alarms : List (Level × List ℕ)) (log : List AtHost) (r : Result Unit Failure) → AreAlarms alarms log r → AreQuiet log
+are_alarms alarms log (Ok done) is = are_quiet_as (map noted alarms) log is (are_said alarms)
+are_alarms alarms log (Err failure) (memory, (many, is)) = are_quiet_as (map noted (take many alarms)) log is (are_said (take many alarms))
 
 are_troubles : (whole : Bool) (round : ℕ) (log : List AtHost) (r : Result Unit Failure) → AreTroubles whole round log r → AreQuiet log
 are_troubles true round log (Ok done) (fresh, changes, (facts, is, said)) = are_noted (lines_before facts round (map (key_of facts) changes) (length changes)) log said
 are_troubles true round log (Err failure) (fresh, changes, (memory, (lines, said))) = are_noted lines log said
 are_troubles false round log r (is, done) = are_quiet_as [] log is refl
 
-alarms_after : (alarms : List (List ℕ)) (given : Result Unit Failure) (rest : List AtHost) (r : Result Unit Failure) → Follows (λ (said : Unit). AreAlarms alarms) given rest r → AreQuiet rest
+alarms_after : (alarms : List (Level × List ℕ)) (given : Result Unit Failure) (rest : List AtHost) (r : Result Unit Failure) → Follows (λ (said : Unit). AreAlarms alarms) given rest r → AreQuiet rest
 alarms_after alarms (Ok u) rest r is = are_alarms alarms rest r is
 alarms_after alarms (Err failure) rest r (none, same) = are_quiet_as [] rest none refl
 
-are_changes : (alarms : Bool → List (List ℕ)) (round : ℕ) (whole : Bool) (log : List AtHost) (r : Result Unit Failure) → AreChanges alarms round whole log r → AreQuiet log
+are_changes : (alarms : Bool → List (Level × List ℕ)) (round : ℕ) (whole : Bool) (log : List AtHost) (r : Result Unit Failure) → AreChanges alarms round whole log r → AreQuiet log
 are_changes alarms round whole log r is = are_quiet_as (is.begin ++ is.rest) log is.log_is
     (are_quiet_on is.begin is.rest (are_troubles whole round is.begin is.given is.first) (alarms_after (alarms whole) is.given is.rest r is.second))
 
-module _ (IsReport : RoundReport → Type 0) (alarms : Bool → List (List ℕ)) (round : ℕ) where
+module _ (IsReport : RoundReport → Type 0) (alarms : Bool → List (Level × List ℕ)) (round : ℕ) where
   is_report : (whole : Bool) (b a : Option KeeperFault) (log : List AtHost) (r : Result Unit Failure) → IsReportOr IsReport alarms round whole b a log r → AreQuiet log
   is_report whole b a log r (inl (none, same)) = are_quiet_as [] log none.0 refl
   is_report whole b a log r (inr is) = are_quiet_as (is.begin ++ is.rest) log is.log_is
@@ -68,7 +70,7 @@ module _ (IsReport : RoundReport → Type 0) (alarms : Bool → List (List ℕ))
 
   is_said : (given : Result Unit Failure) (log : List AtHost) (failure : Option Failure) → IsSaidOf given log failure → AreQuiet log
   is_said (Ok done) log failure (none, same) = are_quiet_as [] log none refl
-  is_said (Err why) log failure (is, same) = are_quiet_as _ log is.log_is (is_told_more _ _ is.rest is.more)
+  is_said (Err why) log failure (is, same) = are_quiet_as _ log is.log_is (is_told_more _ _ _ is.rest is.more)
 
   is_span : (whole : Bool) (b a : Kept) (log : List AtHost) → IsSpan IsReport alarms round whole b a log → AreQuiet log
   is_span whole b a log is =
@@ -173,7 +175,7 @@ module _ (IsReport : RoundReport → Type 0) (alarms : Bool → List (List ℕ))
       }
 
 -- the same span, of what a run was afterwards
-pub span_of : (targets targets2 : List Addr) (events events2 : List RoundEvent) (run run2 : Run) (alarms : Bool → List (List ℕ)) (round : ℕ) (whole : Bool) (b a : Kept)
+pub span_of : (targets targets2 : List Addr) (events events2 : List RoundEvent) (run run2 : Run) (alarms : Bool → List (Level × List ℕ)) (round : ℕ) (whole : Bool) (b a : Kept)
     (t0 t1 : Option (List AtHost)) → targets2 ≡ targets → events2 ≡ events → run2 ≡ run
     → GoesOnBy (λ log. IsSpan (IsOfRun targets events run) alarms round whole b a log) t0 t1
     → GoesOnBy (λ log. IsSpan (IsOfRun targets2 events2 run2) alarms round whole b a log) t0 t1
@@ -183,7 +185,7 @@ span_of targets targets2 events events2 run run2 alarms round whole b a t0 t1 on
     (subst (λ (n : List Addr). GoesOnBy (λ log. IsSpan (IsOfRun n events run) alarms round whole b a log) t0 t1) (sym one) span))
 
 -- a clock failed, and nothing was run
-pub span_stops : (IsReport : RoundReport → Type 0) (alarms : Bool → List (List ℕ)) (round : ℕ) (whole : Bool) (b a : Kept) (failure : Failure) (r : Result Unit Failure)
+pub span_stops : (IsReport : RoundReport → Type 0) (alarms : Bool → List (Level × List ℕ)) (round : ℕ) (whole : Bool) (b a : Kept) (failure : Failure) (r : Result Unit Failure)
     (t0 t1 : Option (List AtHost)) → r ≡ Err failure → a ≡ b → GoesOnBy (λ log. IsStopped log failure) t0 t1
     → GoesOnBy (λ log. IsSpanRun IsReport alarms round whole b a log r) t0 t1
 span_stops IsReport alarms round whole b a failure r t0 t1 is same stop =
@@ -219,18 +221,18 @@ not_timed {T} whole was failure r t0 t1 is stop = subst (λ (e : Result T Failur
     (weaker (λ log. IsStopped log failure) (λ log. IsTimedRun whole was was log (let e : Result T Failure = Err failure in e)) t0 t1 (λ log s. (s, refl)) stop)
 
 -- lines of alarms
-pub alarmed : (alarms : List (List ℕ)) (done : Unit) (t0 t1 : Option (List AtHost))
+pub alarmed : (alarms : List (Level × List ℕ)) (done : Unit) (t0 t1 : Option (List AtHost))
     → GoesOnBy (λ log. AreSaid alarms log (let r : Result Unit AllocError = Ok done in r)) t0 t1 → GoesOnBy (λ log. AreAlarms alarms log (Ok tt)) t0 t1
 alarmed alarms done t0 t1 = weaker (λ log. AreSaid alarms log (let r : Result Unit AllocError = Ok done in r)) (λ log. AreAlarms alarms log (Ok tt)) t0 t1
-    (λ log is. is.log_is ∙ ap (λ (ls : List (List ℕ)). map Noted ls) is.all)
+    (λ log is. is.log_is ∙ ap (λ (ls : List (Level × List ℕ)). map noted ls) is.all)
 
-pub half_alarmed : (alarms : List (List ℕ)) (told : Result Unit AllocError) (r : Result Unit Failure) (t0 t1 : Option (List AtHost)) → IsErrAnd r IsMemory
+pub half_alarmed : (alarms : List (Level × List ℕ)) (told : Result Unit AllocError) (r : Result Unit Failure) (t0 t1 : Option (List AtHost)) → IsErrAnd r IsMemory
     → GoesOnBy (λ log. AreSaid alarms log told) t0 t1 → GoesOnBy (λ log. AreAlarms alarms log r) t0 t1
 half_alarmed alarms told (Ok done) t0 t1 is said = absurd is
 half_alarmed alarms told (Err failure) t0 t1 is said = weaker (λ log. AreSaid alarms log told) (λ log. AreAlarms alarms log (Err failure)) t0 t1
     (λ log some. (is, (some.many, some.log_is))) said
 
-pub unalarmed : (alarms : List (List ℕ)) (r : Result Unit Failure) (t : Option (List AtHost)) → IsErrAnd r IsMemory → GoesOnBy (λ log. AreAlarms alarms log r) t t
+pub unalarmed : (alarms : List (Level × List ℕ)) (r : Result Unit Failure) (t : Option (List AtHost)) → IsErrAnd r IsMemory → GoesOnBy (λ log. AreAlarms alarms log r) t t
 unalarmed alarms (Ok done) t is = absurd is
 unalarmed alarms (Err failure) t is = record { more = []; holds = (is, (0, refl)); on = stays t }
 
@@ -251,24 +253,24 @@ pub no_troubles : (round : ℕ) (t : Option (List AtHost)) → GoesOnBy (λ log.
 no_troubles round t = record { more = []; holds = (refl, refl); on = stays t }
 
 -- troubles, and then alarms
-pub changes_are : (alarms : Bool → List (List ℕ)) (round : ℕ) (whole : Bool) (done : Unit) (r : Result Unit Failure) (t0 t1 t2 : Option (List AtHost))
+pub changes_are : (alarms : Bool → List (Level × List ℕ)) (round : ℕ) (whole : Bool) (done : Unit) (r : Result Unit Failure) (t0 t1 t2 : Option (List AtHost))
     → GoesOnBy (λ log. AreTroubles whole round log (Ok done)) t0 t1 → GoesOnBy (λ log. AreAlarms (alarms whole) log r) t1 t2 → GoesOnBy (λ log. AreChanges alarms round whole log r) t0 t2
 changes_are alarms round whole done r t0 t1 t2 first second =
     then_follows (AreTroubles whole round) (λ (said : Unit {0}). AreAlarms (alarms whole)) (Ok done) r t0 t1 t2 first second
 
-pub no_changes : (alarms : Bool → List (List ℕ)) (round : ℕ) (whole : Bool) (failure : Failure) (r : Result Unit Failure) (t0 t1 : Option (List AtHost)) → r ≡ Err failure
+pub no_changes : (alarms : Bool → List (Level × List ℕ)) (round : ℕ) (whole : Bool) (failure : Failure) (r : Result Unit Failure) (t0 t1 : Option (List AtHost)) → r ≡ Err failure
     → GoesOnBy (λ log. AreTroubles whole round log (Err failure)) t0 t1 → GoesOnBy (λ log. AreChanges alarms round whole log r) t0 t1
 no_changes alarms round whole failure r t0 t1 is first =
     subst (λ (e : Result Unit Failure). GoesOnBy (λ log. AreChanges alarms round whole log e) t0 t1) (sym is)
     (then_fails (AreTroubles whole round) (λ (said : Unit {0}). AreAlarms (alarms whole)) failure t0 t1 first)
 
 -- the same span with names alarms by what stayed
-pub span_shown : (IsReport : RoundReport → Type 0) (alarms other : Bool → List (List ℕ)) (round : ℕ) (whole : Bool) (b a : Kept) (t0 t1 : Option (List AtHost)) → alarms ≡ other
+pub span_shown : (IsReport : RoundReport → Type 0) (alarms other : Bool → List (Level × List ℕ)) (round : ℕ) (whole : Bool) (b a : Kept) (t0 t1 : Option (List AtHost)) → alarms ≡ other
     → GoesOnBy (λ log. IsSpan IsReport alarms round whole b a log) t0 t1 → GoesOnBy (λ log. IsSpan IsReport other round whole b a log) t0 t1
-span_shown IsReport alarms other round whole b a t0 t1 same = subst (λ (f : Bool → List (List ℕ)). GoesOnBy (λ log. IsSpan IsReport f round whole b a log) t0 t1) same
+span_shown IsReport alarms other round whole b a t0 t1 same = subst (λ (f : Bool → List (Level × List ℕ)). GoesOnBy (λ log. IsSpan IsReport f round whole b a log) t0 t1) same
 
 -- a clock that failed in a span
-pub span_stopped : (IsReport : RoundReport → Type 0) (alarms : Bool → List (List ℕ)) (round : ℕ) (whole : Bool) (b a : Kept) (failure : Failure) (t0 t1 : Option (List AtHost))
+pub span_stopped : (IsReport : RoundReport → Type 0) (alarms : Bool → List (Level × List ℕ)) (round : ℕ) (whole : Bool) (b a : Kept) (failure : Failure) (t0 t1 : Option (List AtHost))
     → GoesOnBy (λ log. IsSpanRun IsReport alarms round whole b a log (Err failure)) t0 t1 → GoesOnBy (λ log. IsStopped log failure) t0 t1
 span_stopped IsReport alarms round whole b a failure t0 t1 =
     weaker (λ log. IsSpanRun IsReport alarms round whole b a log (Err failure)) (λ log. IsStopped log failure) t0 t1 (λ log is. is.0)

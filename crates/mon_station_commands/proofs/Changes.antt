@@ -1,13 +1,15 @@
 -- Changes of trouble that are said.
+use Rattle.mon_station_commands.specs.Line.{Line}
 use Rattle.std.proofs.Common.{◌≡◌, ◌∙◌, ◌+◌, ◌++◌, ◌∷◌, ◌||◌, Bool, List, ℕ, [], ap, arith, length, map, option_map, refl, slice_get, subst, suc, sym, string_bytes, take, zero}
 use Rattle.std.proofs.lemmas.List.{length-map}
 use Rattle.std.proofs.lemmas.Option.{slice_get-map}
 use Rattle.std.specs.List.{list_any, take-map}
-use Rattle.std.specs.Prelude.{IfOk, IsErrAnd, Option, None, Some, Result, Ok, Err, String, false, true}
+use Rattle.std.specs.Prelude.{IfOk, IsErrAnd, Option, None, Some, Result, Ok, Err, String, false, slice_get, true}
 use Rattle.std.specs.Global.{Global}
 use Rattle.std.specs.declared.alloc.AllocError.{AllocError}
 use Rattle.mon_console.specs.Failure.{IsMemory}
 use Rattle.mon_console.specs.declared.failure.Failure.{Failure}
+use Rattle.mon_host.specs.declared.level.Level.{Level}
 use Rattle.mon_host.specs.AtHost.{AtHost}
 use Rattle.mon_host.specs.Log.{GoesOnBy}
 use Rattle.mon_host.proofs.Promised.{stays, weaker}
@@ -15,7 +17,7 @@ use Rattle.mon_rounds.specs.declared.changes.Change.{Change}
 use Rattle.mon_rounds.specs.declared.freshness.Freshness.{Freshness}
 use Rattle.mon_station_commands.specs.Spans.{AreTroublesOf}
 use Rattle.mon_station_commands.specs.Telling.{AreNoted, text_lines}
-use Rattle.mon_station_commands.specs.Troubles.{AreAllSaid, AreSomeSaid, AreTroublesSaid, IsText, KeyText, count_alike, joins, key_in, key_of, key_text, lines_before, lines_of, text_at, text_of, text_unless}
+use Rattle.mon_station_commands.specs.Troubles.{AreAllSaid, AreSomeSaid, AreTroublesSaid, IsText, KeyText, count_alike, joins, key_in, key_of, key_text, level_of, lines_before, lines_of, text_at, text_of, text_unless}
 use Rattle.mon_station_commands.specs.declared.troubles.Facts.{Facts}
 use Rattle.mon_station_commands.specs.declared.troubles.Key.{Key}
 use Rattle.mon_station_commands.proofs.Notes.{noted_on}
@@ -64,23 +66,25 @@ unsaid_for facts round changes fault (Err e) told is = unsaid told
 one_on : (n : ℕ) → suc n ≡ n + 1
 one_on n = grind arith
 
-pub some_said : (lines : List (Option (List ℕ))) (before after : Option (List AtHost)) → GoesOnBy (AreNoted lines) before after → GoesOnBy AreSomeSaid before after
+pub some_said : (lines : List Line) (before after : Option (List AtHost)) → GoesOnBy (AreNoted lines) before after → GoesOnBy AreSomeSaid before after
 some_said lines before after = weaker (AreNoted lines) AreSomeSaid before after (λ log is. (lines, is))
 
 -- the lines of a text are those that are wanted
-as_wanted : (round : ℕ) (wanted : Option (List ℕ)) (text : List ℕ) (log : List AtHost) → IsText wanted text → AreNoted (text_lines round text) log → AreNoted (lines_of round wanted) log
-as_wanted round (Some known) text log is noted = subst (λ (t : List ℕ). AreNoted (text_lines round t) log) is noted
-as_wanted round None [] log is noted = absurd (is refl)
-as_wanted round None (c ∷ cs) log is (octets, rest, known, none, log_is) = (octets, rest, tt, none, log_is)
+as_wanted : (v : Level) (round : ℕ) (wanted : Option (List ℕ)) (text : List ℕ) (log : List AtHost) → IsText wanted text → AreNoted (text_lines v round text) log → AreNoted (lines_of v round wanted) log
+as_wanted v round (Some known) text log is noted = subst (λ (t : List ℕ). AreNoted (text_lines v round t) log) is noted
+as_wanted v round None [] log is noted = absurd (is refl)
+as_wanted v round None (c ∷ cs) log is (octets, rest, known, none, log_is) = (octets, rest, tt, none, log_is)
 
 -- a change more
-pub change_more : (facts : Facts) (round : ℕ) (keys : List KeyText) (place : ℕ) (text : List ℕ) (before between after : Option (List AtHost))
-    → IsText (text_at facts keys place) text → GoesOnBy (AreNoted (lines_before facts round keys place)) before between
-    → GoesOnBy (AreNoted (text_lines round text)) between after → GoesOnBy (AreNoted (lines_before facts round keys (place + 1))) before after
-change_more facts round keys place text before between after is first second =
+pub change_more : (facts : Facts) (v : Level) (round : ℕ) (keys : List KeyText) (place : ℕ) (text : List ℕ) (before between after : Option (List AtHost))
+    → v ≡ level_of (slice_get keys place) → IsText (text_at facts keys place) text → GoesOnBy (AreNoted (lines_before facts round keys place)) before between
+    → GoesOnBy (AreNoted (text_lines v round text)) between after → GoesOnBy (AreNoted (lines_before facts round keys (place + 1))) before after
+change_more facts v round keys place text before between after same is first second =
+    let own = level_of (slice_get keys place) in
     subst (λ (n : ℕ). GoesOnBy (AreNoted (lines_before facts round keys n)) before after) (one_on place)
-    (noted_on (lines_before facts round keys place) (lines_of round (text_at facts keys place)) before between after first
-    (weaker (AreNoted (text_lines round text)) (AreNoted (lines_of round (text_at facts keys place))) between after (λ log noted. as_wanted round (text_at facts keys place) text log is noted) second))
+    (noted_on (lines_before facts round keys place) (lines_of own round (text_at facts keys place)) before between after first
+    (weaker (AreNoted (text_lines own round text)) (AreNoted (lines_of own round (text_at facts keys place))) between after (λ log noted. as_wanted own round (text_at facts keys place) text log is noted)
+    (subst (λ (w : Level). GoesOnBy (AreNoted (text_lines w round text)) between after) same second)))
 
 -- all of them
 pub all_said : (facts : Facts) (round : ℕ) (changes : List Change) (keys : List KeyText) (place : ℕ) (before after : Option (List AtHost)) → keys ≡ map (key_of facts) changes

@@ -16,6 +16,7 @@ use Rattle.mon_console.specs.declared.printing.Printing.{Printing}
 use Rattle.mon_disk.specs.declared.disk.DiskError.{DiskError}
 use Rattle.mon_disk.specs.declared.fault.KeeperFault.{KeeperFault}
 use Rattle.mon_disk.specs.declared.open_fault.OpenFault.{OpenFault}
+use Rattle.mon_host.specs.declared.level.Level.TheVariants as level
 use Rattle.mon_host.specs.AtHost.{AtHost, IsNoted, Noted}
 use Rattle.mon_host.specs.Log.{GoesOnBy}
 use Rattle.mon_host.specs.Then.{Quietly, Then}
@@ -324,9 +325,9 @@ module _ (timing : Timing) (reports : Reports) (s : StationSettings) where
         (then_follows (IsShownOpened s door) Seen (Ok (at, web)) (Err failure) t0 t1 t2 before (not_begun at (Some web) failure t1 t2 none))
 
     pub seen_run : (at web : SocketAddr) (state : State) (r : Result Unit Failure) (t0 t1 t2 t3 t4 : Option (List AtHost)) → GoesOnBy (λ log. IsShownOpened s door log (Ok (at, web))) t0 t1
-        → GoesOnBy (λ log. IsStarted reports.printing s at log (Ok state)) t1 t2 → GoesOnBy (IsNoted (Some (http_line web))) t2 t3
+        → GoesOnBy (λ log. IsStarted reports.printing s at log (Ok state)) t1 t2 → GoesOnBy (IsNoted level.Info (Some (http_line web))) t2 t3
         → GoesOnBy (λ log. IsRunOf timing reports log r) t3 t4 → GoesOnBy (λ log. IsSeen door timing reports s log r) t0 t4
     seen_run at web state r t0 t1 t2 t3 t4 before first line run =
-        let said = weaker (IsNoted (Some (http_line web))) (λ log. IsWebSaid (Some web) log (Ok tt)) t2 t3
-        (λ log noted. (noted.2 ∙ ap (λ (o : List ℕ). Noted o ∷ []) noted.1, refl)) line in
+        let said = weaker (IsNoted level.Info (Some (http_line web))) (λ log. IsWebSaid (Some web) log (Ok tt)) t2 t3
+        (λ log noted. (noted.2 ∙ ap (λ (o : List ℕ). Noted level.Info o ∷ []) noted.1, refl)) line in
         then_follows (IsShownOpened s door) Seen (Ok (at, web)) r t0 t1 t4 before (begun at (Some web) state r t1 t2 t3 t4 first said run)

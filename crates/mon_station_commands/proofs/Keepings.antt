@@ -20,7 +20,7 @@ node_quiet path (Err reason) rest quiet = quiet
 
 told_quiet : (known : Bool) (failure : Failure) (log : List AtHost) → IsToldIf known failure log → AreQuiet log
 told_quiet true failure log is = are_quiet_as [] log is refl
-told_quiet false failure log is = are_quiet_as _ log is.log_is (is_told_more _ _ is.rest is.more)
+told_quiet false failure log is = are_quiet_as _ log is.log_is (is_told_more _ _ _ is.rest is.more)
 
 module _ (round : ℕ) (path : List ℕ) (known : Bool) where
   move_quiet : (moved : Result Unit Failure) (log : List AtHost) (after : Bool) → IsMoveSaid round path known moved log after → AreQuiet log

@@ -7,17 +7,19 @@ use Rattle.std.specs.List.{flat_map}
 use Rattle.std.specs.Prelude.{◌==◌, Option, Some, if◌then◌else◌, nat_lt, Result, Ok, Err, IsErr}
 use Rattle.std.specs.declared.alloc.AllocError.{AllocError}
 use Rattle.mon_host.specs.AtHost.{AtHost, IsNoted, Noted}
+use Rattle.mon_host.specs.declared.level.Level.{Level}
 use Rattle.mon_host.specs.Log.{GoesOnBy}
 use Rattle.mon_host.proofs.Promised.{goes_on, stays, weaker}
+use Rattle.mon_station_commands.specs.Line.{Line, noted, stated}
 use Rattle.mon_station_commands.specs.Telling.{AreNoted, AreSaid}
 
 -- lines, and others after them
-pub are_noted_on : (texts others : List (Option (List ℕ))) (log rest : List AtHost) → AreNoted texts log → AreNoted others rest → AreNoted (texts ++ others) (log ++ rest)
+pub are_noted_on : (texts others : List Line) (log rest : List AtHost) → AreNoted texts log → AreNoted others rest → AreNoted (texts ++ others) (log ++ rest)
 are_noted_on [] others log rest none are = subst (λ (l : List AtHost). AreNoted others (l ++ rest)) (sym none) are
 are_noted_on (text ∷ texts) others log rest (octets, more, is, later, log_is) are =
     (octets, more ++ rest, is, are_noted_on texts others more rest later are, ap (λ (l : List AtHost). l ++ rest) log_is)
 
-pub noted_on : (texts others : List (Option (List ℕ))) (before between after : Option (List AtHost)) → GoesOnBy (AreNoted texts) before between
+pub noted_on : (texts others : List Line) (before between after : Option (List AtHost)) → GoesOnBy (AreNoted texts) before between
     → GoesOnBy (AreNoted others) between after → GoesOnBy (AreNoted (texts ++ others)) before after
 noted_on texts others before between after first second = record {
   more = first.more ++ second.more;
@@ -26,14 +28,14 @@ noted_on texts others before between after first second = record {
 }
 
 -- one line of which all is stated, in the pieces that were written
-pub line_noted : (pieces text : List ℕ) (before after : Option (List AtHost)) → pieces ≡ text → GoesOnBy (IsNoted (Some pieces)) before after
-    → GoesOnBy (AreNoted (Some text ∷ [])) before after
-line_noted pieces text before after same note = weaker (IsNoted (Some pieces)) (AreNoted (Some text ∷ [])) before after
+pub line_noted : (v : Level) (pieces text : List ℕ) (before after : Option (List AtHost)) → pieces ≡ text → GoesOnBy (IsNoted v (Some pieces)) before after
+    → GoesOnBy (AreNoted (stated v text ∷ [])) before after
+line_noted v pieces text before after same note = weaker (IsNoted v (Some pieces)) (AreNoted (stated v text ∷ [])) before after
     (λ log noted. (noted.0, [], noted.1 ∙ same, refl, noted.2)) note
 
-pub text_noted : (pieces text : List ℕ) (before after : Option (List AtHost)) → pieces ≡ text → GoesOnBy (IsNoted (Some pieces)) before after
-    → GoesOnBy (IsNoted (Some text)) before after
-text_noted pieces text before after same note = subst (λ (t : List ℕ). GoesOnBy (IsNoted (Some t)) before after) same note
+pub text_noted : (v : Level) (pieces text : List ℕ) (before after : Option (List AtHost)) → pieces ≡ text → GoesOnBy (IsNoted v (Some pieces)) before after
+    → GoesOnBy (IsNoted v (Some text)) before after
+text_noted v pieces text before after same note = subst (λ (t : List ℕ). GoesOnBy (IsNoted v (Some t)) before after) same note
 
 -- three pieces, however they are put together
 pub three_pieces : (a b c : List ℕ) → a ++ (b ++ c) ≡ a ++ b ++ c
@@ -60,19 +62,19 @@ pub less : (n m : ℕ) → n < m → nat_lt n m ≡ true
 less n m is = grind (arith, nat_tests)
 
 -- a line if there is something to count
-pub counted : (n : ℕ) (pieces text : List ℕ) (before after : Option (List AtHost)) → n ≢ 0 → pieces ≡ text → GoesOnBy (IsNoted (Some pieces)) before after
-    → GoesOnBy (AreNoted (if n == 0 then [] else (Some text ∷ []))) before after
-counted n pieces text before after some same note =
-    subst (λ (b : Bool). GoesOnBy (AreNoted (if b then [] else (Some text ∷ []))) before after) (sym (not_zero n some)) (line_noted pieces text before after same note)
+pub counted : (v : Level) (n : ℕ) (pieces text : List ℕ) (before after : Option (List AtHost)) → n ≢ 0 → pieces ≡ text → GoesOnBy (IsNoted v (Some pieces)) before after
+    → GoesOnBy (AreNoted (if n == 0 then [] else (stated v text ∷ []))) before after
+counted v n pieces text before after some same note =
+    subst (λ (b : Bool). GoesOnBy (AreNoted (if b then [] else (stated v text ∷ []))) before after) (sym (not_zero n some)) (line_noted v pieces text before after same note)
 
 -- a line of a size that is short
-pub short : (n most : ℕ) (pieces text : List ℕ) (before after : Option (List AtHost)) → n ≢ 0 → n < most → pieces ≡ text → GoesOnBy (IsNoted (Some pieces)) before after
-    → GoesOnBy (AreNoted (if n == 0 then [] else if nat_lt n most then (Some text ∷ []) else [])) before after
-short n most pieces text before after some few same note =
-    subst (λ (b : Bool). GoesOnBy (AreNoted (if b then [] else if nat_lt n most then (Some text ∷ []) else [])) before after) (sym (not_zero n some))
-    (subst (λ (b : Bool). GoesOnBy (AreNoted (if b then (Some text ∷ []) else [])) before after) (sym (less n most few)) (line_noted pieces text before after same note))
+pub short : (v : Level) (n most : ℕ) (pieces text : List ℕ) (before after : Option (List AtHost)) → n ≢ 0 → n < most → pieces ≡ text → GoesOnBy (IsNoted v (Some pieces)) before after
+    → GoesOnBy (AreNoted (if n == 0 then [] else if nat_lt n most then (stated v text ∷ []) else [])) before after
+short v n most pieces text before after some few same note =
+    subst (λ (b : Bool). GoesOnBy (AreNoted (if b then [] else if nat_lt n most then (stated v text ∷ []) else [])) before after) (sym (not_zero n some))
+    (subst (λ (b : Bool). GoesOnBy (AreNoted (if b then (stated v text ∷ []) else [])) before after) (sym (less n most few)) (line_noted v pieces text before after same note))
 
-module _ {X : Type 0} (f : X → List (Option (List ℕ))) where
+module _ {X : Type 0} (f : X → List Line) where
   -- the lines of the elements up to a place, and those of the element there
   pub noted_more : (xs : List X) (i : ℕ) (d : X) (before between after : Option (List AtHost)) → i < length xs → GoesOnBy (AreNoted (flat_map f (take i xs))) before between
       → GoesOnBy (AreNoted (f (get_or xs i d))) between after → GoesOnBy (AreNoted (flat_map f (take (i + 1) xs))) before after
@@ -80,27 +82,27 @@ module _ {X : Type 0} (f : X → List (Option (List ℕ))) where
       let x = get_or xs i d in
       let taken : take (i + 1) xs ≡ take i xs ++ x ∷ [] = take_more xs i d inside in
       let lines : flat_map f (take i xs) ++ f x ≡ flat_map f (take (i + 1) xs) = flat_map_more f [] (take i xs) x ∙ ap (λ ys. flat_map f ys) (sym taken) in
-      subst (λ (ts : List (Option (List ℕ))). GoesOnBy (AreNoted ts) before after) lines (noted_on (flat_map f (take i xs)) (f x) before between after first second)
+      subst (λ (ts : List Line). GoesOnBy (AreNoted ts) before after) lines (noted_on (flat_map f (take i xs)) (f x) before between after first second)
 
-module _ {X : Type 0} (f : X → List ℕ) where
+module _ {X : Type 0} (f : X → Level × List ℕ) where
   -- one line more of a list of lines, of which each is sent
-  pub line_more : (xs : List X) (i : ℕ) (d : X) (line : List ℕ) (before between after : Option (List AtHost)) → i < length xs → line ≡ f (get_or xs i d)
-      → GoesOnBy (λ log. log ≡ map Noted (take i (map f xs))) before between → GoesOnBy (IsNoted (Some line)) between after
-      → GoesOnBy (λ log. log ≡ map Noted (take (i + 1) (map f xs))) before after
-  line_more xs i d line before between after inside is first second =
+  pub line_more : (xs : List X) (i : ℕ) (d : X) (v : Level) (line : List ℕ) (before between after : Option (List AtHost)) → i < length xs → (v, line) ≡ f (get_or xs i d)
+      → GoesOnBy (λ log. log ≡ map noted (take i (map f xs))) before between → GoesOnBy (IsNoted v (Some line)) between after
+      → GoesOnBy (λ log. log ≡ map noted (take (i + 1) (map f xs))) before after
+  line_more xs i d v line before between after inside is first second =
       let x = get_or xs i d in
       let taken : take (i + 1) (map f xs) ≡ take i (map f xs) ++ f x ∷ [] =
-      take-map f (i + 1) xs ∙ (ap (λ (ys : List X). map f ys) (take_more xs i d inside) ∙ (map-append f (take i xs) (x ∷ []) ∙ ap (λ (ls : List (List ℕ)). ls ++ f x ∷ []) (sym (take-map f i xs)))) in
-      let noted : second.more ≡ Noted (f x) ∷ [] = second.holds.2 ∙ ap (λ (o : List ℕ). Noted o ∷ []) (second.holds.1 ∙ is) in
+      take-map f (i + 1) xs ∙ (ap (λ (ys : List X). map f ys) (take_more xs i d inside) ∙ (map-append f (take i xs) (x ∷ []) ∙ ap (λ (ls : List (Level × List ℕ)). ls ++ f x ∷ []) (sym (take-map f i xs)))) in
+      let sent : second.more ≡ noted (f x) ∷ [] = second.holds.2 ∙ (ap (λ (o : List ℕ). Noted v o ∷ []) second.holds.1 ∙ ap (λ (l : Level × List ℕ). noted l ∷ []) is) in
       record {
         more = first.more ++ second.more;
-        holds = ap (λ (l : List AtHost). l ++ second.more) first.holds ∙ (ap (λ (l : List AtHost). map Noted (take i (map f xs)) ++ l) noted
-            ∙ (sym (map-append Noted (take i (map f xs)) (f x ∷ [])) ∙ ap (λ (ls : List (List ℕ)). map Noted ls) (sym taken)));
+        holds = ap (λ (l : List AtHost). l ++ second.more) first.holds ∙ (ap (λ (l : List AtHost). map noted (take i (map f xs)) ++ l) sent
+            ∙ (sym (map-append noted (take i (map f xs)) (f x ∷ [])) ∙ ap (λ (ls : List (Level × List ℕ)). map noted ls) (sym taken)));
         on = goes_on first.more second.more before between after first.on second.on;
       }
 
 -- nothing was said, since there was no memory
-pub unsaid : (lines : List (List ℕ)) (r : Result Unit AllocError) (told : Option (List AtHost)) → IsErr r → GoesOnBy (λ log. AreSaid lines log r) told told
+pub unsaid : (lines : List (Level × List ℕ)) (r : Result Unit AllocError) (told : Option (List AtHost)) → IsErr r → GoesOnBy (λ log. AreSaid lines log r) told told
 unsaid lines (Ok u) told is = absurd (let never : ⊥ = cc in never)
 unsaid lines (Err fault) told is = record { more = []; holds = record { many = 0; log_is = refl; all = tt }; on = stays told }
 
@@ -108,16 +110,16 @@ none_more : (n : ℕ) → n ≤ 0 → nat_lt 0 n ≡ false
 none_more n is = grind (arith, nat_tests)
 
 -- the line of a station's start, and what its peers need
-pub begun_new : (n peers : ℕ) (line : List ℕ) (more : List (Option (List ℕ))) (before between after : Option (List AtHost)) → n ≡ peers → 0 < n
-    → GoesOnBy (IsNoted (Some line)) before between → GoesOnBy (AreNoted more) between after
-    → GoesOnBy (AreNoted (Some line ∷ (if nat_lt 0 peers then more else []))) before after
-begun_new n peers line more before between after same some note noted =
-    subst (λ (b : Bool). GoesOnBy (AreNoted (Some line ∷ (if b then more else []))) before after) (sym (less 0 peers (subst (λ (k : ℕ). 0 < k) same some)))
-    (noted_on (Some line ∷ []) more before between after (line_noted line line before between refl note) noted)
+pub begun_new : (v : Level) (n peers : ℕ) (line : List ℕ) (more : List Line) (before between after : Option (List AtHost)) → n ≡ peers → 0 < n
+    → GoesOnBy (IsNoted v (Some line)) before between → GoesOnBy (AreNoted more) between after
+    → GoesOnBy (AreNoted (stated v line ∷ (if nat_lt 0 peers then more else []))) before after
+begun_new v n peers line more before between after same some note noted =
+    subst (λ (b : Bool). GoesOnBy (AreNoted (stated v line ∷ (if b then more else []))) before after) (sym (less 0 peers (subst (λ (k : ℕ). 0 < k) same some)))
+    (noted_on (stated v line ∷ []) more before between after (line_noted v line line before between refl note) noted)
 
 -- the line of the start of a station without peers
-pub begun_old : (n peers : ℕ) (line : List ℕ) (more : List (Option (List ℕ))) (before after : Option (List AtHost)) → n ≡ peers → n ≤ 0
-    → GoesOnBy (IsNoted (Some line)) before after → GoesOnBy (AreNoted (Some line ∷ (if nat_lt 0 peers then more else []))) before after
-begun_old n peers line more before after same none note =
-    subst (λ (b : Bool). GoesOnBy (AreNoted (Some line ∷ (if b then more else []))) before after) (sym (none_more peers (subst (λ (k : ℕ). k ≤ 0) same none)))
-    (line_noted line line before after refl note)
+pub begun_old : (v : Level) (n peers : ℕ) (line : List ℕ) (more : List Line) (before after : Option (List AtHost)) → n ≡ peers → n ≤ 0
+    → GoesOnBy (IsNoted v (Some line)) before after → GoesOnBy (AreNoted (stated v line ∷ (if nat_lt 0 peers then more else []))) before after
+begun_old v n peers line more before after same none note =
+    subst (λ (b : Bool). GoesOnBy (AreNoted (stated v line ∷ (if b then more else []))) before after) (sym (none_more peers (subst (λ (k : ℕ). k ≤ 0) same none)))
+    (line_noted v line line before after refl note)

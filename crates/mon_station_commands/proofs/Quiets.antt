@@ -8,8 +8,10 @@ use Rattle.std.specs.declared.time.Instant.{Instant}
 use Rattle.mon_console.specs.Failure.{IsSecond, IsTold, IsToldMore}
 use Rattle.mon_console.specs.declared.failure.Failure.{Failure}
 use Rattle.mon_host.specs.AtHost.{AtHost, IsNoted, Noted, Undated, Untimed, Timed, Dated}
+use Rattle.mon_host.specs.declared.level.Level.{Level}
 use Rattle.mon_host.specs.Log.{GoesOnBy}
 use Rattle.mon_host.proofs.Promised.{goes_on, stays, weaker}
+use Rattle.mon_station_commands.specs.Line.{Line, noted}
 use Rattle.mon_station_commands.specs.Pace.{IsDate, IsPassed, IsStopped, IsTime, IsWait}
 use Rattle.mon_station_commands.specs.Quiet.{AreQuiet, is_quiet}
 use Rattle.mon_station_commands.specs.Telling.{AreNoted, AreSaid}
@@ -33,21 +35,21 @@ quiet_on before between after one two = record {
 }
 
 -- lines
-pub are_noted : (texts : List (Option (List ℕ))) (log : List AtHost) → AreNoted texts log → AreQuiet log
+pub are_noted : (texts : List Line) (log : List AtHost) → AreNoted texts log → AreQuiet log
 are_noted [] log is = are_quiet_as [] log is refl
-are_noted (text ∷ texts) log (octets, rest, is, later, log_is) = are_quiet_as (Noted octets ∷ rest) log log_is (are_noted texts rest later)
+are_noted (line ∷ lines) log (octets, rest, is, later, log_is) = are_quiet_as (Noted line.level octets ∷ rest) log log_is (are_noted lines rest later)
 
-pub are_said : (lines : List (List ℕ)) → AreQuiet (map Noted lines)
+pub are_said : (lines : List (Level × List ℕ)) → AreQuiet (map noted lines)
 are_said [] = refl
 are_said (line ∷ lines) = are_said lines
 
-is_second : (more : Option (List ℕ)) (log : List AtHost) → IsSecond more log → AreQuiet log
-is_second (Some more) log is = are_quiet_as _ log is refl
-is_second None log (words, is) = are_quiet_as _ log is refl
+is_second : (v : Level) (more : Option (List ℕ)) (log : List AtHost) → IsSecond v more log → AreQuiet log
+is_second v (Some more) log is = are_quiet_as _ log is refl
+is_second v None log (words, is) = are_quiet_as _ log is refl
 
-pub is_told_more : (memory : Bool) (more : Option (List ℕ)) (log : List AtHost) → IsToldMore memory more log → AreQuiet log
-is_told_more true more log is = are_quiet_as [] log is refl
-is_told_more false more log is = is_second more log is
+pub is_told_more : (v : Level) (memory : Bool) (more : Option (List ℕ)) (log : List AtHost) → IsToldMore v memory more log → AreQuiet log
+is_told_more v true more log is = are_quiet_as [] log is refl
+is_told_more v false more log is = is_second v more log is
 
 is_passed : (origin : Instant) (passed : ℕ) (log : List AtHost) → IsPassed origin log (Ok passed) → AreQuiet log
 is_passed origin passed log (now, is, of) = are_quiet_as (Timed now ∷ []) log is refl
@@ -56,17 +58,17 @@ is_date : (date : ℕ) (log : List AtHost) → IsDate log (Ok date) → AreQuiet
 is_date date log (now, is, of) = are_quiet_as (Dated now ∷ []) log is refl
 
 module _ (before after : Option (List AtHost)) where
-  pub one_line : (text : Option (List ℕ)) → GoesOnBy (IsNoted text) before after → GoesOnBy AreQuiet before after
-  one_line text = weaker (IsNoted text) AreQuiet before after (λ log noted. are_quiet_as (Noted noted.0 ∷ []) log noted.2 refl)
+  pub one_line : (v : Level) (text : Option (List ℕ)) → GoesOnBy (IsNoted v text) before after → GoesOnBy AreQuiet before after
+  one_line v text = weaker (IsNoted v text) AreQuiet before after (λ log is. are_quiet_as (Noted v is.0 ∷ []) log is.2 refl)
 
-  pub lines : (texts : List (Option (List ℕ))) → GoesOnBy (AreNoted texts) before after → GoesOnBy AreQuiet before after
+  pub lines : (texts : List Line) → GoesOnBy (AreNoted texts) before after → GoesOnBy AreQuiet before after
   lines texts = weaker (AreNoted texts) AreQuiet before after (are_noted texts)
 
-  pub said : (texts : List (List ℕ)) (r : Result Unit AllocError) → GoesOnBy (λ log. AreSaid texts log r) before after → GoesOnBy AreQuiet before after
+  pub said : (texts : List (Level × List ℕ)) (r : Result Unit AllocError) → GoesOnBy (λ log. AreSaid texts log r) before after → GoesOnBy AreQuiet before after
   said texts r = weaker (λ log. AreSaid texts log r) AreQuiet before after (λ log is. are_quiet_as _ log is.log_is (are_said (take is.many texts)))
 
-  pub failure : (why : Failure) → GoesOnBy (IsTold why) before after → GoesOnBy AreQuiet before after
-  failure why = weaker (IsTold why) AreQuiet before after (λ log is. are_quiet_as _ log is.log_is (is_told_more _ _ is.rest is.more))
+  pub failure : (v : Level) (why : Failure) → GoesOnBy (IsTold v why) before after → GoesOnBy AreQuiet before after
+  failure v why = weaker (IsTold v why) AreQuiet before after (λ log is. are_quiet_as _ log is.log_is (is_told_more v _ _ is.rest is.more))
 
   pub time : (now : Instant) → GoesOnBy (λ log. IsTime log (Ok now)) before after → GoesOnBy AreQuiet before after
   time now = weaker (λ log. IsTime log (Ok now)) AreQuiet before after (λ log is. are_quiet_as (Timed now ∷ []) log is refl)

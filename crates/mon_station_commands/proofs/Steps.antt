@@ -13,6 +13,8 @@ use Rattle.mon_board.specs.Board.{window_of}
 use Rattle.mon_formats.specs.Formats.{formatted, report_in}
 use Rattle.mon_formats.specs.declared.format.Format.TheVariants.{Text}
 use Rattle.mon_console.specs.declared.printing.Printing.{Printing}
+use Rattle.mon_host.specs.declared.level.Level.{Level}
+use Rattle.mon_host.specs.declared.level.Level.TheVariants as level
 use Rattle.mon_host.specs.AtHost.{AtHost, IsNoted, Noted}
 use Rattle.mon_host.specs.Log.{GoesOnBy}
 use Rattle.mon_host.specs.Then.{Quietly, Then}
@@ -115,15 +117,15 @@ kept_of Step before same after failure start end is kept done = record {
 }
 
 -- one line of which all is stated
-pub line_said : (line : List ℕ) (before after : Option (List AtHost)) → GoesOnBy (IsNoted (Some line)) before after → GoesOnBy (λ log. log ≡ Noted line ∷ []) before after
-line_said line before after = weaker (IsNoted (Some line)) (λ log. log ≡ Noted line ∷ []) before after (λ log is. is.2 ∙ ap (λ (o : List ℕ). Noted o ∷ []) is.1)
+pub line_said : (v : Level) (line : List ℕ) (before after : Option (List AtHost)) → GoesOnBy (IsNoted v (Some line)) before after → GoesOnBy (λ log. log ≡ Noted v line ∷ []) before after
+line_said v line before after = weaker (IsNoted v (Some line)) (λ log. log ≡ Noted v line ∷ []) before after (λ log is. is.2 ∙ ap (λ (o : List ℕ). Noted v o ∷ []) is.1)
 
 -- the line of a file that is not written, and why
 pub unwritten_said : (round : ℕ) (path : List ℕ) (failure : Failure) (before between after : Option (List AtHost))
-    → GoesOnBy (IsNoted (Some (unwritten_line round path))) before between → GoesOnBy (IsTold failure) between after
+    → GoesOnBy (IsNoted level.Warning (Some (unwritten_line round path))) before between → GoesOnBy (IsTold level.Warning failure) between after
     → GoesOnBy (IsUnwritten false round path failure) before after
 unwritten_said round path failure before between after note told =
-    let line = line_said (unwritten_line round path) before between note in
+    let line = line_said level.Warning (unwritten_line round path) before between note in
     record {
       more = line.more ++ told.more;
       holds = (told.more, told.holds, ap (λ (l : List AtHost). l ++ told.more) line.holds);

@@ -4,7 +4,9 @@ use Rattle.std.specs.Time.{system_time_nanos}
 use Rattle.std.specs.declared.time.SystemTime.{SystemTime}
 use Rattle.mon_console.specs.declared.failure.Failure.{Failure}
 use Rattle.mon_host.specs.AtHost.{AtHost, Dated, FileDated, FileUndated, Undated}
+use Rattle.mon_host.specs.declared.level.Level.TheVariants as level
 use Rattle.mon_host.specs.Reason.{Why}
+use Rattle.mon_station_commands.specs.Line.{Line, stated}
 use Rattle.mon_station_commands.specs.Telling.{AreNoted}
 
 -- the whole seconds from one time to another; none if that is before the first
@@ -14,10 +16,11 @@ seconds_between earlier later =
     then Some ((system_time_nanos later - system_time_nanos earlier) / 1_000_000_000) else None
 
 -- the line of how many seconds ago a file was saved, if that is known
-abbrev pub age_lines : (path : List ℕ) → Option ℕ → List (Option (List ℕ))
+abbrev pub age_lines : (path : List ℕ) → Option ℕ → List Line
 age_lines path None = []
 age_lines path (Some seconds) =
-    Some (codes "snmpmon: " ++ (path ++ (codes " was saved " ++ (decimal seconds ++ codes " s ago\n")))) ∷ []
+    stated level.Info (codes "snmpmon: " ++ (path ++ (codes " was saved "
+    ++ (decimal seconds ++ codes " s ago\n")))) ∷ []
 
 -- Of a file that was changed at this time the wall clock is asked, and it is said how many seconds ago
 -- that was. If the clock fails nothing is said, and the age is not known.

@@ -6,9 +6,11 @@ use Rattle.mon_console.specs.declared.failure.Failure.{Failure}
 use Rattle.mon_disk.specs.declared.open_fault.OpenFault.{OpenFault}
 use Rattle.mon_faults.specs.Fault.{station_fault}
 use Rattle.mon_host.specs.AtHost.{AtHost, finding_node}
+use Rattle.mon_host.specs.declared.level.Level.TheVariants as level
 use Rattle.mon_host.specs.declared.reason.Reason.{Reason}
 use Rattle.mon_station.specs.Saved.{IsMovingFault}
 use Rattle.mon_station.specs.declared.fault.StationFault.{StationFault}
+use Rattle.mon_station_commands.specs.Line.{Line, stated}
 use Rattle.mon_station_commands.specs.Opening.{IsOfFile}
 use Rattle.mon_station_commands.specs.Telling.{AreNoted}
 use Rattle.mon_station_commands.specs.declared.keeping.Found.{Found}
@@ -26,9 +28,9 @@ found_by (Ok (Some at)) own = found_at at own
 found_by (Err reason) own = found.Own
 
 -- the line of a file that is gone or another one, unless it is known
-abbrev pub strayed_lines : (round : ℕ) (path what : List ℕ) (known : Bool) → List (Option (List ℕ))
+abbrev pub strayed_lines : (round : ℕ) (path what : List ℕ) (known : Bool) → List Line
 strayed_lines round path what true = []
-strayed_lines round path what false = Some (codes "snmpmon: round "
+strayed_lines round path what false = stated level.Warning (codes "snmpmon: round "
     ++ (decimal round ++ (codes ": " ++ (path ++ (codes " " ++ (what ++ codes "\n")))))) ∷ []
 
 -- the line of windows that are saved again
@@ -44,13 +46,13 @@ IsNoFile path failure = ((fault : OpenFault) × IsOfFile path fault failure)
 -- a failure is said, unless it is known
 abbrev pub IsToldIf : (known : Bool) → Failure → List AtHost → Type 0
 IsToldIf true failure log = log ≡ []
-IsToldIf false failure log = IsTold failure log
+IsToldIf false failure log = IsTold level.Error failure log
 
 -- windows are saved again, and that is said; or it is said why not. `after` is whether they are not.
 abbrev pub IsMoveSaid : (round : ℕ) (path : List ℕ) (known : Bool) → Result Unit Failure → List AtHost
     → (after : Bool) → Type 0
 IsMoveSaid round path known (Ok done) log after =
-    AreNoted (Some (moved_line round path) ∷ []) log × (after ≡ false)
+    AreNoted (stated level.Notice (moved_line round path) ∷ []) log × (after ≡ false)
 IsMoveSaid round path known (Err failure) log after = IsToldIf known failure log × (after ≡ true)
 
 -- What became of a station's file is said, unless it is known, and then whether the windows are saved

@@ -4,6 +4,7 @@ pub mod Ending
 pub mod Figures
 pub mod Keeping
 pub mod Limits
+pub mod Line
 pub mod Opening
 pub mod Pace
 pub mod Places

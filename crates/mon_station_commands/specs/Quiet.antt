@@ -8,7 +8,7 @@ use Rattle.mon_host.specs.AtHost.{AtHost, Dated, NodeFound, NodeUnfound, Noted, 
 abbrev pub is_quiet : AtHost → Bool
 is_quiet (Timed now) = true
 is_quiet (Dated now) = true
-is_quiet (Noted octets) = true
+is_quiet (Noted level octets) = true
 is_quiet (NodeFound path found) = true
 is_quiet (NodeUnfound path why) = true
 is_quiet _ = false

@@ -13,6 +13,7 @@ use Rattle.mon_console.specs.declared.printing.Printing.{Printing}
 use Rattle.mon_formats.specs.Formats.{formatted}
 use Rattle.mon_formats.specs.declared.format.Format.TheVariants.{Text}
 use Rattle.mon_host.specs.AtHost.{AtHost, Noted}
+use Rattle.mon_host.specs.declared.level.Level.TheVariants as level
 use Rattle.mon_host.specs.Then.{Quietly, Then}
 use Rattle.mon_page.specs.declared.figures.Figures.{Figures}
 use Rattle.mon_report.specs.Report.{Entry, announced_from}
@@ -84,12 +85,12 @@ written_line round path =
 abbrev pub IsUnwritten : (known : Bool) → (round : ℕ) (path : List ℕ) → Failure → List AtHost → Type 0
 IsUnwritten true round path failure log = log ≡ []
 IsUnwritten false round path failure log =
-    (rest : List AtHost) × IsTold failure rest × (log ≡ Noted (unwritten_line round path) ∷ rest)
+    (rest : List AtHost) × IsTold level.Warning failure rest × (log ≡ Noted level.Warning (unwritten_line round path) ∷ rest)
 
 -- a file for reports is written: that is said in a line if it was not before
 abbrev pub IsAgain : (failed : Bool) → (round : ℕ) (path : List ℕ) → List AtHost → Type 0
 IsAgain false round path log = log ≡ []
-IsAgain true round path log = log ≡ Noted (written_line round path) ∷ []
+IsAgain true round path log = log ≡ Noted level.Notice (written_line round path) ∷ []
 
 -- What is said of the file for reports, which was not written before for this reason, if there is one:
 -- a failure that is new, and that it is written again.

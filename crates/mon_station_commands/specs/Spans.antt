@@ -9,8 +9,9 @@ use Rattle.mon_console.specs.declared.failure.Failure.{Failure}
 use Rattle.mon_disk.specs.Fault.{number_of}
 use Rattle.mon_disk.specs.declared.fault.KeeperFault.{KeeperFault}
 use Rattle.mon_faults.specs.Fault.{station_fault}
-use Rattle.mon_host.specs.AtHost.{AtHost, Dated, Noted, Timed}
+use Rattle.mon_host.specs.AtHost.{AtHost, Dated, Timed}
 use Rattle.mon_host.specs.Then.{Then}
+use Rattle.mon_host.specs.declared.level.Level.{Level}
 use Rattle.mon_rounds.specs.Grid.{milliseconds_of}
 use Rattle.mon_rounds.specs.Noted.{notices_of}
 use Rattle.mon_rounds.specs.Order.{RoundEvent}
@@ -24,6 +25,7 @@ use Rattle.mon_rounds.specs.declared.round.Span.TheVariants.{Between, Round}
 use Rattle.mon_station.specs.declared.fault.StationFault.{StationFault}
 use Rattle.mon_station.specs.declared.fault.StationFault.TheVariants.{OutOfMemory}
 use Rattle.mon_station.specs.declared.running.Run.{Run}
+use Rattle.mon_station_commands.specs.Line.{noted}
 use Rattle.mon_station_commands.specs.Opening.{last_of, unsaved_in}
 use Rattle.mon_station_commands.specs.Pace.{IsStopped}
 use Rattle.mon_station_commands.specs.Steps.{IsTried, OrMemory}
@@ -70,21 +72,21 @@ AreTroubles true round log result =
 AreTroubles false round log result = (log ≡ []) × (result ≡ Ok tt)
 
 -- The lines of alarms that changed are said, some of them if memory runs out.
-abbrev pub AreAlarms : (lines : List (List ℕ)) → List AtHost → Result Unit Failure → Type 0
-AreAlarms lines log (Ok done) = log ≡ map Noted lines
+abbrev pub AreAlarms : (lines : List (Level × List ℕ)) → List AtHost → Result Unit Failure → Type 0
+AreAlarms lines log (Ok done) = log ≡ map noted lines
 AreAlarms lines log (Err failure) =
-    IsMemory failure × ((many : ℕ) × (log ≡ map Noted (take many lines)))
+    IsMemory failure × ((many : ℕ) × (log ≡ map noted (take many lines)))
 
 -- What is said after the lines of a round: troubles, and the lines of alarms, which differ by whether
 -- it is a whole round.
-abbrev pub AreChanges : (alarms : Bool → List (List ℕ)) → (round : ℕ) → (whole : Bool) → List AtHost
+abbrev pub AreChanges : (alarms : Bool → List (Level × List ℕ)) → (round : ℕ) → (whole : Bool) → List AtHost
     → Result Unit Failure → Type 0
 AreChanges alarms round whole =
     Then (AreTroubles whole round) (λ (said : Unit {0}). AreAlarms (alarms whole))
 
 -- A report was made. Its lines are said, then which agents restarted, and what changed: `alarms` are
 -- the lines of alarms. `before` and `after` are what is kept of the last save.
-pub record IsReportSaid (IsReport : RoundReport → Type 0) (alarms : Bool → List (List ℕ)) (round : ℕ)
+pub record IsReportSaid (IsReport : RoundReport → Type 0) (alarms : Bool → List (Level × List ℕ)) (round : ℕ)
     (whole : Bool) (before after : Option KeeperFault) (log : List AtHost)
     (result : Result Unit Failure) : Type 0 where
   pub report : RoundReport
@@ -102,7 +104,7 @@ abbrev pub IsNoReport : (Failure → Type 0) → List AtHost → Result Unit Fai
 IsNoReport IsWhy log result = (log ≡ []) × IsErrAnd result IsWhy
 
 -- The account of what was run: its report is said, unless there was no memory for that.
-abbrev pub IsReportOr : (IsReport : RoundReport → Type 0) → (alarms : Bool → List (List ℕ)) → (round : ℕ)
+abbrev pub IsReportOr : (IsReport : RoundReport → Type 0) → (alarms : Bool → List (Level × List ℕ)) → (round : ℕ)
     → (whole : Bool) → (before after : Option KeeperFault) → List AtHost → Result Unit Failure → Type 0
 IsReportOr IsReport alarms round whole before after log result =
     (IsNoReport IsMemory log result × (after ≡ before))
@@ -110,7 +112,7 @@ IsReportOr IsReport alarms round whole before after log result =
 
 -- The account of a spell; or there was no memory to run it.
 abbrev pub IsAccountOf : Result Spell StationFault → (IsReport : RoundReport → Type 0)
-    → (alarms : Bool → List (List ℕ)) → (round : ℕ) → (before after : Option KeeperFault) → List AtHost
+    → (alarms : Bool → List (Level × List ℕ)) → (round : ℕ) → (before after : Option KeeperFault) → List AtHost
     → Result Unit Failure → Type 0
 IsAccountOf (Ok spell) IsReport alarms round before after log result =
     IsReportOr IsReport alarms round (is_round spell.span) before after log result
@@ -118,7 +120,7 @@ IsAccountOf (Err fault) IsReport alarms round before after log result =
     IsNoReport (IsPlain (station_fault fault)) log result × (after ≡ before)
 
 -- the account of a span; or there was no memory to run it
-abbrev pub IsAccount : (IsReport : RoundReport → Type 0) → (alarms : Bool → List (List ℕ)) → (round : ℕ)
+abbrev pub IsAccount : (IsReport : RoundReport → Type 0) → (alarms : Bool → List (Level × List ℕ)) → (round : ℕ)
     → (whole : Bool) → (before after : Option KeeperFault) → List AtHost → Result Unit Failure → Type 0
 IsAccount IsReport alarms round whole before after log result =
     IsReportOr IsReport alarms round whole before after log result
@@ -131,7 +133,7 @@ round_after false date before = before
 
 -- A span was run between two looks at the clock. Then its account is given, and a failure of that is
 -- said. `before` and `after` are what is kept.
-pub record IsSpan (IsReport : RoundReport → Type 0) (alarms : Bool → List (List ℕ)) (round : ℕ)
+pub record IsSpan (IsReport : RoundReport → Type 0) (alarms : Bool → List (Level × List ℕ)) (round : ℕ)
     (whole : Bool) (before after : Kept) (log : List AtHost) : Type 0 where
   pub began : Instant
   pub ended : Instant
@@ -144,7 +146,7 @@ pub record IsSpan (IsReport : RoundReport → Type 0) (alarms : Bool → List (L
   pub log_is : log ≡ Timed began ∷ Timed ended ∷ Dated date ∷ rest
 
 -- a span was run; or a clock failed, and no account was given
-abbrev pub IsSpanRun : (IsReport : RoundReport → Type 0) → (alarms : Bool → List (List ℕ)) → (round : ℕ)
+abbrev pub IsSpanRun : (IsReport : RoundReport → Type 0) → (alarms : Bool → List (Level × List ℕ)) → (round : ℕ)
     → (whole : Bool) → (before after : Kept) → List AtHost → Result Unit Failure → Type 0
 IsSpanRun IsReport alarms round whole before after log (Ok done) =
     IsSpan IsReport alarms round whole before after log

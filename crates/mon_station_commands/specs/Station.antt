@@ -6,7 +6,8 @@ use Rattle.mon_cli.specs.declared.meaning.Timing.{Timing}
 use Rattle.mon_console.specs.Labelled.{IsLabelled}
 use Rattle.mon_console.specs.declared.failure.Failure.{Failure}
 use Rattle.mon_console.specs.declared.printing.Printing.{Printing}
-use Rattle.mon_host.specs.AtHost.{AtHost, Noted}
+use Rattle.mon_host.specs.declared.level.Level.TheVariants as level
+use Rattle.mon_host.specs.AtHost.{AtHost, LevelsShown, Noted}
 use Rattle.mon_host.specs.Then.{Quietly, Then}
 use Rattle.mon_settings.specs.declared.station.StationSettings.{StationSettings}
 use Rattle.mon_station.specs.State.{State}
@@ -44,7 +45,7 @@ IsStarted printing s at = IsOpening s.core.station at (string_bytes s.file) (len
 -- the line of where HTTP is served, if it is
 abbrev pub IsWebSaid : Option SocketAddr → List AtHost → Result Unit Failure → Type 0
 IsWebSaid None log result = (log ≡ []) × (result ≡ Ok tt)
-IsWebSaid (Some at) log result = (log ≡ Noted (http_line at) ∷ []) × (result ≡ Ok tt)
+IsWebSaid (Some at) log result = (log ≡ Noted level.Info (http_line at) ∷ []) × (result ≡ Ok tt)
 
 -- the rounds of a station that has begun
 abbrev pub IsRunOf : Timing → Reports → List AtHost → Result Unit Failure → Type 0
@@ -89,6 +90,12 @@ IsStationIf true words log result = IsCheck words.settings.now (option_map (λ l
     words.printed words.timing.interval log result
 IsStationIf false words log result = IsRunning words log result
 
+-- each line's level is shown, if that is asked for
+abbrev pub AreLevels : (shown : Bool) → List AtHost → Result Unit Failure → Type 0
+AreLevels false log result = (log ≡ []) × (result ≡ Ok tt)
+AreLevels true log result = (log ≡ LevelsShown ∷ []) × (result ≡ Ok tt)
+
 -- the command `station`
 abbrev pub IsStation : StationArgs → List AtHost → Result Unit Failure → Type 0
-IsStation words = IsStationIf words.checks words
+IsStation words =
+    Then (AreLevels words.log_levels) (λ (shown : Unit {0}). IsStationIf words.checks words)

@@ -3,6 +3,7 @@ use Rattle.std.specs.Prelude.{◌≡◌, List, [], ◌++◌, if◌then◌else◌
 use Rattle.mon_console.specs.Failure.{IsMemory, IsTold, is_memory}
 use Rattle.mon_console.specs.declared.failure.Failure.{Failure}
 use Rattle.mon_host.specs.AtHost.{AtHost}
+use Rattle.mon_host.specs.declared.level.Level.TheVariants as level
 
 -- a value of which this holds, or memory ran out
 abbrev pub OrMemory : {A : Type 0} → (A → Type 0) → Result A Failure → Type 0
@@ -12,7 +13,7 @@ OrMemory Holds (Err failure) = IsMemory failure
 -- what a step came to: its failure is said on standard error, and returned
 abbrev pub IsSaidOf : Result Unit Failure → List AtHost → Option Failure → Type 0
 IsSaidOf (Ok done) log failure = (log ≡ []) × (failure ≡ None)
-IsSaidOf (Err why) log failure = IsTold why log × (failure ≡ Some why)
+IsSaidOf (Err why) log failure = IsTold level.Warning why log × (failure ≡ Some why)
 
 -- A step is done. If it fails, that is said on standard error.
 pub record IsTried (Step : List AtHost → Result Unit Failure → Type 0) (log : List AtHost) (failure : Option Failure) : Type 0 where

@@ -6,6 +6,8 @@ use Rattle.std.specs.Net.Text.{socket_text}
 use Rattle.std.specs.declared.net.socket_addr.SocketAddr.{SocketAddr}
 use Rattle.mon_alarms.specs.Announcing.{Announcer, announced_of}
 use Rattle.mon_alarms.specs.declared.change.AlarmChange.{AlarmChange}
+use Rattle.mon_alarms.specs.declared.change.AlarmEvent.{AlarmEvent}
+use Rattle.mon_alarms.specs.declared.change.AlarmEvent.TheVariants.{Raised}
 use Rattle.mon_board.specs.declared.board.Board.{Board}
 use Rattle.mon_console.specs.Failure.{IsMemory}
 use Rattle.mon_console.specs.Shown.{shown_by}
@@ -13,6 +15,8 @@ use Rattle.mon_console.specs.declared.failure.Failure.{Failure}
 use Rattle.mon_console.specs.declared.printing.Printing.{Printing}
 use Rattle.mon_formats.specs.Changes.{change_line}
 use Rattle.mon_host.specs.AtHost.{AtHost, Noted}
+use Rattle.mon_host.specs.declared.level.Level.{Level}
+use Rattle.mon_host.specs.declared.level.Level.TheVariants as level
 use Rattle.mon_poller.specs.declared.fault.ResponseFault.TheVariants.{OtherEngine, Stray}
 use Rattle.mon_report.specs.Alarms.{raised_from}
 use Rattle.mon_rounds.specs.Course.{changes_since}
@@ -24,28 +28,34 @@ use Rattle.mon_rounds.specs.declared.reporting.RoundReport.{RoundReport}
 use Rattle.mon_station.specs.State.{State}
 use Rattle.mon_station.specs.declared.fault.StationFault.{StationFault}
 use Rattle.mon_station.specs.declared.fault.StationFault.TheVariants.{Response}
+use Rattle.mon_station_commands.specs.Line.{Line, noted, stated, unstated}
 use Rattle.mon_station_commands.specs.Opening.{IsNoStation}
 use Rattle.mon_udp.specs.Addr.{addr_text}
 use Rattle.mon_udp.specs.declared.addr.Addr.{Addr}
 
--- Lines were sent to standard error, one after another: each has these octets, or some if its text
--- is not stated, since a fault's words are in it.
-abbrev pub AreNoted : List (Option (List ℕ)) → List AtHost → Type 0
+-- Lines were sent to standard error, one after another: each has its level and its octets, or some
+-- octets if its text is not stated.
+abbrev pub AreNoted : List Line → List AtHost → Type 0
 AreNoted [] log = log ≡ []
-AreNoted (text ∷ texts) log = (octets : List ℕ) × (rest : List AtHost)
-    × IfSome text (λ t. octets ≡ t) × AreNoted texts rest × (log ≡ Noted octets ∷ rest)
+AreNoted (line ∷ lines) log = (octets : List ℕ) × (rest : List AtHost)
+    × IfSome line.text (λ t. octets ≡ t) × AreNoted lines rest
+    × (log ≡ Noted line.level octets ∷ rest)
 
 -- the line of a response that was refused; none if another engine answered, or if it came too late,
 -- which are changes
-abbrev pub response_lines : StationFault → List (Option (List ℕ))
+abbrev pub response_lines : StationFault → List Line
 response_lines (Response OtherEngine) = []
 response_lines (Response Stray) = []
-response_lines fault = None ∷ []
+response_lines fault = unstated level.Warning ∷ []
 
--- the line of a save that failed; if the disk did (2), the system's words may be in it
-abbrev pub unsaved_line : (round number : ℕ) → Option (List ℕ)
-unsaved_line round number = if number == 2 then None
+-- the text of a save that failed; if the disk did (2), the system's words may be in it
+abbrev pub unsaved_text : (round number : ℕ) → Option (List ℕ)
+unsaved_text round number = if number == 2 then None
     else Some (codes "snmpmon: round " ++ decimal round ++ codes ": not saved, mon_disk " ++ decimal number ++ codes "\n")
+
+-- the line of a save that failed
+abbrev pub unsaved_line : (round number : ℕ) → Line
+unsaved_line round number = record { level = level.Error; text = unsaved_text round number }
 
 -- the line of a round in which memory ran out
 abbrev pub memory_line : ℕ → List ℕ
@@ -53,15 +63,15 @@ memory_line round = codes "snmpmon: round " ++ decimal round ++ codes ": out of 
 
 -- The line of a notice, if it has one. What stays wrong is said once, as a change, and responses from
 -- addresses of no target are one line.
-abbrev pub notice_lines : ℕ → Notice → List (Option (List ℕ))
+abbrev pub notice_lines : ℕ → Notice → List Line
 notice_lines round (GaveUp target) = []
-notice_lines round (NotPolled target fault) = None ∷ []
+notice_lines round (NotPolled target fault) = unstated level.Warning ∷ []
 notice_lines round (BadResponse from fault) = response_lines fault
 notice_lines round (Astray from) = []
-notice_lines round (BadClaim from fault) = None ∷ []
-notice_lines round (NotShared peer fault) = None ∷ []
+notice_lines round (BadClaim from fault) = unstated level.Warning ∷ []
+notice_lines round (NotShared peer fault) = unstated level.Warning ∷ []
 notice_lines round (NotSaved number) = unsaved_line round number ∷ []
-notice_lines round (NoMemory event) = Some (memory_line round) ∷ []
+notice_lines round (NoMemory event) = stated level.Warning (memory_line round) ∷ []
 
 -- the count of responses from addresses of no target after a notice, as far as 32 bits go
 abbrev pub strays_after : ℕ → Notice → ℕ
@@ -86,24 +96,24 @@ abbrev pub plural : ℕ → List ℕ
 plural n = if n == 1 then [] else codes "s"
 
 -- the line of responses from addresses of no target, if there are any: how many, and the last one
-abbrev pub stray_lines : (round count : ℕ) → Option Addr → List (Option (List ℕ))
+abbrev pub stray_lines : (round count : ℕ) → Option Addr → List Line
 stray_lines round count None = []
-stray_lines round count (Some last) = Some (codes "snmpmon: round " ++ decimal round ++ codes ": "
+stray_lines round count (Some last) = stated level.Warning (codes "snmpmon: round " ++ decimal round ++ codes ": "
     ++ decimal count ++ codes " response" ++ plural count ++ codes " came from addresses of no target, the last from "
     ++ addr_text last ++ codes "\n") ∷ []
 
 -- the line of how often nothing could be received
-abbrev pub unreceived_lines : (round count : ℕ) → List (Option (List ℕ))
+abbrev pub unreceived_lines : (round count : ℕ) → List Line
 unreceived_lines round count = if count == 0 then []
-    else (Some (codes "snmpmon: round " ++ decimal round ++ codes ": nothing could be received, " ++ decimal count ++ codes " time" ++ plural count ++ codes "\n") ∷ [])
+    else (stated level.Warning (codes "snmpmon: round " ++ decimal round ++ codes ": nothing could be received, " ++ decimal count ++ codes " time" ++ plural count ++ codes "\n") ∷ [])
 
 -- the line of how many datagrams could not be sent
-abbrev pub unsent_lines : (round count : ℕ) → List (Option (List ℕ))
+abbrev pub unsent_lines : (round count : ℕ) → List Line
 unsent_lines round count = if count == 0 then []
-    else (Some (codes "snmpmon: round " ++ decimal round ++ codes ": " ++ decimal count ++ codes " datagram" ++ plural count ++ codes " could not be sent\n") ∷ [])
+    else (stated level.Warning (codes "snmpmon: round " ++ decimal round ++ codes ": " ++ decimal count ++ codes " datagram" ++ plural count ++ codes " could not be sent\n") ∷ [])
 
 -- what is said of a round: its notices in order, and what else went wrong
-abbrev pub round_lines : ℕ → RoundReport → List (Option (List ℕ))
+abbrev pub round_lines : ℕ → RoundReport → List Line
 round_lines round report = flat_map (notice_lines round) report.notices.items
     ++ stray_lines round (strays_in report.notices.items) (last_stray report.notices.items)
     ++ unreceived_lines round report.source_faults ++ unsent_lines round report.send_faults
@@ -119,46 +129,59 @@ abbrev pub restart_line : (round number : ℕ) → Addr → (boots : ℕ) → (u
 restart_line round number at boots until = codes "snmpmon: round " ++ (decimal round ++ (codes ": target "
     ++ (decimal number ++ (codes " at " ++ (addr_text at ++ restart_text boots until)))))
 
+-- how grave it is that an agent restarted: if its samples are too old, something is wrong
+abbrev pub restart_level : (until : Option ℕ) → Level
+restart_level None = level.Info
+restart_level (Some time) = level.Warning
+
 -- that line, if there was a restart
-abbrev pub restart_if : (round : ℕ) → TargetAge → Option Restart → List (Option (List ℕ))
+abbrev pub restart_if : (round : ℕ) → TargetAge → Option Restart → List Line
 restart_if round t None = []
-restart_if round t (Some r) = Some (restart_line round (t.number + 1) t.address r.boots r.until) ∷ []
+restart_if round t (Some r) =
+    stated (restart_level r.until) (restart_line round (t.number + 1) t.address r.boots r.until) ∷ []
 
 -- the line of a target whose agent restarted in the last spell
-abbrev pub restart_lines : (round : ℕ) → TargetAge → List (Option (List ℕ))
+abbrev pub restart_lines : (round : ℕ) → TargetAge → List Line
 restart_lines round t = restart_if round t t.clock.restart
 
 -- the line of a text about a round; none if it is empty
-abbrev pub text_lines : ℕ → List ℕ → List (Option (List ℕ))
-text_lines round [] = []
-text_lines round (c ∷ cs) =
-    Some (codes "snmpmon: round " ++ decimal round ++ codes ": " ++ (c ∷ cs) ++ codes "\n") ∷ []
+abbrev pub text_lines : Level → ℕ → List ℕ → List Line
+text_lines level round [] = []
+text_lines level round (c ∷ cs) =
+    stated level (codes "snmpmon: round " ++ decimal round ++ codes ": " ++ (c ∷ cs) ++ codes "\n") ∷ []
 
 -- a line of the program, in a round if it is of one
 abbrev pub line_in : (round : Option ℕ) → List ℕ → List ℕ
 line_in None line = codes "snmpmon: " ++ line ++ codes "\n"
 line_in (Some round) line = codes "snmpmon: round " ++ decimal round ++ codes ": " ++ line ++ codes "\n"
 
+-- how grave what became of an alarm is
+abbrev pub alarm_level : AlarmEvent → Level
+alarm_level (Raised boots time) = level.Warning
+alarm_level _ = level.Notice
+
 -- the line of an alarm of a board, in a round if it changed in one
-abbrev pub alarm_note : (round : Option ℕ) → Printing → Board → AlarmChange → List ℕ
-alarm_note round printing board change =
-    line_in round (change_line (shown_by printing.names) board printing.labels.items change)
+abbrev pub alarm_note : (round : Option ℕ) → Printing → Board → AlarmChange → Level × List ℕ
+alarm_note round printing board change = (
+  alarm_level change.event,
+  line_in round (change_line (shown_by printing.names) board printing.labels.items change),
+)
 
 -- Some of these lines were sent to standard error, from the first one on; all, unless memory ran out.
-pub record AreSaid (lines : List (List ℕ)) (log : List AtHost) (result : Result Unit AllocError) : Type 0 where
+pub record AreSaid (lines : List (Level × List ℕ)) (log : List AtHost) (result : Result Unit AllocError) : Type 0 where
   pub many : ℕ
-  pub log_is : log ≡ map Noted (take many lines)
+  pub log_is : log ≡ map noted (take many lines)
   pub all : OnOk result (take many lines ≡ lines)
 
 -- the lines of what is announced of a board's alarms in a round, whose windows were seen so before: at
 -- a look, or between two
 abbrev pub announced_notes : Printing → (round : ℕ) → Board → (seen : List (List ℕ)) → Announcer
-    → (looks : Bool) → List (List ℕ)
+    → (looks : Bool) → List (Level × List ℕ)
 announced_notes printing round board seen announcer looks =
     map (alarm_note (Some round) printing board) (announced_of looks (changes_since board seen) announcer)
 
 -- the lines of the alarms of a board that are raised, in order
-abbrev pub raised_notes : Printing → Board → List (List ℕ)
+abbrev pub raised_notes : Printing → Board → List (Level × List ℕ)
 raised_notes printing board = map (alarm_note None printing board) (raised_from board 0 board.watch.rules)
 
 -- the line of where a station is and what it polls
@@ -169,16 +192,16 @@ start_line number at incarnation file targets peers =
     ++ codes ", targets: " ++ decimal targets ++ codes ", peers: " ++ decimal peers ++ codes "\n"
 
 -- the line of what the peers of a station need whose file is new, as its first incarnation says
-abbrev pub new_lines : (number incarnation : ℕ) → List (Option (List ℕ))
+abbrev pub new_lines : (number incarnation : ℕ) → List Line
 new_lines number incarnation = if incarnation == 1
-    then (Some (codes "snmpmon: station " ++ decimal number ++ codes " has a new file: a peer that knows it from before must be started again, or it offers nothing old\n") ∷ [])
+    then (stated level.Warning (codes "snmpmon: station " ++ decimal number ++ codes " has a new file: a peer that knows it from before must be started again, or it offers nothing old\n") ∷ [])
     else []
 
 -- the lines of a station that begins: where it is, and if it has peers what these need
 abbrev pub start_lines : (number : ℕ) (at : SocketAddr) (incarnation : ℕ) (file : List ℕ) (targets peers : ℕ)
-    → List (Option (List ℕ))
+    → List Line
 start_lines number at incarnation file targets peers =
-    Some (start_line number at incarnation file targets peers)
+    stated level.Info (start_line number at incarnation file targets peers)
     ∷ (if nat_lt 0 peers then new_lines number incarnation else [])
 
 -- the line of where a station serves HTTP
@@ -186,15 +209,15 @@ abbrev pub http_line : SocketAddr → List ℕ
 http_line at = codes "snmpmon: HTTP at " ++ socket_text at ++ codes "\n"
 
 -- the line of a file that is shorter than a station's, and not empty
-abbrev pub short_lines : (path : List ℕ) (size : ℕ) → List (Option (List ℕ))
+abbrev pub short_lines : (path : List ℕ) (size : ℕ) → List Line
 short_lines path size = if size == 0 then []
     else if nat_lt size 2097152 then
-    (Some (codes "snmpmon: " ++ path ++ codes " has " ++ decimal size
+    (stated level.Warning (codes "snmpmon: " ++ path ++ codes " has " ++ decimal size
     ++ codes " octets, so it is no station's file yet: it is laid out as one\n") ∷ [])
     else []
 
 -- the same, if the size is known
-abbrev pub short_lines_of : {E : Type 0} → (path : List ℕ) → Result ℕ E → List (Option (List ℕ))
+abbrev pub short_lines_of : {E : Type 0} → (path : List ℕ) → Result ℕ E → List Line
 short_lines_of path (Ok size) = short_lines path size
 short_lines_of path (Err fault) = []
 
@@ -204,9 +227,9 @@ first_line left = codes "snmpmon: the first round begins in " ++ decimal (left /
     ++ decimal (left % 1000 / 100) ++ codes " s\n"
 
 -- the line of a round that took longer than the interval, both in milliseconds
-abbrev pub outrun_lines : (round took interval : ℕ) → List (Option (List ℕ))
+abbrev pub outrun_lines : (round took interval : ℕ) → List Line
 outrun_lines round took interval = if nat_lt interval took then
-    (Some (codes "snmpmon: round " ++ decimal round ++ codes " took " ++ decimal (took / 1000) ++ codes "."
+    (stated level.Warning (codes "snmpmon: round " ++ decimal round ++ codes " took " ++ decimal (took / 1000) ++ codes "."
     ++ decimal (took % 1000 / 100) ++ codes " s of " ++ decimal (interval / 1000) ++ codes " s\n") ∷ [])
     else []
 

@@ -10,6 +10,8 @@ use Rattle.mon_board.specs.declared.instance.Watched.{Watched}
 use Rattle.mon_console.specs.Shown.{shown_by}
 use Rattle.mon_formats.specs.Changes.{instance_text}
 use Rattle.mon_host.specs.AtHost.{AtHost}
+use Rattle.mon_host.specs.declared.level.Level.{Level}
+use Rattle.mon_host.specs.declared.level.Level.TheVariants as level
 use Rattle.mon_reasons.specs.Latest.{other_engine}
 use Rattle.mon_reasons.specs.Words.{reason_text}
 use Rattle.mon_reasons.specs.declared.latest.Datagram.{Datagram}
@@ -22,6 +24,7 @@ use Rattle.mon_rounds.specs.declared.freshness.InstanceAge.{InstanceAge}
 use Rattle.mon_rounds.specs.declared.freshness.PeerAge.{PeerAge}
 use Rattle.mon_rounds.specs.declared.freshness.TargetAge.{TargetAge}
 use Rattle.mon_station.specs.declared.fault.StationFault.{StationFault}
+use Rattle.mon_station_commands.specs.Line.{Line, unstated}
 use Rattle.mon_station_commands.specs.Telling.{AreNoted, plural, text_lines}
 use Rattle.mon_station_commands.specs.declared.troubles.Facts.{Facts}
 use Rattle.mon_station_commands.specs.declared.troubles.Key.{Key}
@@ -37,9 +40,9 @@ abbrev pub BeginsWith : List ℕ → List ℕ → Type 0
 BeginsWith begin text = (rest : List ℕ) × (text ≡ begin ++ rest)
 
 -- the lines of a text about a round, if it is known; else one line
-abbrev pub lines_of : (round : ℕ) → Option (List ℕ) → List (Option (List ℕ))
-lines_of round (Some text) = text_lines round text
-lines_of round None = None ∷ []
+abbrev pub lines_of : Level → (round : ℕ) → Option (List ℕ) → List Line
+lines_of level round (Some text) = text_lines level round text
+lines_of level round None = unstated level ∷ []
 
 -- which target it is, by its number from 1, and its address
 abbrev pub target_text : TargetAge → List ℕ
@@ -259,11 +262,22 @@ text_of facts keys place (Some key) =
 abbrev pub text_at : Facts → List KeyText → (place : ℕ) → Option (List ℕ)
 text_at facts keys place = text_of facts keys place (slice_get keys place)
 
+-- how grave a trouble is that begins, or that ends
+abbrev pub trouble_level : (begins : Bool) → Level
+trouble_level true = level.Warning
+trouble_level false = level.Notice
+
+-- how grave the change at a place is, if there is one
+abbrev pub level_of : Option KeyText → Level
+level_of None = level.Notice
+level_of (Some key) = trouble_level key.change.begins
+
 -- the lines of the changes before a place
-abbrev pub lines_before : Facts → (round : ℕ) → List KeyText → (place : ℕ) → List (Option (List ℕ))
+abbrev pub lines_before : Facts → (round : ℕ) → List KeyText → (place : ℕ) → List Line
 lines_before facts round keys zero = []
 lines_before facts round keys (suc n) =
-    lines_before facts round keys n ++ lines_of round (text_at facts keys n)
+    lines_before facts round keys n
+    ++ lines_of (level_of (slice_get keys n)) round (text_at facts keys n)
 
 -- the lines of troubles that begin or end were sent to standard error
 abbrev pub AreAllSaid : Facts → (round : ℕ) → List Change → List AtHost → Type 0
@@ -272,7 +286,7 @@ AreAllSaid facts round changes log =
 
 -- some lines were sent to standard error
 abbrev pub AreSomeSaid : List AtHost → Type 0
-AreSomeSaid log = (lines : List (Option (List ℕ))) × AreNoted lines log
+AreSomeSaid log = (lines : List Line) × AreNoted lines log
 
 -- the lines of troubles were sent; some lines were, if memory ran out
 abbrev pub AreTroublesSaid : Facts → (round : ℕ) → List Change → List AtHost → Result Unit AllocError

@@ -5,7 +5,7 @@ ghost use Rattle.mon_host.specs.Log.{GoesOnBy};
 ghost use Rattle.mon_station_commands.specs.Age.{IsAgeSaid, IsSinceSaid, age_lines, seconds_between};
 ghost use Rattle.mon_station_commands.specs.Telling.{AreNoted};
 
-use mon_host::Host;
+use mon_host::{Host, Level};
 use std::time::SystemTime;
 
 /// Says how many seconds ago the file at a path was saved, and returns it: when it was changed last, by
@@ -50,6 +50,9 @@ fn tell_seconds<H: Host>(host: &mut H, path: &str, seconds: Option<u64>)
 {
     match seconds {
         None => {}
-        Some(seconds) => host.note(format_args!("snmpmon: {path} was saved {seconds} s ago\n")),
+        Some(seconds) => host.note(
+            Level::Info,
+            format_args!("snmpmon: {path} was saved {seconds} s ago\n"),
+        ),
     }
 }

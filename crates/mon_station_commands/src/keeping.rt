@@ -10,7 +10,7 @@ use crate::live::Live;
 use crate::opening::{or_file_failure, unopened};
 use mon_console::Failure;
 use mon_disk::FileDisk;
-use mon_host::{Host, Reason};
+use mon_host::{Host, Level, Reason};
 use mon_rounds::Receiver;
 use mon_station::Outbox;
 use std::fs::File;
@@ -119,7 +119,10 @@ fn tell_strayed<H: Host>(host: &mut H, round: u32, path: &str, what: &str, known
         (H.log host.old) (H.log host.new) }
 {
     if !known {
-        host.note(format_args!("snmpmon: round {round}: {path} {what}\n"));
+        host.note(
+            Level::Warning,
+            format_args!("snmpmon: round {round}: {path} {what}\n"),
+        );
     }
 }
 
@@ -157,14 +160,15 @@ fn tell_moved<H: Host>(
 {
     match moved {
         Ok(()) => {
-            host.note(format_args!(
-                "snmpmon: round {round}: the windows are saved to {path} again\n"
-            ));
+            host.note(
+                Level::Notice,
+                format_args!("snmpmon: round {round}: the windows are saved to {path} again\n"),
+            );
             false
         }
         Err(failure) => {
             if !known {
-                failure.tell(host);
+                failure.tell(host, Level::Error);
             }
             true
         }

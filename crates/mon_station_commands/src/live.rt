@@ -27,7 +27,7 @@ use crate::troubles::{Facts, tell_troubles as say_troubles};
 use mon_console::{Failure, Printing};
 use mon_core::Core;
 use mon_disk::{FileDisk, KeeperFault};
-use mon_host::Host;
+use mon_host::{Host, Level};
 use mon_poller::Target;
 use mon_rounds::{
     Addresses, Course, Freshness, Notice, Receiver, RoundEvent, RoundReport, Rounds, Sends,
@@ -323,9 +323,12 @@ fn tell_start<H: Host, S: Receiver + Drop, O: Outbox + Drop>(
 {
     let number = transport.number;
     let (targets, peers) = (transport.engines.len(), transport.peers.len());
-    host.note(format_args!(
-        "snmpmon: station {number} at {at}, incarnation {incarnation}, file {file}, targets: {targets}, peers: {peers}\n"
-    ));
+    host.note(
+        Level::Info,
+        format_args!(
+            "snmpmon: station {number} at {at}, incarnation {incarnation}, file {file}, targets: {targets}, peers: {peers}\n"
+        ),
+    );
     if peers > 0 {
         tell_new(host, number, incarnation);
     }
@@ -336,9 +339,12 @@ fn tell_new<H: Host>(host: &mut H, number: u32, incarnation: u32)
     ensures { GoesOnBy (AreNoted (new_lines number incarnation)) (H.log host.old) (H.log host.new) }
 {
     if incarnation == 1 {
-        host.note(format_args!(
-            "snmpmon: station {number} has a new file: a peer that knows it from before must be started again, or it offers nothing old\n"
-        ));
+        host.note(
+            Level::Warning,
+            format_args!(
+                "snmpmon: station {number} has a new file: a peer that knows it from before must be started again, or it offers nothing old\n"
+            ),
+        );
     }
 }
 

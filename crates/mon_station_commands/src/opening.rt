@@ -14,7 +14,7 @@ use mon_board::Board;
 use mon_cli::ReportArgs;
 use mon_console::{Failure, Fault, Printing, print, read_labelled_station, read_part};
 use mon_disk::{Disk, DiskError, FileDisk, KeeperFault, OpenFault, SLOT_SIZE};
-use mon_host::{Host, Part, Reason};
+use mon_host::{Host, Level, Part, Reason};
 use mon_settings::StationSettings;
 use mon_station::{Innermost, StationFault, board_in};
 use mon_udp::Addr;
@@ -133,9 +133,12 @@ fn warn_of_size<H: Host>(host: &mut H, path: &str, size: u64)
     ensures { GoesOnBy (AreNoted (short_lines path.now size)) (H.log host.old) (H.log host.new) }
 {
     if is_short(size) {
-        host.note(format_args!(
-            "snmpmon: {path} has {size} octets, so it is no station's file yet: it is laid out as one\n"
-        ));
+        host.note(
+            Level::Warning,
+            format_args!(
+                "snmpmon: {path} has {size} octets, so it is no station's file yet: it is laid out as one\n"
+            ),
+        );
     }
 }
 

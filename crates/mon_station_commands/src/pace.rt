@@ -1,6 +1,7 @@
 //! When a station's rounds begin.
 
 ghost use Rattle.std.specs.Prelude.{◌≡◌, ◌*◌, ◌%◌, ◌≤◌, ◌-◌, ℕ, [], None, Some, length};
+ghost use Rattle.mon_host.specs.declared.level.Level.TheVariants.{Info};
 ghost use Rattle.mon_host.specs.AtHost.{IsNoted};
 ghost use Rattle.mon_host.specs.Log.{GoesOnBy};
 ghost use Rattle.mon_rounds.specs.Grid.{share_of};
@@ -10,7 +11,7 @@ ghost use Rattle.mon_station_commands.specs.Telling.{AreNoted, first_line, outru
 use crate::live::{Live, Transport, run_span};
 use mon_cli::Timing;
 use mon_console::Failure;
-use mon_host::Host;
+use mon_host::{Host, Level};
 use mon_rounds::{Receiver, Span, left_of, milliseconds, next_start, phase_of};
 use mon_station::Outbox;
 use mon_web_receiver::Shows;
@@ -70,10 +71,13 @@ pub(crate) fn start_pace<H: Host, S: Shows + Drop, O: Outbox + Drop>(
 
 /// Reports in how many milliseconds the first round begins.
 fn tell_first<H: Host>(host: &mut H, left: u64)
-    ensures { GoesOnBy (IsNoted (Some (first_line left))) (H.log host.old) (H.log host.new) }
+    ensures { GoesOnBy (IsNoted Info (Some (first_line left))) (H.log host.old) (H.log host.new) }
 {
     let (seconds, tenths) = (left / 1000, left % 1000 / 100);
-    host.note(format_args!("snmpmon: the first round begins in {seconds}.{tenths} s\n"));
+    host.note(
+        Level::Info,
+        format_args!("snmpmon: the first round begins in {seconds}.{tenths} s\n"),
+    );
 }
 
 /// Returns how many milliseconds after whole intervals of the wall clock rounds begin, if they keep to
@@ -131,9 +135,10 @@ fn tell_outrun<H: Host>(host: &mut H, number: u32, pace: Pace, passed: u64)
     if took > pace.interval {
         let (seconds, tenths) = (took / 1000, took % 1000 / 100);
         let interval = pace.interval / 1000;
-        host.note(format_args!(
-            "snmpmon: round {number} took {seconds}.{tenths} s of {interval} s\n"
-        ));
+        host.note(
+            Level::Warning,
+            format_args!("snmpmon: round {number} took {seconds}.{tenths} s of {interval} s\n"),
+        );
     }
 }
 

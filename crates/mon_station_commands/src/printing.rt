@@ -16,7 +16,7 @@ use crate::figures::make_figures;
 use crate::live::Live;
 use mon_board::Board;
 use mon_console::{Failure, print, publish_file};
-use mon_host::Host;
+use mon_host::{Host, Level};
 use mon_report::{announced_entries, write_report};
 use mon_rounds::Receiver;
 use mon_station::Outbox;
@@ -82,7 +82,7 @@ pub(crate) fn said<H: Host>(host: &mut H, done: Result<(), Failure>) -> Option<F
     match done {
         Ok(()) => None,
         Err(failure) => {
-            failure.tell(host);
+            failure.tell(host, Level::Warning);
             Some(failure)
         }
     }
@@ -241,7 +241,10 @@ fn tell_written<H: Host>(host: &mut H, round: u32, path: &str, failed: bool)
     ensures { GoesOnBy (IsAgain failed round path.now) (H.log host.old) (H.log host.new) }
 {
     if failed {
-        host.note(format_args!("snmpmon: round {round}: {path} is written again\n"));
+        host.note(
+            Level::Notice,
+            format_args!("snmpmon: round {round}: {path} is written again\n"),
+        );
     }
 }
 
@@ -249,8 +252,11 @@ fn tell_written<H: Host>(host: &mut H, round: u32, path: &str, failed: bool)
 fn tell_unwritten<H: Host>(host: &mut H, round: u32, path: &str, failure: &Failure)
     ensures { GoesOnBy (IsUnwritten false round path.now failure.now) (H.log host.old) (H.log host.new) }
 {
-    host.note(format_args!("snmpmon: round {round}: {path} is not written\n"));
-    failure.tell(host);
+    host.note(
+        Level::Warning,
+        format_args!("snmpmon: round {round}: {path} is not written\n"),
+    );
+    failure.tell(host, Level::Warning);
 }
 
 /// Returns `true` if a failure was said before: memory was refused both times, or neither time.

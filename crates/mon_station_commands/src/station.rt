@@ -1,8 +1,9 @@
 //! The command `station`.
 
-ghost use Rattle.std.specs.Prelude.{◌≡◌, IfErr, IfOk, IsOk, None, OnOk, Some, map, option_copied, option_map, string_bytes};
+ghost use Rattle.std.specs.Prelude.{◌≡◌, IfErr, IfOk, IsOk, None, Ok, OnOk, Some, map, option_copied, option_map, string_bytes};
 ghost use Rattle.mon_disk.specs.declared.fault.KeeperFault.{KeeperFault};
 ghost use Rattle.mon_faults.specs.declared.fault.Fault.TheVariants.{Keeper};
+ghost use Rattle.mon_host.specs.declared.level.Level.TheVariants.{Info};
 ghost use Rattle.mon_host.specs.AtHost.{IsNoted};
 ghost use Rattle.mon_host.specs.Log.{GoesOnBy};
 ghost use Rattle.mon_station_commands.specs.Checking.{HasFile, IsCheck};
@@ -10,7 +11,7 @@ ghost use Rattle.mon_station_commands.specs.Ending.{IsEnded};
 ghost use Rattle.mon_station_commands.specs.Limits.{longest_gap};
 ghost use Rattle.mon_station_commands.specs.Places.{IsDoor, IsNoSocket, IsPlaceAt, IsShownOpened, IsUnseenOpened};
 ghost use Rattle.mon_station_commands.specs.Rounds.{AreRun, IsBetween, IsLastRun, IsRoundRun, IsRun};
-ghost use Rattle.mon_station_commands.specs.Station.{ArePaths, AreReports, IsRunning, IsSeen, IsSeenIf, IsStation, IsUnseen};
+ghost use Rattle.mon_station_commands.specs.Station.{AreLevels, ArePaths, AreReports, IsRunning, IsSeen, IsSeenIf, IsStation, IsStationIf, IsUnseen};
 ghost use Rattle.mon_station_commands.specs.Steps.{OrMemory, SomeOr, only};
 ghost use Rattle.mon_station_commands.specs.Telling.{http_line};
 
@@ -23,7 +24,7 @@ use crate::printing::{print_between, print_last, write_out};
 use crate::showing::show;
 use mon_cli::{StationArgs, Timing};
 use mon_console::{Failure, Printing, read_labelled_station};
-use mon_host::Host;
+use mon_host::{Host, Level};
 use mon_rounds::{Receiver, SocketReceiver, Span, is_due};
 use mon_settings::StationSettings;
 use mon_station::Outbox;
@@ -44,6 +45,28 @@ pub fn run_station<R: Clock + Files<File = File> + Net + AllocGlobal, H: Host>(
     words: StationArgs<'_, '_>,
 ) -> Result<(), Failure>
     ensures { GoesOnBy (λ log. IsStation words.entry log result) (H.log host.old) (H.log host.new) }
+{
+    show_levels_if(host, words.log_levels);
+    run_or_check(rt, host, words)
+}
+
+/// Has each line's level shown, if the arguments say so.
+fn show_levels_if<H: Host>(host: &mut H, shown: bool)
+    ensures { GoesOnBy (λ log. AreLevels shown log (Ok tt)) (H.log host.old) (H.log host.new) }
+{
+    if shown {
+        host.show_levels();
+    }
+}
+
+/// Runs the station of the settings, or only prints what limits it.
+fn run_or_check<R: Clock + Files<File = File> + Net + AllocGlobal, H: Host>(
+    rt: &R,
+    host: &mut H,
+    words: StationArgs<'_, '_>,
+) -> Result<(), Failure>
+    ensures { GoesOnBy (λ log. IsStationIf words.entry.checks words.entry log result)
+        (H.log host.old) (H.log host.new) }
 {
     if words.checks {
         return check_station(rt.alloc(), host, words);
@@ -225,9 +248,9 @@ fn run_shown<R: Clock + Files<File = File> + Net + AllocGlobal, H: Host>(
 
 /// Prints where a station serves HTTP.
 fn tell_http<H: Host>(host: &mut H, at: SocketAddr)
-    ensures { GoesOnBy (IsNoted (Some (http_line at))) (H.log host.old) (H.log host.new) }
+    ensures { GoesOnBy (IsNoted Info (Some (http_line at))) (H.log host.old) (H.log host.new) }
 {
-    host.note(format_args!("snmpmon: HTTP at {at}\n"));
+    host.note(Level::Info, format_args!("snmpmon: HTTP at {at}\n"));
 }
 
 /// What a station that serves HTTP has opened.

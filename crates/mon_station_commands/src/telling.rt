@@ -5,14 +5,16 @@ ghost use Rattle.std.specs.List.{flat_map};
 ghost use Rattle.mon_host.specs.AtHost.{IsNoted};
 ghost use Rattle.mon_host.specs.Log.{GoesOnBy};
 ghost use Rattle.mon_station.specs.State.{state_of};
-ghost use Rattle.mon_station_commands.specs.Telling.{AreNoted, AreSaid, alarm_note, last_stray, line_in, memory_line, notice_lines, plural, raised_notes, response_lines, restart_line, restart_lines, round_lines, stray_lines, strays_in, unreceived_lines, unsaved_line, unsent_lines};
+ghost use Rattle.mon_host.specs.declared.level.Level.TheVariants.{Warning};
+ghost use Rattle.mon_station_commands.specs.Line.{stated, unstated};
+ghost use Rattle.mon_station_commands.specs.Telling.{AreNoted, AreSaid, alarm_level, alarm_note, last_stray, line_in, memory_line, notice_lines, plural, raised_notes, response_lines, restart_level, restart_line, restart_lines, round_lines, stray_lines, strays_in, unreceived_lines, unsaved_line, unsent_lines};
 
 use crate::live::Live;
-use mon_alarms::AlarmChange;
+use mon_alarms::{AlarmChange, AlarmEvent};
 use mon_board::Board;
 use mon_console::Printing;
 use mon_disk::KeeperFault;
-use mon_host::Host;
+use mon_host::{Host, Level};
 use mon_poller::ResponseFault;
 use mon_report::raised_alarms;
 use mon_rounds::{Addresses, Notice, Receiver, Restart, RoundReport, TargetAge};
@@ -81,12 +83,13 @@ fn tell_notice<H: Host, S: Receiver + Drop, O: Outbox + Drop>(
 
 /// Prints that a target was not polled.
 fn tell_unpolled<H: Host>(host: &mut H, round: u32, number: u32, at: Addr, fault: StationFault)
-    ensures { GoesOnBy (AreNoted (None ∷ []))
+    ensures { GoesOnBy (AreNoted (unstated Warning ∷ []))
         (H.log host.old) (H.log host.new) }
 {
-    host.note(format_args!(
-        "snmpmon: round {round}: target {number} at {at} was not polled: {fault}\n"
-    ));
+    host.note(
+        Level::Warning,
+        format_args!("snmpmon: round {round}: target {number} at {at} was not polled: {fault}\n"),
+    );
 }
 
 /// Prints that a response was refused, except if another engine than the target's answered, or if it
@@ -97,34 +100,44 @@ fn tell_response<H: Host>(host: &mut H, round: u32, from: Addr, fault: StationFa
 {
     match fault {
         StationFault::Response(ResponseFault::OtherEngine | ResponseFault::Stray) => {}
-        _ => host.note(format_args!("snmpmon: round {round}: from target {from}: {fault}\n")),
+        _ => host.note(
+            Level::Warning,
+            format_args!("snmpmon: round {round}: from target {from}: {fault}\n"),
+        ),
     }
 }
 
 /// Prints that a claim was refused.
 fn tell_claim<H: Host>(host: &mut H, round: u32, from: Addr, fault: StationFault)
-    ensures { GoesOnBy (AreNoted (None ∷ []))
+    ensures { GoesOnBy (AreNoted (unstated Warning ∷ []))
         (H.log host.old) (H.log host.new) }
 {
-    host.note(format_args!("snmpmon: round {round}: from peer {from}: {fault}\n"));
+    host.note(
+        Level::Warning,
+        format_args!("snmpmon: round {round}: from peer {from}: {fault}\n"),
+    );
 }
 
 /// Prints that a peer was offered nothing.
 fn tell_unshared<H: Host>(host: &mut H, round: u32, peer: u32, fault: StationFault)
-    ensures { GoesOnBy (AreNoted (None ∷ []))
+    ensures { GoesOnBy (AreNoted (unstated Warning ∷ []))
         (H.log host.old) (H.log host.new) }
 {
-    host.note(format_args!(
-        "snmpmon: round {round}: station {peer} was offered nothing: {fault}\n"
-    ));
+    host.note(
+        Level::Warning,
+        format_args!("snmpmon: round {round}: station {peer} was offered nothing: {fault}\n"),
+    );
 }
 
 /// Prints that memory ran out.
 fn tell_memory<H: Host>(host: &mut H, round: u32)
-    ensures { GoesOnBy (AreNoted (Some (memory_line round) ∷ []))
+    ensures { GoesOnBy (AreNoted (stated Warning (memory_line round) ∷ []))
         (H.log host.old) (H.log host.new) }
 {
-    host.note(format_args!("snmpmon: round {round}: out of memory\n"));
+    host.note(
+        Level::Warning,
+        format_args!("snmpmon: round {round}: out of memory\n"),
+    );
 }
 
 /// Prints that the windows were not saved, with the system's reason if the disk failed.
@@ -138,14 +151,21 @@ fn tell_unsaved<H: Host, S: Receiver + Drop, O: Outbox + Drop>(
         (H.log host.old) (H.log host.new) }
 {
     if number != KeeperFault::DiskFault.number() {
-        host.note(format_args!("snmpmon: round {round}: not saved, mon_disk {number}\n"));
+        host.note(
+            Level::Error,
+            format_args!("snmpmon: round {round}: not saved, mon_disk {number}\n"),
+        );
         return;
     }
     match live.station.disk().last_error() {
-        Some(error) => host.note(format_args!(
-            "snmpmon: round {round}: not saved, mon_disk {number}: {error}\n"
-        )),
-        None => host.note(format_args!("snmpmon: round {round}: not saved, mon_disk {number}\n")),
+        Some(error) => host.note(
+            Level::Error,
+            format_args!("snmpmon: round {round}: not saved, mon_disk {number}: {error}\n"),
+        ),
+        None => host.note(
+            Level::Error,
+            format_args!("snmpmon: round {round}: not saved, mon_disk {number}\n"),
+        ),
     }
 }
 
@@ -173,9 +193,12 @@ fn tell_strays<H: Host>(host: &mut H, round: u32, count: u32, last: Option<Addr>
 {
     if let Some(from) = last {
         let end = plural(u64::from(count));
-        host.note(format_args!(
-            "snmpmon: round {round}: {count} response{end} came from addresses of no target, the last from {from}\n"
-        ));
+        host.note(
+            Level::Warning,
+            format_args!(
+                "snmpmon: round {round}: {count} response{end} came from addresses of no target, the last from {from}\n"
+            ),
+        );
     }
 }
 
@@ -186,9 +209,10 @@ fn tell_unreceived<H: Host>(host: &mut H, round: u32, count: u64)
 {
     if count != 0 {
         let end = plural(count);
-        host.note(format_args!(
-            "snmpmon: round {round}: nothing could be received, {count} time{end}\n"
-        ));
+        host.note(
+            Level::Warning,
+            format_args!("snmpmon: round {round}: nothing could be received, {count} time{end}\n"),
+        );
     }
 }
 
@@ -199,9 +223,10 @@ fn tell_unsent<H: Host>(host: &mut H, round: u32, count: u64)
 {
     if count != 0 {
         let end = plural(count);
-        host.note(format_args!(
-            "snmpmon: round {round}: {count} datagram{end} could not be sent\n"
-        ));
+        host.note(
+            Level::Warning,
+            format_args!("snmpmon: round {round}: {count} datagram{end} could not be sent\n"),
+        );
     }
 }
 
@@ -229,18 +254,25 @@ fn tell_restart<H: Host>(host: &mut H, round: u32, target: &TargetAge)
 /// Prints that a target's agent restarted with this number of boots, and until when its samples are
 /// too old if it did not raise them.
 fn tell_boots<H: Host>(host: &mut H, round: u32, target: &TargetAge, restart: Restart)
-    ensures { GoesOnBy (AreNoted (Some (restart_line round (target.now.number + 1) target.now.address restart.boots restart.until) ∷ []))
+    ensures { GoesOnBy (AreNoted (stated (restart_level restart.until) (restart_line round
+        (target.now.number + 1) target.now.address restart.boots restart.until) ∷ []))
         (H.log host.old) (H.log host.new) }
 {
     let (number, at) = (u32::from(target.number) + 1, target.address);
     let boots = restart.boots;
     match restart.until {
-        None => host.note(format_args!(
-            "snmpmon: round {round}: target {number} at {at} restarted: boots {boots}\n"
-        )),
-        Some(time) => host.note(format_args!(
-            "snmpmon: round {round}: target {number} at {at} restarted without raising its boots: its samples are too old until its time is past {time}\n"
-        )),
+        None => host.note(
+            Level::Info,
+            format_args!(
+                "snmpmon: round {round}: target {number} at {at} restarted: boots {boots}\n"
+            ),
+        ),
+        Some(time) => host.note(
+            Level::Warning,
+            format_args!(
+                "snmpmon: round {round}: target {number} at {at} restarted without raising its boots: its samples are too old until its time is past {time}\n"
+            ),
+        ),
     }
 }
 
@@ -295,18 +327,29 @@ pub(crate) fn tell_alarms<H: Host>(
 {
     for change in changes {
         let line = alarms.printing.alarm_line(alloc, alarms.board, change)?;
-        tell_line(host, alarms.round, &line);
+        tell_line(host, alarm_level(change.event), alarms.round, &line);
     }
     Ok(())
 }
 
+/// Returns how grave what became of an alarm is.
+fn alarm_level(event: AlarmEvent) -> Level
+    ensures { result ≡ alarm_level event }
+{
+    match event {
+        AlarmEvent::Raised { .. } => Level::Warning,
+        AlarmEvent::Cleared { .. } | AlarmEvent::Lapsed => Level::Notice,
+    }
+}
+
 /// Prints a line of the program, in a round if it is of one.
-fn tell_line<H: Host>(host: &mut H, round: Option<u32>, line: &str)
-    ensures { GoesOnBy (IsNoted (Some (line_in round line.now))) (H.log host.old) (H.log host.new) }
+fn tell_line<H: Host>(host: &mut H, level: Level, round: Option<u32>, line: &str)
+    ensures { GoesOnBy (IsNoted level (Some (line_in round line.now)))
+        (H.log host.old) (H.log host.new) }
 {
     match round {
-        None => host.note(format_args!("snmpmon: {line}\n")),
-        Some(round) => host.note(format_args!("snmpmon: round {round}: {line}\n")),
+        None => host.note(level, format_args!("snmpmon: {line}\n")),
+        Some(round) => host.note(level, format_args!("snmpmon: round {round}: {line}\n")),
     }
 }
 

@@ -1,15 +1,15 @@
 //! What a running station says of troubles that begin or end.
 
-ghost use Rattle.std.specs.Prelude.{◌≡◌, ◌<◌, IfOk, OnOk, length, map, option_map, string_bytes};
+ghost use Rattle.std.specs.Prelude.{◌≡◌, ◌<◌, IfOk, OnOk, length, map, option_map, slice_get, string_bytes};
 ghost use Rattle.std.specs.List.{list_any};
 ghost use Rattle.mon_host.specs.Log.{GoesOnBy};
 ghost use Rattle.mon_station_commands.specs.Telling.{AreNoted, text_lines};
-ghost use Rattle.mon_station_commands.specs.Troubles.{AreTroublesSaid, BeginsWith, IsText, count_alike, engine_at, engine_text, joins, key_in, key_of, key_text, late_at, late_text, many_text, offers_at, offers_text, other_text, own_text, peer_at, peer_text, silent_at, silent_text, stale_at, stale_many, stale_one, target_at, target_of, target_text, text_at, words_of};
+ghost use Rattle.mon_station_commands.specs.Troubles.{AreTroublesSaid, BeginsWith, IsText, count_alike, engine_at, engine_text, joins, key_in, key_of, key_text, late_at, late_text, level_of, many_text, offers_at, offers_text, other_text, own_text, peer_at, peer_text, silent_at, silent_text, stale_at, stale_many, stale_one, target_at, target_of, target_text, text_at, trouble_level, words_of};
 
 use crate::telling::plural;
 use mon_board::Board;
 use mon_console::Printing;
-use mon_host::Host;
+use mon_host::{Host, Level};
 use mon_reasons::Latest;
 use mon_rounds::{Change, Freshness, InstanceAge, PeerAge, TargetAge, Trouble, explain_stale};
 use mon_station::StationFault;
@@ -51,18 +51,37 @@ pub(crate) fn tell_troubles<H: Host>(
     let keys = keys_of(alloc, facts, changes)?;
     for place in 0..keys.len() {
         let text = text_at(alloc, facts, keys.as_slice(), place)?;
-        tell_text(host, round, &text);
+        tell_text(host, level_at(keys.as_slice(), place), round, &text);
     }
     Ok(())
 }
 
+/// Returns how grave the change at a place is: a trouble that begins, or one that ends.
+fn level_at(keys: &[Key], place: usize) -> Level
+    requires { place < length keys.now }
+    ensures { result ≡ level_of (slice_get (map key_in keys.now) place) }
+{
+    trouble_level(keys[place].change.begins)
+}
+
+/// Returns how grave a trouble is that begins, or that ends.
+fn trouble_level(begins: bool) -> Level
+    ensures { result ≡ trouble_level begins }
+{
+    if begins {
+        Level::Warning
+    } else {
+        Level::Notice
+    }
+}
+
 /// Prints a text about a round, if it isn't empty.
-fn tell_text<H: Host>(host: &mut H, round: u32, text: &str)
-    ensures { GoesOnBy (AreNoted (text_lines round text.now))
+fn tell_text<H: Host>(host: &mut H, level: Level, round: u32, text: &str)
+    ensures { GoesOnBy (AreNoted (text_lines level round text.now))
         (H.log host.old) (H.log host.new) }
 {
     if !text.is_empty() {
-        host.note(format_args!("snmpmon: round {round}: {text}\n"));
+        host.note(level, format_args!("snmpmon: round {round}: {text}\n"));
     }
 }
 

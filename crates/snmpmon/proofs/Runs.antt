@@ -8,6 +8,7 @@ use Rattle.mon_console.specs.Files.{IsPrint}
 use Rattle.mon_console.specs.declared.failure.Failure.{Failure}
 use Rattle.mon_host.proofs.Promised.{goes_on, quietly, then_fails, then_follows}
 use Rattle.mon_host.specs.AtHost.{AtHost, AtTerminal, IsNoted, Noted}
+use Rattle.mon_host.specs.declared.level.Level.TheVariants as level
 use Rattle.mon_host.specs.Log.{GoesOn, GoesOnBy}
 use Rattle.mon_host.specs.Then.{Quietly}
 use Rattle.snmpmon.specs.Start.{Does, Hints, IsBefore, IsEnd, IsRun, IsRunFor, IsShown, IsSomeText, is_station, reads_input}
@@ -39,11 +40,11 @@ runs agents ports asked reads station given status start before between after is
     }
 
 pub hints : (at : Bool) (before between after : Option (List AtHost)) → at ≡ true → GoesOn (AtTerminal at ∷ []) before between
-    → GoesOnBy (IsNoted (Some (codes "snmpmon: reads lines from this terminal until Ctrl-D; see snmpmon --help\n"))) between after
+    → GoesOnBy (IsNoted level.Info (Some (codes "snmpmon: reads lines from this terminal until Ctrl-D; see snmpmon --help\n"))) between after
     → GoesOnBy Hints before after
 hints at before between after is looked said =
     let line = ap (λ (b : Bool). AtTerminal b ∷ said.more) is
-    ∙ ap (λ (rest : List AtHost). AtTerminal true ∷ rest) (said.holds.2 ∙ ap (λ (o : List ℕ). Noted o ∷ []) said.holds.1) in
+    ∙ ap (λ (rest : List AtHost). AtTerminal true ∷ rest) (said.holds.2 ∙ ap (λ (o : List ℕ). Noted level.Info o ∷ []) said.holds.1) in
     record { more = AtTerminal at ∷ said.more; holds = inr line; on = goes_on (AtTerminal at ∷ []) said.more before between after looked said.on }
 
 pub unshown : (r : Result Unit Failure) (told : Option (List AtHost)) → IsErrAnd r IsMemory → GoesOnBy (λ log. IsShown log r) told told

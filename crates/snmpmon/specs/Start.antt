@@ -29,13 +29,14 @@ use Rattle.mon_station_commands.specs.Station.{IsStation}
 use Rattle.mon_faults.specs.Fault.{lasts}
 use Rattle.mon_faults.specs.declared.fault.Fault.{Fault}
 use Rattle.mon_host.specs.AtHost.{AtHost, AtTerminal, Listed, Noted, Unlisted}
+use Rattle.mon_host.specs.declared.level.Level.TheVariants as level
 use Rattle.mon_host.specs.Reason.{Why}
 use Rattle.mon_host.specs.Then.{Quietly, Then}
 
 -- what is said of a failure: nothing if the reader of what was printed went away
 abbrev pub IsToldIf : Bool → Failure → List AtHost → Type 0
 IsToldIf true failure log = log ≡ []
-IsToldIf false failure log = IsTold failure log
+IsToldIf false failure log = IsTold level.Error failure log
 
 -- The exit status of a fault: 1, and 3 if a station has it and it lasts, since another start would
 -- only meet it again.
@@ -61,7 +62,7 @@ pub record IsRun (station : Bool) (Does : List AtHost → Result Unit Failure �
 
 -- the arguments are refused: one line is said, and status 2
 abbrev pub IsRefused : List ℕ → List AtHost → ℕ → Type 0
-IsRefused line log status = (log ≡ Noted line ∷ []) × (status ≡ 2)
+IsRefused line log status = (log ≡ Noted level.Error line ∷ []) × (status ≡ 2)
 
 -- memory ran out before a command was run
 abbrev pub EndsForMemory : List AtHost → ℕ → Type 0
@@ -129,7 +130,7 @@ at_terminal =
 -- it is looked whether standard input is a terminal, and there one line says how lines end
 abbrev pub Hints : List AtHost → Type 0
 Hints log = (log ≡ AtTerminal false ∷ [])
-    ⊎ (log ≡ AtTerminal true ∷ Noted at_terminal ∷ [])
+    ⊎ (log ≡ AtTerminal true ∷ Noted level.Info at_terminal ∷ [])
 
 -- what comes before a command
 abbrev pub IsBefore : Bool → List AtHost → Type 0

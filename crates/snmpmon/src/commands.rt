@@ -16,7 +16,7 @@ use mon_commands::{
     serve_agent, set, walk,
 };
 use mon_console::{Failure, Fault, print};
-use mon_host::{Host, Reason};
+use mon_host::{Host, Level, Reason};
 use mon_settings_commands::print_settings;
 use mon_station_commands::{print_saved_report, run_station};
 use std::alloc::{AllocError, Global};
@@ -75,7 +75,7 @@ fn end_unlisted<H: Host>(host: &mut H, reason: Reason) -> u8
 fn refuse<H: Host>(host: &mut H, line: &str) -> u8
     ensures { GoesOnBy (λ log. IsRefused line.now log result) (H.log host.old) (H.log host.new) }
 {
-    host.note(line);
+    host.note(Level::Error, line);
     2
 }
 
@@ -109,7 +109,7 @@ fn end_usage<H: Host>(alloc: Global, host: &mut H, error: &clap::Error) -> u8
         ErrorKind::DisplayHelp => show_to_end(alloc, host, error),
         ErrorKind::DisplayVersion => show_to_end(alloc, host, error),
         _ => {
-            host.note(error);
+            host.note(Level::Error, error);
             2
         }
     }
@@ -208,7 +208,7 @@ fn hint<H: Host>(host: &mut H)
     ensures { GoesOnBy Hints (H.log host.old) (H.log host.new) }
 {
     if host.is_at_terminal() {
-        host.note(AT_TERMINAL);
+        host.note(Level::Info, AT_TERMINAL);
     }
 }
 
@@ -221,7 +221,7 @@ fn end<H: Host>(host: &mut H, done: Result<(), Failure>, station: bool) -> u8
         Ok(()) => 0,
         Err(failure) => {
             if !failure.is_cut() {
-                failure.tell(host);
+                failure.tell(host, Level::Error);
             }
             status_of(station, failure.fault)
         }

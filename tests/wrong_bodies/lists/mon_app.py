@@ -868,7 +868,7 @@ BUGS = {
     ),
     "prints_that_nothing_is_there": (
         "src/walking.rt",
-        '    host.note(format_args!("snmpmon: nothing is below {name}\\n"));\n    Ok(())',
+        '    host.note(\n        Level::Info,\n        format_args!("snmpmon: nothing is below {name}\\n"),\n    );\n    Ok(())',
         '    let _ = host.print(name.as_bytes());\n    Ok(())',
     ),
     "walks_in_another_community": (
@@ -929,7 +929,7 @@ BUGS = {
     "prints_lines_on_standard_error": (
         "src/walking.rt",
         "    match host.print(line.as_bytes()) {\n        Ok(()) => Ok(()),\n        Err(reason) => Err(WalkFault::Output(reason)),\n    }\n",
-        "    host.note(line.as_str());\n    Ok(())\n",
+        "    host.note(Level::Info, line.as_str());\n    Ok(())\n",
     ),
     "prints_the_name_alone": (
         "src/walking.rt",
@@ -983,7 +983,7 @@ BUGS = {
     "says_that_it_walks": (
         "src/walking.rt",
         "    let mut last = asked.start.try_clone(alloc)?;",
-        '    host.note("snmpmon: walking\\n");\n    let mut last = asked.start.try_clone(alloc)?;',
+        '    host.note(Level::Info, "snmpmon: walking\\n");\n    let mut last = asked.start.try_clone(alloc)?;',
     ),
     "prints_an_empty_line_first": (
         "src/walking.rt",

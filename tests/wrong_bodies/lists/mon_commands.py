@@ -53,8 +53,8 @@ BUGS = {
     ),
     "says_twice_where_it_listens": (
         "src/agent.rt",
-        "    host.note(format_args!(\"snmpmon: agent at {at}\\n\"));",
-        "    host.note(format_args!(\"snmpmon: agent at {at}\\n\"));\n    host.note(format_args!(\"snmpmon: agent at {at}\\n\"));",
+        "    host.note(Level::Info, format_args!(\"snmpmon: agent at {at}\\n\"));",
+        "    host.note(Level::Info, format_args!(\"snmpmon: agent at {at}\\n\"));\n    host.note(Level::Info, format_args!(\"snmpmon: agent at {at}\\n\"));",
     ),
     "refused_settings_of_an_agent_lack_memory": (
         "src/agent.rt",
@@ -215,7 +215,7 @@ BUGS = {
     ),
     "says_nothing_of_refused_lines": (
         "src/recorded.rt",
-        "host.note(refused);",
+        "host.note(Level::Warning, refused);",
         "let _ = refused;",
     ),
     "selftest_reads_input": (
@@ -235,7 +235,7 @@ BUGS = {
     ),
     "says_nothing_of_where": (
         "src/agent.rt",
-        "host.note(format_args!(\"snmpmon: agent at {at}\\n\"));",
+        "host.note(Level::Info, format_args!(\"snmpmon: agent at {at}\\n\"));",
         "let _ = at;",
     ),
     "serves_nothing": (
@@ -285,38 +285,38 @@ BUGS = {
     ),
     "tells_nothing_of_memory": (
         "src/agent.rt",
-        "        Served::Untaken => Failure::from(AppFault::OutOfMemory).tell(host),",
+        "        Served::Untaken => Failure::from(AppFault::OutOfMemory).tell(host, Level::Warning),",
         "        Served::Untaken => {}",
     ),
     "tells_twice_of_memory": (
         "src/agent.rt",
-        "        Served::Untaken => Failure::from(AppFault::OutOfMemory).tell(host),",
-        "        Served::Untaken => {\n            Failure::from(AppFault::OutOfMemory).tell(host);\n            Failure::from(AppFault::OutOfMemory).tell(host);\n        }",
+        "        Served::Untaken => Failure::from(AppFault::OutOfMemory).tell(host, Level::Warning),",
+        "        Served::Untaken => {\n            Failure::from(AppFault::OutOfMemory).tell(host, Level::Warning);\n            Failure::from(AppFault::OutOfMemory).tell(host, Level::Warning);\n        }",
     ),
     "tells_of_each_datagram": (
         "src/agent.rt",
         "        Served::Answered => {}",
-        "        Served::Answered => Failure::from(AppFault::OutOfMemory).tell(host),",
+        "        Served::Answered => Failure::from(AppFault::OutOfMemory).tell(host, Level::Warning),",
     ),
     "tells_another_fault_for_memory": (
         "src/agent.rt",
-        "        Served::Untaken => Failure::from(AppFault::OutOfMemory).tell(host),",
-        "        Served::Untaken => Failure::from(AppFault::FileFault).tell(host),",
+        "        Served::Untaken => Failure::from(AppFault::OutOfMemory).tell(host, Level::Warning),",
+        "        Served::Untaken => Failure::from(AppFault::FileFault).tell(host, Level::Warning),",
     ),
     "tells_of_memory_in_other_words": (
         "src/agent.rt",
-        "        Served::Untaken => Failure::from(AppFault::OutOfMemory).tell(host),",
-        '        Served::Untaken => host.note("snmpmon: no memory for a datagram\\n"),',
+        "        Served::Untaken => Failure::from(AppFault::OutOfMemory).tell(host, Level::Warning),",
+        '        Served::Untaken => host.note(Level::Info, "snmpmon: no memory for a datagram\\n"),',
     ),
     "tells_of_memory_on_standard_output": (
         "src/agent.rt",
-        "        Served::Untaken => Failure::from(AppFault::OutOfMemory).tell(host),",
+        "        Served::Untaken => Failure::from(AppFault::OutOfMemory).tell(host, Level::Warning),",
         '        Served::Untaken => {\n            let _ = host.print(b"snmpmon: mon_app 1 OutOfMemory\\n");\n        }',
     ),
     "notes_each_answer": (
         "src/agent.rt",
         "        Served::Answered => {}",
-        '        Served::Answered => host.note("snmpmon: answered\\n"),',
+        '        Served::Answered => host.note(Level::Info, "snmpmon: answered\\n"),',
     ),
     "says_that_each_datagram_was_taken": (
         "src/agent.rt",
@@ -351,7 +351,7 @@ BUGS = {
     "tells_the_fault_of_a_port_too": (
         "src/agent.rt",
         "    let served = serve_one(alloc, port, agent, room)?;\n    tell_untaken(host, served);\n",
-        "    let served = match serve_one(alloc, port, agent, room) {\n        Ok(served) => served,\n        Err(fault) => {\n            Failure::from(AppFault::OutOfMemory).tell(host);\n            return Err(AppFault::from(fault));\n        }\n    };\n    tell_untaken(host, served);\n",
+        "    let served = match serve_one(alloc, port, agent, room) {\n        Ok(served) => served,\n        Err(fault) => {\n            Failure::from(AppFault::OutOfMemory).tell(host, Level::Warning);\n            return Err(AppFault::from(fault));\n        }\n    };\n    tell_untaken(host, served);\n",
     ),
     "lacks_memory_where_the_port_fails": (
         "src/agent.rt",
@@ -361,7 +361,7 @@ BUGS = {
     "tells_a_failed_port_before_it_ends": (
         "src/agent.rt",
         "        serve_next(alloc, host, port, agent, room.as_mut_slice())?;",
-        "        if let Err(fault) = serve_next(alloc, host, port, agent, room.as_mut_slice()) {\n            let failure = Failure::from(fault);\n            failure.tell(host);\n            return Err(failure);\n        }",
+        "        if let Err(fault) = serve_next(alloc, host, port, agent, room.as_mut_slice()) {\n            let failure = Failure::from(fault);\n            failure.tell(host, Level::Warning);\n            return Err(failure);\n        }",
     ),
     "listens_and_serves_nobody": (
         "src/agent.rt",
@@ -435,7 +435,7 @@ BUGS = {
     ),
     "prints_where_it_listens": (
         "src/agent.rt",
-        '    host.note(format_args!("snmpmon: agent at {at}\\n"));',
+        '    host.note(Level::Info, format_args!("snmpmon: agent at {at}\\n"));',
         '    print(alloc, host, b"snmpmon: agent\\n")?;\n    let _ = at;',
     ),
     "opens_another_port_than_it_says": (
@@ -566,7 +566,7 @@ BUGS = {
     "tells_a_failed_walk_itself": (
         "src/walking.rt",
         "        Err(fault) => Err(walk_failure(alloc, route.agent.word, fault)),",
-        "        Err(fault) => {\n            let failure = walk_failure(alloc, route.agent.word, fault);\n            failure.tell(host);\n            Err(failure)\n        }",
+        "        Err(fault) => {\n            let failure = walk_failure(alloc, route.agent.word, fault);\n            failure.tell(host, Level::Warning);\n            Err(failure)\n        }",
     ),
     "shows_a_walk_in_numbers": (
         "src/walking.rt",
@@ -591,7 +591,7 @@ BUGS = {
     "says_whom_it_walks": (
         "src/walking.rt",
         "    let mut wire = net.open(route.agent.address)?;",
-        "    host.note(format_args!(\"snmpmon: walk of {}\\n\", route.agent.address));\n    let mut wire = net.open(route.agent.address)?;",
+        "    host.note(Level::Info, format_args!(\"snmpmon: walk of {}\\n\", route.agent.address));\n    let mut wire = net.open(route.agent.address)?;",
     ),
     "prints_a_line_of_its_own_first": (
         "src/walking.rt",

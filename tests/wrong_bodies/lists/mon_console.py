@@ -175,7 +175,7 @@ BUGS = {
     ),
     "says_no_second_line_of_a_failure": (
         "src/failure.rt",
-        '            Some(more) => host.note(format_args!("{more}\\n")),',
+        '            Some(more) => host.note(level, format_args!("{more}\\n")),',
         "            Some(_) => {}",
     ),
     "names_the_new_file_where_it_cannot_be_renamed": (
@@ -236,7 +236,7 @@ BUGS = {
     "prints_on_another_stream": (
         "src/files.rt",
         "    match host.print(octets) {",
-        '    if octets.len() == 7 { host.note("7"); return Ok(()); } match host.print(octets) {',
+        '    if octets.len() == 7 { host.note(Level::Error, "7"); return Ok(()); } match host.print(octets) {',
     ),
     "prints_twice": (
         "src/files.rt",
@@ -255,8 +255,18 @@ BUGS = {
     ),
     "says_a_line_twice": (
         "src/failure.rt",
-        "            self.tell_more(host);",
-        "            self.tell_more(host); self.tell_more(host);",
+        "            self.tell_more(host, level);",
+        "            self.tell_more(host, level); self.tell_more(host, level);",
+    ),
+    "says_each_failure_as_an_error": (
+        "src/failure.rt",
+        '        host.note(level, format_args!("snmpmon: {innermost}\\n"));',
+        '        host.note(Level::Error, format_args!("snmpmon: {innermost}\\n"));',
+    ),
+    "says_a_second_line_of_another_level": (
+        "src/failure.rt",
+        '            Some(more) => host.note(level, format_args!("{more}\\n")),',
+        '            Some(more) => host.note(Level::Info, format_args!("{more}\\n")),',
     ),
     "says_nothing_of_a_fault": (
         "src/failure.rt",

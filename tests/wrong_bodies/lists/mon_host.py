@@ -8,8 +8,28 @@ BUGS = {
     ),
     "records_no_note": (
         "src/recorder.rt",
-        "        self.record(note_step(self.alloc, text));",
-        "        let _ = text;",
+        "        self.record(note_step(self.alloc, level, text));",
+        "        let _ = (level, text);",
+    ),
+    "records_each_note_as_an_error": (
+        "src/recorder.rt",
+        "        self.record(note_step(self.alloc, level, text));",
+        "        let _ = level;\n        self.record(note_step(self.alloc, Level::Error, text));",
+    ),
+    "shows_no_levels": (
+        "src/recorder.rt",
+        "        self.record(Ok(Step::ShowLevels));",
+        "",
+    ),
+    "a_notice_is_an_info": (
+        "src/level.rt",
+        '            Level::Notice => "<5>",',
+        '            Level::Notice => "<6>",',
+    ),
+    "begins_with_levels": (
+        "src/system.rt",
+        "            shows_levels: false,",
+        "            shows_levels: true,",
     ),
     "records_each_print_as_done": (
         "src/recorder.rt",

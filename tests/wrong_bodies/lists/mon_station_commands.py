@@ -158,8 +158,8 @@ BUGS = {
     ),
     "forgets_that_a_file_could_not_be_made": (
         "src/keeping.rt",
-        "                failure.tell(host);\n            }\n            true\n",
-        "                failure.tell(host);\n            }\n            false\n",
+        "                failure.tell(host, Level::Error);\n            }\n            true\n",
+        "                failure.tell(host, Level::Error);\n            }\n            false\n",
     ),
     "a_damaged_file_for_a_full_disk": ("src/opening.rt", "        KeeperFault::DiskFault => disk_failure(alloc, path, Fault::Keeper(fault), disk),", "        KeeperFault::DiskFault => disk_failure(alloc, path, Fault::Keeper(KeeperFault::Damaged), disk),"),
     "ages_of_the_first_instance": ("src/figures.rt", "        ages.push(instance.rounds)?;", "        ages.push(instances[0].rounds)?;"),
@@ -422,8 +422,48 @@ BUGS = {
     ),
     "an_alarm_without_a_line": (
         "src/telling.rt",
-        "        tell_line(host, alarms.round, &line);",
+        "        tell_line(host, alarm_level(change.event), alarms.round, &line);",
         "        let _ = line;",
+    ),
+    "shows_no_levels": (
+        "src/station.rt",
+        "        host.show_levels();",
+        "",
+    ),
+    "shows_levels_unasked": (
+        "src/station.rt",
+        "    show_levels_if(host, words.log_levels);",
+        "    show_levels_if(host, true);",
+    ),
+    "a_cleared_alarm_is_a_warning": (
+        "src/telling.rt",
+        "        AlarmEvent::Cleared { .. } | AlarmEvent::Lapsed => Level::Notice,",
+        "        AlarmEvent::Cleared { .. } | AlarmEvent::Lapsed => Level::Warning,",
+    ),
+    "the_end_of_a_trouble_is_a_warning": (
+        "src/troubles.rt",
+        "        Level::Warning\n    } else {\n        Level::Notice\n    }",
+        "        Level::Warning\n    } else {\n        Level::Warning\n    }",
+    ),
+    "a_trouble_has_the_level_of_the_first": (
+        "src/troubles.rt",
+        "    trouble_level(keys[place].change.begins)",
+        "    trouble_level(keys[place - place].change.begins)",
+    ),
+    "a_failed_save_is_a_warning": (
+        "src/telling.rt",
+        '            Level::Error,\n            format_args!("snmpmon: round {round}: not saved, mon_disk {number}: {error}\\n"),',
+        '            Level::Warning,\n            format_args!("snmpmon: round {round}: not saved, mon_disk {number}: {error}\\n"),',
+    ),
+    "a_refused_response_is_an_info": (
+        "src/telling.rt",
+        '            Level::Warning,\n            format_args!("snmpmon: round {round}: from target {from}: {fault}\\n"),',
+        '            Level::Info,\n            format_args!("snmpmon: round {round}: from target {from}: {fault}\\n"),',
+    ),
+    "an_unwritten_report_is_an_error": (
+        "src/printing.rt",
+        '        Level::Warning,\n        format_args!("snmpmon: round {round}: {path} is not written\\n"),',
+        '        Level::Error,\n        format_args!("snmpmon: round {round}: {path} is not written\\n"),',
     ),
     "no_raised_alarm_is_said": (
         "src/telling.rt",
@@ -447,8 +487,8 @@ BUGS = {
     ),
     "an_alarm_without_a_colon": (
         "src/telling.rt",
-        '        None => host.note(format_args!("snmpmon: {line}\\n")),',
-        '        None => host.note(format_args!("snmpmon {line}\\n")),',
+        '        None => host.note(level, format_args!("snmpmon: {line}\\n")),',
+        '        None => host.note(level, format_args!("snmpmon {line}\\n")),',
     ),
     "checks_another_interval": (
         "src/station.rt",
@@ -482,7 +522,7 @@ BUGS = {
     ),
     "says_nothing_of_a_failure": (
         "src/printing.rt",
-        "            failure.tell(host);",
+        "            failure.tell(host, Level::Warning);",
         "",
     ),
     "a_file_that_cannot_be_looked_for_is_none": (

@@ -28,12 +28,12 @@ BUGS = {
     ),
     "says_nothing_of_a_failure": (
         "src/commands.rt",
-        "failure.tell(host);",
+        "failure.tell(host, Level::Error);",
         "let _ = &failure;",
     ),
     "says_nothing_of_refused_arguments": (
         "src/commands.rt",
-        "host.note(line);",
+        "host.note(Level::Error, line);",
         "let _ = line;",
     ),
     "tells_where_the_reader_went": (
@@ -63,23 +63,23 @@ BUGS = {
     ),
     "refuses_with_the_status_of_a_failure": (
         "src/commands.rt",
-        "    host.note(line);\n    2\n",
-        "    host.note(line);\n    1\n",
+        "    host.note(Level::Error, line);\n    2\n",
+        "    host.note(Level::Error, line);\n    1\n",
     ),
     "refuses_with_the_status_of_success": (
         "src/commands.rt",
-        "    host.note(line);\n    2\n",
-        "    host.note(line);\n    0\n",
+        "    host.note(Level::Error, line);\n    2\n",
+        "    host.note(Level::Error, line);\n    0\n",
     ),
     "refuses_a_usage_with_the_status_of_success": (
         "src/commands.rt",
-        "            host.note(error);\n            2\n",
-        "            host.note(error);\n            0\n",
+        "            host.note(Level::Error, error);\n            2\n",
+        "            host.note(Level::Error, error);\n            0\n",
     ),
     "says_help_on_standard_error": (
         "src/commands.rt",
         "        ErrorKind::DisplayHelp => show_to_end(alloc, host, error),",
-        "        ErrorKind::DisplayHelp => {\n            host.note(error);\n            0\n        }",
+        "        ErrorKind::DisplayHelp => {\n            host.note(Level::Error, error);\n            0\n        }",
     ),
     "prints_no_help": (
         "src/commands.rt",
@@ -128,8 +128,8 @@ BUGS = {
     ),
     "tells_a_failure_twice": (
         "src/commands.rt",
-        "                failure.tell(host);",
-        "                failure.tell(host);\n                failure.tell(host);",
+        "                failure.tell(host, Level::Error);",
+        "                failure.tell(host, Level::Error);\n                failure.tell(host, Level::Error);",
     ),
     "ends_a_failure_with_the_status_of_success": (
         "src/commands.rt",
@@ -138,8 +138,8 @@ BUGS = {
     ),
     "ends_a_cut_with_the_status_of_success": (
         "src/commands.rt",
-        "            if !failure.is_cut() {\n                failure.tell(host);\n            }\n            status_of(station, failure.fault)\n",
-        "            if failure.is_cut() {\n                return 0;\n            }\n            failure.tell(host);\n            status_of(station, failure.fault)\n",
+        "            if !failure.is_cut() {\n                failure.tell(host, Level::Error);\n            }\n            status_of(station, failure.fault)\n",
+        "            if failure.is_cut() {\n                return 0;\n            }\n            failure.tell(host, Level::Error);\n            status_of(station, failure.fault)\n",
     ),
     "ends_well_with_the_status_of_a_failure": (
         "src/commands.rt",
@@ -149,7 +149,7 @@ BUGS = {
     "says_that_it_ended_well": (
         "src/commands.rt",
         "        Ok(()) => 0,",
-        '        Ok(()) => {\n            host.note("snmpmon: done\\n");\n            0\n        }',
+        '        Ok(()) => {\n            host.note(Level::Info, "snmpmon: done\\n");\n            0\n        }',
     ),
     "walk_runs_next": (
         "src/commands.rt",

@@ -1,3 +1,4 @@
+use Rattle.mon_host.specs.declared.level.Level.{Level}
 use Rattle.std.proofs.Common.{◌∙◌, Bool, List, ℕ, map, subst}
 use Rattle.std.specs.List.{flat_map}
 use Rattle.mon_host.specs.Log.{GoesOnBy}
@@ -30,6 +31,6 @@ returns-clause-account g c =
     (λ i. (c.tell_changes.ensures.kept i).unsaved)
     (noted_on (round_lines c.args.number c.in_ok-report.report) (flat_map (restart_lines c.args.number) c.targets.result.now) start (g.H.Host.log c.tell_notices.new.host) told c.tell_notices.ensures c.tell_restarts.ensures)
     c.unsaved_after-live.ensures
-    (subst (λ (lines : Bool → List (List ℕ)). GoesOnBy (λ log. AreChanges lines c.args.number (is_round c.args.spell.span) log c.tell_changes.result) told
+    (subst (λ (lines : Bool → List (Level × List ℕ)). GoesOnBy (λ log. AreChanges lines c.args.number (is_round c.args.spell.span) log c.tell_changes.result) told
     (g.H.Host.log c.tell_changes.new.host)) (λ i. announced_notes live.reports.printing c.args.number (state_of live.station.life).board (map (λ w. w.items) (c.add.ensures.windows i).items) (c.add.ensures.announcer i))
     c.tell_changes.ensures.said)

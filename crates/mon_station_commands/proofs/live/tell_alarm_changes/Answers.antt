@@ -1,3 +1,4 @@
+use Rattle.mon_host.specs.declared.level.Level.{Level}
 use Rattle.std.proofs.Common.{◌∙◌, List, ℕ, ap, map, subst}
 use Rattle.std.specs.Prelude.{Ok, Result, Some}
 use Rattle.std.specs.declared.alloc.AllocError.{AllocError}
@@ -28,7 +29,7 @@ returns-in_err-tell_alarms-clause-said g c =
     let changes = c.as_slice.ensures.value ∙ (c.in_ok-changes.ensures.changes ∙ ap (λ (b : Board). announced_of c.args.looks (changes_since b seen) announcer) c.board-board.ensures) in
     let r = c.from_residual-in_err-tell_alarms in
     half_alarmed (announced_notes printing c.args.number board seen announcer c.args.looks) c.tell_alarms.result r.result start end r.ensures.1
-    (subst (λ (lines : List (List ℕ)). GoesOnBy (λ log. AreSaid lines log c.tell_alarms.result) start end) (λ i. map (alarm_note (Some c.args.number) printing (c.board-board.ensures i)) (changes i)) c.tell_alarms.ensures)
+    (subst (λ (lines : List (Level × List ℕ)). GoesOnBy (λ log. AreSaid lines log c.tell_alarms.result) start end) (λ i. map (alarm_note (Some c.args.number) printing (c.board-board.ensures i)) (changes i)) c.tell_alarms.ensures)
 
 pub returns-clause-said : goal.returns-clause-said
 returns-clause-said g c =
@@ -41,5 +42,5 @@ returns-clause-said g c =
     let board = (state_of live.station.life).board in
     let changes = c.as_slice.ensures.value ∙ (c.in_ok-changes.ensures.changes ∙ ap (λ (b : Board). announced_of c.args.looks (changes_since b seen) announcer) c.board-board.ensures) in
     alarmed (announced_notes printing c.args.number board seen announcer c.args.looks) c.in_ok-tell_alarms.field-0 start end
-    (subst (λ (lines : List (List ℕ)). GoesOnBy (λ log. AreSaid lines log (let r : Result Unit AllocError = Ok c.in_ok-tell_alarms.field-0 in r)) start end)
+    (subst (λ (lines : List (Level × List ℕ)). GoesOnBy (λ log. AreSaid lines log (let r : Result Unit AllocError = Ok c.in_ok-tell_alarms.field-0 in r)) start end)
     (λ i. map (alarm_note (Some c.args.number) printing (c.board-board.ensures i)) (changes i)) c.in_ok-tell_alarms.ensures)

@@ -1,3 +1,4 @@
+use Rattle.mon_host.specs.declared.level.Level.{Level}
 use Rattle.std.proofs.Common.{List, ℕ, map, subst}
 use Rattle.mon_host.specs.Log.{GoesOnBy}
 use Rattle.mon_station.specs.State.{state_of}
@@ -23,5 +24,5 @@ returns-clause-said g c =
     let end = g.H.Host.log c.tell_alarm_changes.new.host in
     let is = c.tell_troubles.ensures in
     changes_are (announced_notes live.reports.printing c.args.number (state_of live.station.life).board (map (λ w. w.items) live.course.windows.items) live.course.announcer) c.args.number (is_round c.args.span) c.in_ok-tell_troubles.field-0 c.tell_alarm_changes.result start told end c.in_ok-tell_troubles.ensures.said
-    (subst (λ (lines : List (List ℕ)). GoesOnBy (λ log. AreAlarms lines log c.tell_alarm_changes.result) told end)
+    (subst (λ (lines : List (Level × List ℕ)). GoesOnBy (λ log. AreAlarms lines log c.tell_alarm_changes.result) told end)
     (λ i. announced_notes (is.printing i) c.args.number (state_of (is.station i).life).board (map (λ w. w.items) (is.course i).windows.items) (is.course i).announcer (c.is_round.ensures i)) c.tell_alarm_changes.ensures.said)

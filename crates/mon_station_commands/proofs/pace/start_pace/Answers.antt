@@ -1,3 +1,4 @@
+use Rattle.mon_host.specs.declared.level.Level.TheVariants as level
 use Rattle.std.proofs.Common.{ap}
 use Rattle.std.specs.Prelude.{Some}
 use Rattle.mon_host.specs.Log.{GoesOnBy}
@@ -44,7 +45,7 @@ returns-in_err-pause-clause-quiet g c =
     let failure = c.in_err-pause.field-0.0 in
     let r = c.from_residual-in_err-pause.result in
     no_wait failure r start end (failure_is r failure c.from_residual-in_err-pause.ensures.1)
-    (stopped_on failure start told end (quiet_on start timed told two (one_line timed told (Some (first_line c.match-phase.left)) c.tell_first.ensures)) c.in_err-pause.ensures.quiet)
+    (stopped_on failure start told end (quiet_on start timed told two (one_line timed told level.Info (Some (first_line c.match-phase.left)) c.tell_first.ensures)) c.in_err-pause.ensures.quiet)
 
 pub returns-clause-quiet : goal.returns-clause-quiet
 returns-clause-quiet g c =
@@ -67,7 +68,7 @@ returns-clause-quiet g c =
           let told = g.H.Host.log w.tell_first.new.host in
           let paused = g.H.Host.log w.pause.new.host in
           quiet_to timed paused end (ap (λ h. g.H.Host.log h) w.host-is)
-          (quiet_on timed told paused (one_line timed told (Some (first_line c.match-phase.left)) w.tell_first.ensures) w.in_ok-pause.ensures.quiet)
+          (quiet_on timed told paused (one_line timed told level.Info (Some (first_line c.match-phase.left)) w.tell_first.ensures) w.in_ok-pause.ensures.quiet)
       | else-left-gt0 w ↦ quiet_to timed timed end (ap (λ h. g.H.Host.log h) w.host-is) (still timed)
     ] in
     quiet_on start timed end two three

@@ -10,12 +10,12 @@ pub returns-in-None : goal.returns-in-None
 returns-in-None g c =
     let start = g.H.Host.log c.args.host.now in
     let end = g.H.Host.log c.note.new.self in
-    subst (λ (r : Option ℕ). GoesOnBy (IsNoted (Some (line_in r c.args.line.now))) start end) (sym c.in-None.is)
-    (text_noted _ _ start end (three_pieces (codes "snmpmon: ") c.args.line.now (codes "\n")) c.note.ensures)
+    subst (λ (r : Option ℕ). GoesOnBy (IsNoted c.args.level (Some (line_in r c.args.line.now))) start end) (sym c.in-None.is)
+    (text_noted c.args.level _ _ start end (three_pieces (codes "snmpmon: ") c.args.line.now (codes "\n")) c.note.ensures)
 
 pub returns-in-Some : goal.returns-in-Some
 returns-in-Some g c =
     let start = g.H.Host.log c.args.host.now in
     let end = g.H.Host.log c.note-in-Some.new.self in
-    subst (λ (r : Option ℕ). GoesOnBy (IsNoted (Some (line_in r c.args.line.now))) start end) (sym c.in-Some.is)
-    (text_noted _ _ start end (five_pieces (codes "snmpmon: round ") (decimal c.in-Some.round) (codes ": ") c.args.line.now (codes "\n")) c.note-in-Some.ensures)
+    subst (λ (r : Option ℕ). GoesOnBy (IsNoted c.args.level (Some (line_in r c.args.line.now))) start end) (sym c.in-Some.is)
+    (text_noted c.args.level _ _ start end (five_pieces (codes "snmpmon: round ") (decimal c.in-Some.round) (codes ": ") c.args.line.now (codes "\n")) c.note-in-Some.ensures)

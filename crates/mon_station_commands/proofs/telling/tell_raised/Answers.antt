@@ -1,3 +1,4 @@
+use Rattle.mon_host.specs.declared.level.Level.{Level}
 use Rattle.std.proofs.Common.{◌∙◌, List, ℕ, ap, map, subst}
 use Rattle.mon_board.specs.declared.board.Board.{Board}
 use Rattle.std.specs.Prelude.{None}
@@ -14,5 +15,5 @@ pub returns : goal.returns
 returns g c =
     let printing = c.args.live.now.reports.printing in
     let changes = c.as_slice.ensures.value ∙ (c.in_ok-raised.ensures ∙ ap (λ (b : Board). raised_from b 0 b.watch.rules) c.board-board.ensures) in
-    subst (λ (lines : List (List ℕ)). GoesOnBy (λ log. AreSaid lines log c.tell_alarms.result) (g.H.Host.log c.args.host.now) (g.H.Host.log c.tell_alarms.new.host))
+    subst (λ (lines : List (Level × List ℕ)). GoesOnBy (λ log. AreSaid lines log c.tell_alarms.result) (g.H.Host.log c.args.host.now) (g.H.Host.log c.tell_alarms.new.host))
     (λ i. map (alarm_note None printing (c.board-board.ensures i)) (changes i)) c.tell_alarms.ensures

@@ -1,3 +1,4 @@
+use Rattle.mon_host.specs.declared.level.Level.TheVariants as level
 use Rattle.std.proofs.Common.{◌∙◌, ◌++◌, List, ℕ, ap, codes, decimal, subst, sym}
 use Rattle.std.specs.Prelude.{Option}
 use Rattle.mon_host.specs.Log.{GoesOnBy}
@@ -12,7 +13,7 @@ returns-in-Some g c =
     let start = g.H.Host.log c.args.host.now in
     let end = g.H.Host.log c.note.new.self in
     subst (λ (last : Option Addr). GoesOnBy (AreNoted (stray_lines c.args.round c.args.count last)) start end) (sym c.in-Some.is)
-    (line_noted _ _ start end
+    (line_noted level.Warning _ _ start end
     (nine_pieces (codes "snmpmon: round ") (decimal c.args.round) (codes ": ") (decimal c.args.count) (codes " response") c.plural-end.result.now
     (codes " came from addresses of no target, the last from ") (addr_text c.in-Some.from) (codes "\n")
     ∙ ap (λ (s : List ℕ). codes "snmpmon: round " ++ decimal c.args.round ++ codes ": " ++ decimal c.args.count ++ codes " response" ++ s
