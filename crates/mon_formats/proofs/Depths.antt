@@ -1,7 +1,7 @@
 -- A report as JSON nests six deep at most.
 use Rattle.std.proofs.Common.{◌≤◌, ℕ, ℤ, pos, negsuc, suc, ◌+◌, ◌^◌, List, [], ◌∷◌, Bool, true, false, cond, max, Option, Some, None, decimal, map, nat_le, nat_lt, arith, String}
 use Rattle.std.specs.Fmt.{signed_decimal}
-use Rattle.serde_json.specs.Data.{Data, number, unsigned, negative, string, depth, items_depth}
+use Rattle.serde_json.specs.Data.{Data, array, number, unsigned, negative, string, depth, items_depth}
 use Rattle.serde_json.specs.Read.{max_depth}
 use Rattle.serde_json.specs.View.{items_of}
 use Rattle.mon_alarms.specs.declared.alarm.AlarmState.{AlarmState}
@@ -43,7 +43,7 @@ of_raised : (s : AlarmState) → depth (raised_data s) ≤ 1
 of_raised Clear = none 1
 of_raised (Raised boots time) = deeper _ 0 (both _ _ 0 (none 0) (both _ _ 0 (none 0) (none 0)))
 
-of_option : (o : Option ℕ) (n : ℕ) → depth (exact_or_null o) ≤ n
+pub of_option : (o : Option ℕ) (n : ℕ) → depth (exact_or_null o) ≤ n
 of_option None n = none n
 of_option (Some m) n = of_exact m n
 
@@ -55,13 +55,16 @@ of_alarm : (alarm : Alarm) → depth (alarm_data alarm) ≤ 2
 of_alarm alarm =
     deeper _ 1 (both _ _ 1 (of_exact_signed alarm.rule.falling 1) (both _ _ 1 (of_raised alarm.state) (both _ _ 1 (of_exact_signed alarm.rule.rising 1) (none 1))))
 
-of_totals : (items : List ℕ) → depth (totals_data items) ≤ 1
+pub of_alarms : (alarms : List Alarm) → depth (array (items_of (map alarm_data alarms))) ≤ 3
+of_alarms alarms = deeper _ 2 (of_items alarm_data 2 of_alarm alarms)
+
+pub of_totals : (items : List ℕ) → depth (totals_data items) ≤ 1
 of_totals items = deeper _ 0 (both _ _ 0 (of_exact (totals items).delta 0) (both _ _ 0 (of_exact (totals items).span 0) (none 0)))
 
-pub of_entry : (shown : List ℕ → List ℕ) (fresh : Option Bool) (e : Entry) → depth (entry_data shown fresh e) ≤ 4
+of_entry : (shown : List ℕ → List ℕ) (fresh : Option Bool) (e : Entry) → depth (entry_data shown fresh e) ≤ 4
 of_entry shown None e =
     deeper _ 3
-    (both _ _ 3 (deeper _ 2 (of_items alarm_data 2 of_alarm e.alarms))
+    (both _ _ 3 (of_alarms e.alarms)
     (both _ _ 3 (none 3)
     (both _ _ 3 (none 3)
     (both _ _ 3 (of_option (fresh_rate true e.items) 3)
@@ -69,7 +72,7 @@ of_entry shown None e =
     (both _ _ 3 (omega (arith, of_totals e.items)) (none 3)))))))
 of_entry shown (Some fresh) e =
     deeper _ 3
-    (both _ _ 3 (deeper _ 2 (of_items alarm_data 2 of_alarm (fresh_alarms fresh e.alarms)))
+    (both _ _ 3 (of_alarms (fresh_alarms fresh e.alarms))
     (both _ _ 3 (none 3)
     (both _ _ 3 (none 3)
     (both _ _ 3 (of_option (fresh_rate fresh e.items) 3)

@@ -6,4 +6,5 @@ pub mod Labels
 pub mod LastDot
 pub mod NoFloats
 pub mod Pushed
+pub mod Samples
 pub mod Sound

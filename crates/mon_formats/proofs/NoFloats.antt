@@ -1,16 +1,14 @@
 -- The values of a report as JSON have no floating point numbers.
 use Rattle.std.proofs.Common.{◌≡◌, ℕ, ℤ, pos, negsuc, ◌^◌, List, [], ◌∷◌, Bool, true, false, ◌||◌, cond, Option, Some, None, decimal, map, nat_le, nat_lt, refl, String}
 use Rattle.std.specs.Fmt.{signed_decimal}
-use Rattle.serde_json.specs.Data.{Data, number, unsigned, negative, string}
+use Rattle.serde_json.specs.Data.{Data, array, number, unsigned, negative, string}
 use Rattle.serde_json.specs.View.{items_of}
 use Rattle.serde_json.specs.Written.{has_float, items_have_float}
 use Rattle.mon_alarms.specs.declared.alarm.AlarmState.{AlarmState}
 use Rattle.mon_alarms.specs.declared.alarm.AlarmState.TheVariants.{Clear, Raised}
 use Rattle.mon_rates.specs.Totals.{totals}
-use Rattle.mon_report.specs.Report.{Entry}
 use Rattle.mon_report.specs.declared.alarms.Alarm.{Alarm}
-use Rattle.mon_page.specs.Cells.{value_of, fresh_rate}
-use Rattle.mon_formats.specs.Json.{exact, exact_signed, sample_data, raised_data, alarm_data, exact_or_null, totals_data, age_data, debt_data, refusal_data, target_data, station_data, fresh_alarms, entry_data}
+use Rattle.mon_formats.specs.Json.{exact, exact_signed, raised_data, alarm_data, exact_or_null, totals_data, age_data, debt_data, refusal_data, target_data, station_data}
 use Rattle.mon_page.specs.declared.figures.Figures.{Figures}
 use Rattle.mon_page.specs.declared.figures.TargetFigures.{TargetFigures}
 
@@ -37,26 +35,18 @@ of_raised : (s : AlarmState) → has_float (raised_data s) ≡ false
 of_raised Clear = refl
 of_raised (Raised boots time) = refl
 
-of_option : (o : Option ℕ) → has_float (exact_or_null o) ≡ false
+pub of_option : (o : Option ℕ) → has_float (exact_or_null o) ≡ false
 of_option None = refl
 of_option (Some n) = of_exact n
-
-of_sample : (s : ℕ) → has_float (sample_data s) ≡ false
-of_sample s = neither _ _ (of_exact_signed (value_of s)) refl
 
 of_alarm : (alarm : Alarm) → has_float (alarm_data alarm) ≡ false
 of_alarm alarm = neither _ _ (of_exact_signed alarm.rule.falling) (neither _ _ (of_raised alarm.state) (neither _ _ (of_exact_signed alarm.rule.rising) refl))
 
-of_totals : (items : List ℕ) → has_float (totals_data items) ≡ false
-of_totals items = neither _ _ (of_exact (totals items).delta) (neither _ _ (of_exact (totals items).span) refl)
+pub of_alarms : (alarms : List Alarm) → has_float (array (items_of (map alarm_data alarms))) ≡ false
+of_alarms = of_items alarm_data of_alarm
 
-pub of_entry : (shown : List ℕ → List ℕ) (fresh : Option Bool) (e : Entry) → has_float (entry_data shown fresh e) ≡ false
-of_entry shown None e =
-    neither _ _ (of_items alarm_data of_alarm e.alarms)
-    (neither _ _ (of_option (fresh_rate true e.items)) (neither _ _ (of_items sample_data of_sample e.items) (neither _ _ (of_totals e.items) refl)))
-of_entry shown (Some fresh) e =
-    neither _ _ (of_items alarm_data of_alarm (fresh_alarms fresh e.alarms))
-    (neither _ _ (of_option (fresh_rate fresh e.items)) (neither _ _ (of_items sample_data of_sample e.items) (neither _ _ (of_totals e.items) refl)))
+pub of_totals : (items : List ℕ) → has_float (totals_data items) ≡ false
+of_totals items = neither _ _ (of_exact (totals items).delta) (neither _ _ (of_exact (totals items).span) refl)
 
 of_refusal : {A : Type 0} (reason : Option (String A)) → has_float (refusal_data reason) ≡ false
 of_refusal None = refl

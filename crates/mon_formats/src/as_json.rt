@@ -1,17 +1,18 @@
 //! A report as JSON.
 
-ghost use Rattle.std.specs.Prelude.{◌≡◌, ◌≤◌, ◌∷◌, ◌++◌, [], IfOk, IfSome, OnOk, codes, false, map, option_map, slice_get, true};
+ghost use Rattle.std.specs.Prelude.{◌≡◌, ◌≤◌, ◌∷◌, ◌++◌, [], IfOk, IfSome, List, OnOk, codes, false, map, option_map, slice_get, true, ℕ};
 ghost use Rattle.hex.specs.Hex.{encode_lower};
-ghost use Rattle.serde_json.specs.Data.{array, depth, no_members, object, put as with_member, string};
+ghost use Rattle.serde_json.specs.Data.{Members, array, depth, member, no_members, object, put as with_member, string};
 ghost use Rattle.serde_json.specs.Read.{max_depth};
 ghost use Rattle.serde_json.specs.View.{view, items_of, members_view};
 ghost use Rattle.serde_json.specs.Written.{comma_if, compact_text, has_float, items_text, members_text};
 ghost use Rattle.mon_page.specs.Cells.{fresh_rate};
 ghost use Rattle.mon_page.specs.Freshness.{fresh_at, is_fresh};
-ghost use Rattle.mon_formats.specs.Json.{exact, exact_signed, sample_data, raised_data, alarm_data, exact_or_null, totals_data, age_data, debt_data, target_data, refusal_data, station_data, station_member, or_fresh, fresh_alarms, with_stale, entry_members, entry_data, entries_data, report_data, json_report, ReadsAsReport};
+ghost use Rattle.mon_formats.specs.Json.{exact, exact_signed, sample_data, raised_data, alarm_data, exact_or_null, totals_data, age_data, debt_data, target_data, refusal_data, station_data, station_member, or_fresh, fresh_alarms, with_stale, entry_data, entries_data, report_data, json_report, ReadsAsReport};
 ghost use Rattle.mon_formats.specs.Sound.{IsSound};
 
 use crate::cells::count_samples;
+use itoa::{Buffer, Integer};
 use mon_alarms::AlarmState;
 use mon_page::{Figures, TargetFigures, fresh_rate, is_fresh};
 use mon_report::{Alarm, Entry};
@@ -64,7 +65,7 @@ fn put_report<S: NameTexts>(
         alloc,
         text,
         b",\"samples\":",
-        &exact_value(alloc, count_samples(entries))?,
+        exact_value(alloc, count_samples(entries))?,
     )?;
     put_running(alloc, text, station)?;
     text.extend_from_slice(b"}\n")
@@ -85,7 +86,7 @@ fn put_running(
             alloc,
             text,
             b",\"station\":",
-            &station_value(alloc, figures)?,
+            station_value(alloc, figures)?,
         ),
     }
 }
@@ -138,7 +139,10 @@ fn put_instance<S: NameTexts>(
     ensures text { OnOk result (text.new.items ≡ text.old.items ++ (comma_if later ++ compact_text (entry_data (S.shown names.now) seen.entry.fresh seen.entry.instance.now))) }
     ensures sound { OnOk result (IsSound (entry_data (S.shown names.now) seen.entry.fresh seen.entry.instance.now)) }
 {
-    put_value(alloc, text, comma(later), &entry_value(alloc, names, seen)?)
+    text.extend_from_slice(comma(later))?;
+    put_head(alloc, text, names, seen.instance, or_fresh(seen.fresh))?;
+    put_samples(text, seen.instance.samples())?;
+    put_end(alloc, text, seen)
 }
 
 /// The comma between two values; nothing before the first.
@@ -153,12 +157,12 @@ fn put_value(
     alloc: Global,
     text: &mut Vec<u8>,
     before: &[u8],
-    value: &Value,
+    value: Value,
 ) -> Result<(), AllocError>
-    requires exact { has_float (view value.now) ≡ false }
-    requires shallow { depth (view value.now) ≤ max_depth }
-    ensures text { OnOk result (text.new.items ≡ text.old.items ++ (before.now ++ compact_text (view value.now))) }
-    ensures sound { OnOk result (IsSound (view value.now)) }
+    requires exact { has_float (view value) ≡ false }
+    requires shallow { depth (view value) ≤ max_depth }
+    ensures text { OnOk result (text.new.items ≡ text.old.items ++ (before.now ++ compact_text (view value))) }
+    ensures sound { OnOk result (IsSound (view value)) }
 {
     text.extend_from_slice(before)?;
     let written = value.to_vec(alloc)?;
@@ -367,15 +371,36 @@ fn text_value(alloc: Global, text: &str) -> Result<Value, AllocError>
     Ok(Value::String(String::from_str(alloc, text)?))
 }
 
-/// What is known of an instance, its name as it is shown.
-fn entry_value<S: NameTexts>(alloc: Global, names: &S, seen: Seen) -> Result<Value, AllocError>
-    ensures { IfOk result (λ v. view v ≡ entry_data (S.shown names.now) seen.entry.fresh seen.entry.instance.now) }
+/// Adds the bracket of an instance, fresh or stale, and the members before its samples.
+fn put_head<S: NameTexts>(
+    alloc: Global,
+    text: &mut Vec<u8>,
+    names: &S,
+    entry: &Entry,
+    fresh: bool,
+) -> Result<(), AllocError>
+    ensures text { OnOk result ((rest : Members) → text.new.items ++ members_text true rest ≡ text.old.items ++ compact_text (object (member (codes "alarms") (array (items_of (map alarm_data (fresh_alarms fresh entry.now.alarms)))) (member (codes "engine") (string (encode_lower entry.now.engine)) (member (codes "name") (string (S.shown names.now entry.now.name)) (member (codes "rate_thousandths") (exact_or_null (fresh_rate fresh entry.now.items)) rest)))))) }
+    ensures sound { OnOk result (IsSound (array (items_of (map alarm_data (fresh_alarms fresh entry.now.alarms))))) }
 {
-    let mut members = Map::new(alloc);
-    let fresh = or_fresh(seen.fresh);
-    put_entry(alloc, &mut members, names, seen.instance, fresh)?;
-    put_stale(alloc, &mut members, seen.fresh)?;
-    Ok(Value::Object(members))
+    put_value(
+        alloc,
+        text,
+        b"{\"alarms\":",
+        alarms_value(alloc, entry, fresh)?,
+    )?;
+    put_value(
+        alloc,
+        text,
+        b",\"engine\":",
+        engine_value(alloc, entry.engine())?,
+    )?;
+    put_value(alloc, text, b",\"name\":", name_value(alloc, names, entry)?)?;
+    put_value(
+        alloc,
+        text,
+        b",\"rate_thousandths\":",
+        rate_value(alloc, entry, fresh)?,
+    )
 }
 
 /// Returns `true` without a station, and of a fresh instance.
@@ -388,52 +413,29 @@ fn or_fresh(fresh: Option<bool>) -> bool
     }
 }
 
-/// Puts whether an instance of a running station is stale into an object.
-fn put_stale(
-    alloc: Global,
-    members: &mut Map<String, Value>,
-    fresh: Option<bool>,
-) -> Result<(), AllocError>
-    ensures { OnOk result (members_view members.new.entries ≡ with_stale fresh (members_view members.old.entries)) }
+/// Adds the members behind the samples of an instance, and its bracket.
+fn put_end(alloc: Global, text: &mut Vec<u8>, seen: Seen) -> Result<(), AllocError>
+    ensures { OnOk result (text.new.items ≡ text.old.items ++ members_text true (with_stale seen.entry.fresh (member (codes "totals") (totals_data seen.entry.instance.now.items) no_members))) }
 {
-    match fresh {
-        None => Ok(()),
-        Some(fresh) => put(members, alloc, "stale", Value::from(!fresh)),
-    }
+    text.extend_from_slice(stale_member(seen.fresh))?;
+    put_value(
+        alloc,
+        text,
+        b",\"totals\":",
+        totals_value(alloc, seen.instance)?,
+    )?;
+    text.extend_from_slice(b"}")
 }
 
-/// Puts what is known of an instance, fresh or stale, into an object without members.
-fn put_entry<S: NameTexts>(
-    alloc: Global,
-    members: &mut Map<String, Value>,
-    names: &S,
-    entry: &Entry,
-    fresh: bool,
-) -> Result<(), AllocError>
-    requires { members_view members.old.entries ≡ no_members }
-    ensures { OnOk result (members_view members.new.entries ≡ entry_members (S.shown names.now) fresh entry.now) }
+/// Whether an instance of a running station is stale, as a member between others; nothing without a station.
+fn stale_member(fresh: Option<bool>) -> &'static [u8]
+    ensures { (items : List ℕ) → members_text true (with_stale fresh (member (codes "totals") (totals_data items) no_members)) ≡ result.now ++ members_text true (member (codes "totals") (totals_data items) no_members) }
 {
-    put(members, alloc, "alarms", alarms_value(alloc, entry, fresh)?)?;
-    put(
-        members,
-        alloc,
-        "engine",
-        engine_value(alloc, entry.engine())?,
-    )?;
-    put(members, alloc, "name", name_value(alloc, names, entry)?)?;
-    put(
-        members,
-        alloc,
-        "rate_thousandths",
-        rate_value(alloc, entry, fresh)?,
-    )?;
-    put(
-        members,
-        alloc,
-        "samples",
-        samples_value(alloc, entry.samples())?,
-    )?;
-    put(members, alloc, "totals", totals_value(alloc, entry)?)
+    match fresh {
+        None => b"",
+        Some(true) => b",\"stale\":false",
+        Some(false) => b",\"stale\":true",
+    }
 }
 
 /// Returns the name of an instance, as it is shown.
@@ -508,50 +510,65 @@ fn raised_value(alloc: Global, state: AlarmState) -> Result<Value, AllocError>
     }
 }
 
-/// The array of these samples.
-fn samples_value(alloc: Global, samples: &[Sample]) -> Result<Value, AllocError>
-    ensures { IfOk result (λ v. view v ≡ array (items_of (map sample_data samples.now))) }
+/// Adds the samples, as a member behind others.
+fn put_samples(text: &mut Vec<u8>, samples: &[Sample]) -> Result<(), AllocError>
+    ensures text { OnOk result (text.new.items ≡ text.old.items ++ (codes ",\"samples\":" ++ compact_text (array (items_of (map sample_data samples.now))))) }
+    ensures sound { OnOk result (IsSound (array (items_of (map sample_data samples.now)))) }
 {
-    let mut values = Vec::new(alloc);
+    text.extend_from_slice(b",\"samples\":[")?;
+    let mut later = false;
     for sample in samples {
-        push_sample(alloc, &mut values, sample)?;
+        put_sample(text, sample, later)?;
+        later = true;
     }
-    Ok(Value::Array(values))
+    text.extend_from_slice(b"]")
 }
 
-/// Adds a sample: its stamp, its discontinuity, its kind and the number that its value means.
-fn push_sample(alloc: Global, values: &mut Vec<Value>, sample: &Sample) -> Result<(), AllocError>
-    ensures { OnOk result (map view values.new.items ≡ map view values.old.items ++ sample_data sample.now ∷ []) }
+/// Adds a sample, behind a comma where another stands before it: its stamp, its discontinuity, its kind and the number that
+/// its value means.
+fn put_sample(text: &mut Vec<u8>, sample: &Sample, later: bool) -> Result<(), AllocError>
+    ensures text { OnOk result (text.new.items ≡ text.old.items ++ (comma_if later ++ compact_text (sample_data sample.now))) }
+    ensures sound { OnOk result (IsSound (sample_data sample.now)) }
 {
-    let mut members = Map::new(alloc);
-    put_sample(alloc, &mut members, sample)?;
-    push(values, Value::Object(members))
+    put_digits(text, boots_key(later), sample.boots())?;
+    text.extend_from_slice(b",\"kind\":\"")?;
+    text.extend_from_slice(sample.kind().name().as_bytes())?;
+    put_digits(text, b"\",\"mark\":", sample.discontinuity())?;
+    put_digits(text, b",\"time\":", sample.time())?;
+    put_exact_signed(text, b",\"value\":", sample.number())?;
+    text.extend_from_slice(b"}")
 }
 
-/// Puts a sample into an object without members.
-fn put_sample(
-    alloc: Global,
-    members: &mut Map<String, Value>,
-    sample: &Sample,
-) -> Result<(), AllocError>
-    requires { members_view members.old.entries ≡ no_members }
-    ensures { OnOk result (object (members_view members.new.entries) ≡ sample_data sample.now) }
+/// The bracket and the first key of a sample, behind a comma where another stands before it.
+fn boots_key(later: bool) -> &'static [u8]
+    ensures { result.now ≡ comma_if later ++ codes "{\"boots\":" }
 {
-    put(members, alloc, "boots", Value::from(sample.boots()))?;
-    put(
-        members,
-        alloc,
-        "kind",
-        text_value(alloc, sample.kind().name())?,
-    )?;
-    put(members, alloc, "mark", Value::from(sample.discontinuity()))?;
-    put(members, alloc, "time", Value::from(sample.time()))?;
-    put(
-        members,
-        alloc,
-        "value",
-        exact_signed_value(alloc, sample.number())?,
-    )
+    if later {
+        b",{\"boots\":"
+    } else {
+        b"{\"boots\":"
+    }
+}
+
+/// Adds a text, and a whole number with its sign behind it: as a number up to 2^53 on either side of 0, else as a text.
+fn put_exact_signed(text: &mut Vec<u8>, before: &[u8], number: i128) -> Result<(), AllocError>
+    ensures { OnOk result (text.new.items ≡ text.old.items ++ (before.now ++ compact_text (exact_signed number))) }
+{
+    if number.unsigned_abs() <= u128::from(LARGEST_NUMBER) {
+        return put_digits(text, before, number as i64);
+    }
+    text.extend_from_slice(before)?;
+    put_digits(text, b"\"", number)?;
+    text.extend_from_slice(b"\"")
+}
+
+/// Adds a text, and the digits of a number behind it.
+fn put_digits<I: Integer>(text: &mut Vec<u8>, before: &[u8], number: I) -> Result<(), AllocError>
+    ensures { OnOk result (text.new.items ≡ text.old.items ++ (before.now ++ I.text number)) }
+{
+    let mut digits = Buffer::new();
+    text.extend_from_slice(before)?;
+    text.extend_from_slice(digits.format(number).as_bytes())
 }
 
 /// The rate of an instance in thousandths; null if there is none, and of a stale instance.
