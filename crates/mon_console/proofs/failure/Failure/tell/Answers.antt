@@ -10,5 +10,5 @@ returns-then-innermost-ne-OUT_OF_MEMORY g c =
     let is = c.innermost-innermost.ensures in
     let named : Told = record { part = i.part.now; number = i.number; name = i.name.now } in
     let same : named ≡ innermost_of c.args.self.now.fault = λ k. record { part = is.part k; number = is.number k; name = is.name k } in
-    told c.args.self.now named (g.H.Host.log c.args.host.now) (g.H.Host.log c.note.new.self) (g.H.Host.log c.tell_more.new.host) same
+    told c.args.level c.args.self.now named (g.H.Host.log c.args.host.now) (g.H.Host.log c.note.new.self) (g.H.Host.log c.tell_more.new.host) same
     c.if-innermost-ne-OUT_OF_MEMORY.true c.note.ensures c.tell_more.ensures
