@@ -1,13 +1,15 @@
 -- A station's file that was removed or replaced.
 use Rattle.std.proofs.Common.{◌≡◌, ◌++◌, ◌∷◌, List, ℕ, [], Bool, false, refl, subst, true}
-use Rattle.std.specs.Prelude.{IfErr, Option, Some, Result, Ok, Err}
+use Rattle.std.specs.Prelude.{IfErr, Option, Result, Ok, Err}
 use Rattle.std.specs.declared.io.Error.{Error}
 use Rattle.mon_console.specs.declared.failure.Failure.{Failure}
 use Rattle.mon_host.specs.AtHost.{AtHost, finding_node}
 use Rattle.mon_host.specs.Log.{GoesOn, GoesOnBy}
+use Rattle.mon_host.specs.declared.level.Level.TheVariants as level
 use Rattle.mon_host.specs.declared.reason.Reason.{Reason}
 use Rattle.mon_host.proofs.Promised.{goes_on, weaker}
 use Rattle.mon_station_commands.specs.Keeping.{IsFileKept, IsKeptBy, IsMoveSaid, IsNoFile, IsTaken, IsToldIf, found_by, moved_line, strayed_lines}
+use Rattle.mon_station_commands.specs.Line.{stated}
 use Rattle.mon_station_commands.specs.Quiet.{AreQuiet}
 use Rattle.mon_station_commands.specs.Telling.{AreNoted}
 use Rattle.mon_station_commands.specs.declared.keeping.Found.{Found}
@@ -24,7 +26,7 @@ told_quiet false failure log is = are_quiet_as _ log is.log_is (is_told_more _ _
 
 module _ (round : ℕ) (path : List ℕ) (known : Bool) where
   move_quiet : (moved : Result Unit Failure) (log : List AtHost) (after : Bool) → IsMoveSaid round path known moved log after → AreQuiet log
-  move_quiet (Ok done) log after is = are_noted (Some (moved_line round path) ∷ []) log is.0
+  move_quiet (Ok done) log after is = are_noted (stated level.Notice (moved_line round path) ∷ []) log is.0
   move_quiet (Err failure) log after is = told_quiet known failure log is.0
 
   taken_quiet : (what : List ℕ) (log : List AtHost) (after : Bool) → IsTaken round path what known log after → AreQuiet log

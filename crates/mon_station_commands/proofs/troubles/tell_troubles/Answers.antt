@@ -16,7 +16,7 @@ loop-place-preserved g c =
     let before = g.H.Host.log c.loop-place.host in
     let after = g.H.Host.log c.tell_text.new.host in
     change_more c.args.facts c.level_at.result c.args.round (map key_in c.in_ok-keys.keys.items) c.loop-place.place text (g.H.Host.log c.args.host.now) before after
-    (c.level_at.ensures ∙ ap (λ (ks : List Key). level_of (slice_get (map key_in ks) c.loop-place.place)) c.as_slice-in_ok-text.ensures.value)
+    (c.level_at.ensures ∙ ap (λ (ks : List Key). level_of (slice_get (map key_in ks) c.loop-place.place)) c.as_slice-in-loop-place.ensures.value)
     (subst (λ (ks : List Key). IsText (text_at c.args.facts (map key_in ks) c.loop-place.place) text) c.as_slice.ensures.value c.in_ok-text.ensures)
     c.loop-place.invariant
     (subst (λ (t : List ℕ). GoesOnBy (AreNoted (text_lines c.level_at.result c.args.round t)) before after) c.deref.ensures c.tell_text.ensures)
