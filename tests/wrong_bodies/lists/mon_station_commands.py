@@ -716,4 +716,6 @@ PROMISES = {
     "ends_well_with_an_unwritten_report": "station::ended",
     "the_last_save_is_forgotten": "station::run_rounds",
     "no_file_before_a_socket_fails": "opening::without_socket",
+    "shows_no_levels": "station::show_levels_if",
+    "a_cleared_alarm_is_a_warning": "telling::alarm_level",
 }
