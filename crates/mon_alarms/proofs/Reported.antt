@@ -95,7 +95,7 @@ all_known (x ∷ xs) =
 is_same-known : (rule : Rule) (seen : List (ℕ × Bool)) → known_of seen ≡ samples_of seen → is_same rule seen ≡ true
 is_same-known rule seen all = ap (λ l. beq (raised_over rule l) (raised_over rule (samples_of seen))) all ∙ beq-refl (raised_over rule (samples_of seen))
 
-none_new : (rule : Rule) (before : List (ℕ × Bool)) (xs : List ℕ) → known_of before ≡ samples_of before → new_of (events_from rule before (map (λ x. (x, true)) xs)) ≡ []
+pub none_new : (rule : Rule) (before : List (ℕ × Bool)) (xs : List ℕ) → known_of before ≡ samples_of before → new_of (events_from rule before (map (λ x. (x, true)) xs)) ≡ []
 none_new rule before [] all = refl
 none_new rule before (x ∷ xs) all =
     let s : ℕ × Bool = (x, true) in

@@ -1,5 +1,5 @@
 -- For private clauses: an alarm along samples, one after another.
-use Rattle.std.specs.Prelude.{◌≡◌, ℕ, ℤ, Bool, if◌then◌else◌, List, Option, Some, None}
+use Rattle.std.specs.Prelude.{◌≡◌, ◌∷◌, ◌++◌, [], ℕ, ℤ, Bool, true, false, if◌then◌else◌, List, Option, Some, None, map}
 use Rattle.std.specs.Int.Signed.{le_z}
 use Rattle.std.specs.List.{last_or}
 use Rattle.mon_sample.specs.Key.{boots_of, time_of}
@@ -7,7 +7,7 @@ use Rattle.mon_alarms.specs.declared.alarm.AlarmState.{AlarmState}
 use Rattle.mon_alarms.specs.declared.alarm.AlarmState.TheVariants.{Clear, Raised}
 use Rattle.mon_alarms.specs.declared.comparison.Comparison.{Comparison}
 use Rattle.mon_alarms.specs.declared.comparison.Trail.{Trail}
-use Rattle.mon_alarms.specs.Changes.{events_of, is_raised, known_of, new_of, samples_of}
+use Rattle.mon_alarms.specs.Changes.{events_of, is_raised, known_of, merged, new_of, samples_of}
 use Rattle.mon_alarms.specs.Observed.{state_by}
 use Rattle.mon_alarms.specs.Rule.{Rule}
 
@@ -31,3 +31,13 @@ pub record IsComparison (rule : Rule) (seen : List (ℕ × Bool)) (c : Compariso
   pub known : IsTrail rule (known_of seen) c.known
   pub last : c.last ≡ last_or None (events_of rule seen)
   pub new : c.last_new ≡ last_or None (new_of (events_of rule seen))
+
+-- a window that moved on by one sample: the first look had all samples of both looks but the newest
+pub record HasMovedOn (was is : List ℕ) (newest : ℕ) : Type 0 where
+  pub both : merged was is ≡ map (λ x. (x, true)) was ++ (newest, false) ∷ []
+
+-- the oldest sample of the first look has left, and these are its others
+pub record HasLeft (was is kept : List ℕ) : Type 0 where
+  pub oldest : ℕ
+  pub first : was ≡ oldest ∷ kept
+  pub both : merged was is ≡ (oldest, true) ∷ merged kept is

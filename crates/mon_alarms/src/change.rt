@@ -1,11 +1,12 @@
 //! Alarms that are raised or cleared.
 
-ghost use Rattle.std.specs.Prelude.{◌≡◌, ◌++◌, OnOk, option_to_list, true};
-ghost use Rattle.mon_alarms.specs.Changes.{changes_of, raised_now, raises, state_after, with_rule};
+ghost use Rattle.std.specs.Prelude.{◌≡◌, ◌++◌, IfSome, IsTrue, OnOk, option_to_list, true};
+ghost use Rattle.mon_alarms.specs.Changes.{changes_of, raised_now, raises, reported_between, state_after, with_rule};
+ghost use Rattle.mon_alarms.specs.Comparison.{HasLeft, HasMovedOn};
 ghost use Rattle.mon_alarms.specs.Observed.{state_by};
 
-use crate::alarm::{AlarmState, state};
-use crate::comparison::{Comparison, oldest};
+use crate::alarm::{AlarmState, observe, state};
+use crate::comparison::{Comparison, after_sample, event_between, oldest, put_right};
 use crate::rule::Rule;
 use mon_sample::Sample;
 use std::alloc::AllocError;
@@ -71,6 +72,25 @@ pub fn put_changes(
     if are_equal(was, is) {
         return Ok(());
     }
+    let Some(newest) = moved_on(was, is) else {
+        return put_compared(changes, number, rule, was, is);
+    };
+    let (event, right) = newest_events(rule, was, is, newest);
+    put_event(changes, number, event)?;
+    put_event(changes, number, right)
+}
+
+/// Adds what `put_changes` does, by a walk along all samples of both looks.
+fn put_compared(
+    changes: &mut Vec<AlarmChange>,
+    number: usize,
+    rule: &Rule,
+    was: &[Sample],
+    is: &[Sample],
+) -> Result<(), AllocError>
+    ensures { OnOk result (changes.new.items ≡ changes.old.items
+        ++ changes_of number rule.now was.now is.now) }
+{
     let mut comparison = Comparison::new();
     let (mut old, mut new) = (was, is);
     while let Some(next) = oldest(old, new) {
@@ -85,6 +105,58 @@ pub fn put_changes(
     Ok(())
 }
 
+/// Returns the newest sample of the second look, if the first look had all others of it, and at
+/// most its oldest besides: then the window moved on by one sample.
+fn moved_on<'a>(was: &[Sample], is: &'a [Sample]) -> Option<&'a Sample>
+    ensures { IfSome result (λ newest. HasMovedOn was.now is.now newest.now) }
+{
+    let Some((newest, kept)) = is.split_last() else {
+        return None;
+    };
+    if are_equal(was, kept) {
+        return Some(newest);
+    }
+    if has_left(was, is, kept) {
+        return Some(newest);
+    }
+    None
+}
+
+/// Returns `true` if these are what the first look had without its oldest sample, which is older
+/// than all of the second look.
+fn has_left(was: &[Sample], is: &[Sample], kept: &[Sample]) -> bool
+    ensures { IsTrue result → HasLeft was.now is.now kept.now }
+{
+    let (Some((oldest, rest)), Some(first)) = (was.split_first(), is.first()) else {
+        return false;
+    };
+    if !oldest.compare(first).is_lt() {
+        return false;
+    }
+    are_equal(rest, kept)
+}
+
+/// Returns what the newest sample of a window that moved on by it does to the alarm, and the state
+/// now if that does not lead to it.
+fn newest_events(
+    rule: &Rule,
+    was: &[Sample],
+    is: &[Sample],
+    newest: &Sample,
+) -> (Option<AlarmEvent>, Option<AlarmEvent>)
+    requires { HasMovedOn was.now is.now newest.now }
+    ensures { reported_between rule.now was.now is.now
+        ≡ option_to_list result.0 ++ option_to_list result.1 }
+{
+    // Proof: the falling threshold is the lower.
+    let _ = rule.falling();
+    let before = state(rule, was);
+    let after = after_sample(rule, observe(was.last(), newest), newest, before);
+    let event = event_between(before.is_raised(), after.is_raised(), newest);
+    let right = put_right(after.is_raised(), state(rule, is));
+    (event, right)
+}
+
 /// Returns `true` if both are the same samples.
 fn are_equal(some: &[Sample], others: &[Sample]) -> bool
     ensures { result ≡ true → some.now ≡ others.now }
@@ -93,7 +165,7 @@ fn are_equal(some: &[Sample], others: &[Sample]) -> bool
         return false;
     }
     for place in 0..some.len() {
-        if !some[place].compare(&others[place]).is_eq() {
+        if !some[place].is_same(&others[place]) {
             return false;
         }
     }

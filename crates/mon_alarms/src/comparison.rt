@@ -110,7 +110,12 @@ impl Trail {
 }
 
 /// The state after a sample at which this is observed.
-fn after_sample(rule: &Rule, level: Option<i128>, sample: &Sample, state: AlarmState) -> AlarmState
+pub(crate) fn after_sample(
+    rule: &Rule,
+    level: Option<i128>,
+    sample: &Sample,
+    state: AlarmState,
+) -> AlarmState
     ensures { result ≡ after_sample rule.now level sample.now state }
 {
     let Some(level) = level else {
@@ -133,7 +138,11 @@ fn after_sample(rule: &Rule, level: Option<i128>, sample: &Sample, state: AlarmS
 }
 
 /// What a sample does to an alarm, by whether it is raised before and after it.
-fn event_between(was_raised: bool, is_raised: bool, sample: &Sample) -> Option<AlarmEvent>
+pub(crate) fn event_between(
+    was_raised: bool,
+    is_raised: bool,
+    sample: &Sample,
+) -> Option<AlarmEvent>
     ensures { result ≡ event_between was_raised is_raised sample.now }
 {
     let (boots, time) = (sample.boots(), sample.time());
@@ -222,12 +231,18 @@ impl Comparison {
     ) -> Option<AlarmEvent>
         ensures { (new : List AlarmEvent) → self.now.last_new ≡ last_or None new → result ≡ put_right (raised_after (is_raised was) (new ++ option_to_list last)) now }
     {
-        let reported = raised_after(was, later_new(last, self.last_new));
-        if reported == now.is_raised() {
-            return None;
-        }
-        Some(event_of(now))
+        put_right(raised_after(was, later_new(last, self.last_new)), now)
     }
+}
+
+/// Returns the state now, if the alarm is not raised just where reports say so.
+pub(crate) fn put_right(reported: bool, now: AlarmState) -> Option<AlarmEvent>
+    ensures { result ≡ put_right reported now }
+{
+    if reported == now.is_raised() {
+        return None;
+    }
+    Some(event_of(now))
 }
 
 /// Returns `true` if what a sample does is new: the first look did not have it, or the state before it

@@ -10,7 +10,7 @@ ghost use Rattle.mon_board.specs.Empty.{empty_window_of, no_marks_of};
 ghost use Rattle.mon_board.specs.Windows.{IsTaken, IsWhole, joined, kept_by, of_both, paired};
 ghost use Rattle.mon_rates.specs.Totals as sums;
 
-use crate::each::{clear_each, join_each, keep_each};
+use crate::each::{clear_each, copy_each, join_each, keep_each};
 use crate::fault::UnknownInstance;
 use crate::instance::Watched;
 use crate::laws;
@@ -179,6 +179,17 @@ impl Board {
         ensures marks { KeepsMarks self.old self.new }
     {
         join_each(&mut self.windows, &other.windows);
+        keep_each(&mut self.marks, &self.windows);
+    }
+
+    /// Takes the samples of another board of an equal watch in place of its own.
+    pub fn copy_from(&mut self, other: &Board)
+        requires { other.now.watch ≡ self.old.watch }
+        ensures watch { self.new.watch ≡ self.old.watch }
+        ensures windows { self.new.windows ≡ other.now.windows }
+        ensures marks { KeepsMarks self.old self.new }
+    {
+        copy_each(&mut self.windows, &other.windows);
         keep_each(&mut self.marks, &self.windows);
     }
 

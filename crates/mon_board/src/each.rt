@@ -25,6 +25,21 @@ pub(crate) fn join_each(windows: &mut [Track], others: &[Track])
     }
 }
 
+/// Takes the samples of other windows, each into the one at its place and instead of its own.
+pub(crate) fn copy_each(windows: &mut [Track], others: &[Track])
+    requires number { length others.now ≡ length windows.old }
+    requires sizes { (i : ℕ) (d : held.Window) → i < length windows.old
+        → (slice_index_or others.now i d).size ≡ (slice_index_or windows.old i d).size }
+    requires epochs { (i : ℕ) (d : held.Window) → i < length windows.old
+        → (slice_index_or others.now i d).epoch ≡ (slice_index_or windows.old i d).epoch }
+    ensures { AreChanged (λ i _ new. (d : held.Window) → new ≡ slice_index_or others.now i d)
+        windows.old windows.new }
+{
+    for i in 0..windows.len() {
+        windows[i].copy_from(&others[i]);
+    }
+}
+
 /// Leaves the marks of samples in the windows.
 pub(crate) fn keep_each(marks: &mut [Marks], windows: &[Track])
     requires number { length windows.now ≡ length marks.old }

@@ -105,6 +105,20 @@ impl Sample {
         self.kind.number(self.value)
     }
 
+    /// Returns `true` if both are the same sample.
+    #[inline(always)]
+    pub fn is_same(&self, other: &Sample) -> bool
+        ensures { IsTrue result ↔ (self.now ≡ other.now) }
+    {
+        if self.value != other.value || self.time != other.time {
+            return false;
+        }
+        if self.boots != other.boots || self.discontinuity != other.discontinuity {
+            return false;
+        }
+        self.kind.tag() == other.kind.tag()
+    }
+
     /// The order of the two samples' records, octet by octet: the newer is the greater.
     pub fn compare(&self, other: &Sample) -> Ordering
         ensures number { result ≡ nat_cmp self.now other.now }

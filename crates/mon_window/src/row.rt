@@ -62,6 +62,17 @@ impl Row {
         self.all.insert(self.start + at, sample).unwrap();
     }
 
+    /// Has these samples in place of those so far. There is memory for them.
+    pub(crate) fn replace(&mut self, samples: &[Sample])
+        requires { length samples.now ≤ self.old.room }
+        ensures items { self.new.items ≡ samples.now }
+        ensures room { self.old.room ≤ self.new.room }
+    {
+        self.all.clear();
+        self.start = 0;
+        self.all.extend_from_slice(samples).unwrap();
+    }
+
     /// Takes the sample at a place out.
     #[inline(always)]
     pub(crate) fn remove(&mut self, at: usize) -> Sample

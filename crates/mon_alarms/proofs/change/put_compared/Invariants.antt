@@ -1,7 +1,7 @@
 use Rattle.std.proofs.Common.{◌≡◌, ℕ, ◌+◌, ◌++◌, Bool, List, length}
 use Rattle.mon_alarms.specs.Changes.{events_of, merged, new_of, with_rule}
 use Rattle.mon_alarms.specs.Comparison.{IsComparison}
-use Rattle.mon_alarms.proofs.change.put_changes.Given as goal
+use Rattle.mon_alarms.proofs.change.put_compared.Given as goal
 
 -- the comparison over the samples so far, and the new events of these
 abbrev pub invariant-loop-next : goal.invariant-loop-next
