@@ -32,8 +32,7 @@ pub(crate) fn copy_each(windows: &mut [Track], others: &[Track])
         → (slice_index_or others.now i d).size ≡ (slice_index_or windows.old i d).size }
     requires epochs { (i : ℕ) (d : held.Window) → i < length windows.old
         → (slice_index_or others.now i d).epoch ≡ (slice_index_or windows.old i d).epoch }
-    ensures { AreChanged (λ i _ new. (d : held.Window) → new ≡ slice_index_or others.now i d)
-        windows.old windows.new }
+    ensures { windows.new ≡ others.now }
 {
     for i in 0..windows.len() {
         windows[i].copy_from(&others[i]);

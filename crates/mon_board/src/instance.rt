@@ -28,10 +28,11 @@ impl Instance {
     pub fn compare(&self, engine: &[u8], name: &Oid) -> Ordering
         ensures { result ≡ instance_cmp self.now (named engine.now name.now) }
     {
-        self.engine
-            .as_slice()
-            .cmp(&engine)
-            .then(self.name.parts().cmp(&name.parts()))
+        let order = self.engine.as_slice().cmp(&engine);
+        if order.is_ne() {
+            return order;
+        }
+        self.name.parts().cmp(&name.parts())
     }
 
     /// Returns `true` if the engine id has 5 to 32 octets.
