@@ -30,7 +30,7 @@ static int read_polls(const char *path)
 
 static int written(int file, const void *from, size_t size, off_t at)
 {
-    return pwrite(file, from, size, at) == (ssize_t)size && fsync(file) == 0;
+    return pwrite(file, from, size, at) == (ssize_t)size && fdatasync(file) == 0;
 }
 
 static int saved(int file, off_t slot, size_t size)

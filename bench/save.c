@@ -18,7 +18,7 @@ static void put(unsigned char *at, uint64_t number)
 
 static int written(int file, const void *from, size_t size, off_t at)
 {
-    return pwrite(file, from, size, at) == (ssize_t)size && fsync(file) == 0;
+    return pwrite(file, from, size, at) == (ssize_t)size && fdatasync(file) == 0;
 }
 
 int main(int count, char **words)

@@ -95,9 +95,9 @@ _snmpmon() {
             operands=('@*')
             ;;
         station)
-            options=' --rounds --check --interval --phase --report-every --stale-after --alarm-after --log-levels --out --http --http-host --labels --format --columns --sort -m --module --names -h --help '
+            options=' --rounds --check --interval --phase --report-every --save-every --stale-after --alarm-after --log-levels --out --http --http-host --labels --format --columns --sort -m --module --names -h --help '
             again=' --http-host -m --module '
-            takes=([--rounds]='-' [--interval]='-' [--phase]='-' [--report-every]='-' [--stale-after]='-' [--alarm-after]='-' [--out]='@*' [--http]='-' [--http-host]='-' [--labels]='@*' [--format]='text json prometheus columns html' [--sort]='name rate alarm age' [-m]='@*' [--module]='@*')
+            takes=([--rounds]='-' [--interval]='-' [--phase]='-' [--report-every]='-' [--save-every]='-' [--stale-after]='-' [--alarm-after]='-' [--out]='@*' [--http]='-' [--http-host]='-' [--labels]='@*' [--format]='text json prometheus columns html' [--sort]='name rate alarm age' [-m]='@*' [--module]='@*')
             operands=('@*.toml')
             ;;
         report)

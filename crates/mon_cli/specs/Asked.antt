@@ -115,12 +115,13 @@ IsScene rows s = IsNumberOr 64 0 (one_of (codes "at") rows) s.at
     × IsNumberOr 64 0 (one_of (codes "fuses") rows) s.fuses
     × IsNumberOr 32 1 (one_of (codes "times") rows) s.times
 
--- --rounds, --interval, --phase and --report-every
+-- --rounds, --interval, --phase, --report-every and --save-every
 abbrev pub IsTiming : List Row → Timing → Type 0
 IsTiming rows t = IsNumberOr 32 0 (one_of (codes "rounds") rows) t.rounds
     × IsNumberOr 32 0 (one_of (codes "interval") rows) t.interval
     × IsNumber 32 (one_of (codes "phase") rows) t.phase
     × IsNumberOr 32 0 (one_of (codes "report-every") rows) t.report_every
+    × IsNumberOr 32 1 (one_of (codes "save-every") rows) t.save_every
 
 -- SETTINGS
 abbrev pub IsSettings : List Row → Bor Text → Type 0
@@ -247,6 +248,7 @@ IsTimingIn t = ((t.rounds ≡ 0) ⊎ IsIn (value_of commands.Station (codes "rou
     × IfSome t.phase (IsIn (value_of commands.Station (codes "phase")))
     × ((t.interval ≡ 0) ⊎ IsIn (value_of commands.Station (codes "interval")) t.interval)
     × ((t.report_every ≡ 0) ⊎ IsIn (value_of commands.Station (codes "report-every")) t.report_every)
+    × IsIn (value_of commands.Station (codes "save-every")) t.save_every
 
 -- Each number is within the bounds of its argument in the table, whether it was given or is a
 -- default.

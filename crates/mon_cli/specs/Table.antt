@@ -114,6 +114,7 @@ arguments commands.Station = settings
     ∷ option (codes "interval") (up_to 1 86400)
     ∷ option (codes "phase") (up_to 0 86399)
     ∷ option (codes "report-every") (up_to 1 1000000)
+    ∷ option (codes "save-every") (up_to 1 1000000)
     ∷ option (codes "stale-after") (up_to 1 1000000)
     ∷ option (codes "alarm-after") (up_to 1 1000000)
     ∷ flag (codes "log-levels")

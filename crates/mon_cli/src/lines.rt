@@ -364,6 +364,16 @@ const REPORT_EVERY: Line = Line {
 to 1000000",
 };
 
+const SAVE_EVERY: Line = Line {
+    id: "save-every",
+    form: Form::Long,
+    takes: Takes::One(Value::Number(1, 1_000_000)),
+    needed: false,
+    shown: "ROUNDS",
+    help: "Saves at the end of every ROUNDS rounds and of the
+last one, 1 to 1000000; of each round if not given",
+};
+
 const STALE_AFTER: Line = Line {
     id: "stale-after",
     form: Form::Long,
@@ -640,13 +650,14 @@ static ANSWER: [Line; 7] = [AGENT_SETTINGS, BOOTS, AT, FUSES, TIMES, MODULE, NAM
 
 static MIB: [Line; 2] = [FILE, MODULE];
 
-static STATION: [Line; 18] = [
+static STATION: [Line; 19] = [
     SETTINGS,
     ROUNDS,
     CHECK,
     INTERVAL,
     PHASE,
     REPORT_EVERY,
+    SAVE_EVERY,
     STALE_AFTER,
     ALARM_AFTER,
     LOG_LEVELS,

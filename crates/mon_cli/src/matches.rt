@@ -185,6 +185,7 @@ fn timing(matches: &ArgMatches<'_>) -> Timing
         interval: number_or(matches, "interval", 0),
         phase: number(matches, "phase"),
         report_every: number_or(matches, "report-every", 0),
+        save_every: number_or(matches, "save-every", 1),
     }
 }
 

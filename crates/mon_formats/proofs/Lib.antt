@@ -8,3 +8,4 @@ pub mod NoFloats
 pub mod Pushed
 pub mod Samples
 pub mod Sound
+mod LabelTexts

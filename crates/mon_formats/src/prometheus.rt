@@ -1,13 +1,14 @@
 //! A report as Prometheus reads it.
 
-ghost use Rattle.std.specs.Prelude.{◌≡◌, ◌<◌, ◌++◌, [], IfOk, OnOk, Some, get_or, length, option_map, slice_get};
+ghost use Rattle.std.specs.Prelude.{◌≡◌, ◌++◌, [], IfOk, List, OnOk, Some, decimal, length, option_map, slice_get, ℕ};
 ghost use Rattle.std.specs.Fmt.{signed_decimal};
 ghost use Rattle.std.specs.List.{flat_map};
-ghost use Rattle.mon_report.specs.Report.{Entry as AnEntry};
 ghost use Rattle.mon_page.specs.Cells.{newest_of, value_of, rate_of};
 ghost use Rattle.mon_page.specs.Freshness.{fresh, is_fresh};
-ghost use Rattle.mon_page.specs.Labelled.{labelled};
-ghost use Rattle.mon_formats.specs.Prometheus.{prometheus_report, ages_text, age_line, instances_text, metric_text, entry_lines, lines_of, counted_line, number_line, samples_line, rate_line, alarm_line, alarm_labels, state_digit, name_of, metric_line, threshold_text};
+ghost use Rattle.mon_page.specs.Labelled.{Labelled as AnyLabelled, labelled};
+ghost use Rattle.mon_formats.specs.LabelTexts.{AreLabelTexts, HaveLabels};
+ghost use Rattle.mon_formats.specs.declared.prometheus.station.StationMetric.TheVariants.{Age};
+ghost use Rattle.mon_formats.specs.Prometheus.{prometheus_report, ages_text, instances_text, metric_text, lines_of, counted_line, number_line, station_name, samples_line, rate_line, alarm_line, alarm_labels, state_digit, name_of, metric_line, threshold_text};
 
 pub(crate) mod instance;
 mod metric;
@@ -28,12 +29,12 @@ use station::{StationMetric, put_station};
 use std::alloc::{AllocError, Global};
 use text::{put_head, put_label, put_line};
 
-/// Instances with their labels, and of a running station in how many rounds each had no new sample.
+/// Instances with the texts of their labels, which all lines of an instance have, and of a running
+/// station in how many rounds each had no new sample.
 #[derive(Clone, Copy)]
 struct Listing<'a, 'e> {
     entries: &'a [Entry<'e>],
-    /// Of each instance, as far as they are given.
-    labels: &'a [InstanceLabels],
+    labels: &'a [Vec<u8>],
     /// Empty if there is no station.
     ages: &'a [u32],
     /// From which age on an instance is stale.
@@ -48,18 +49,6 @@ impl<'a, 'e> Listing<'a, 'e> {
         ensures ages { result.ages.now ≡ [] }
     {
         Listing { ages: &[], ..self }
-    }
-
-    /// The instance at this place, with its labels.
-    fn at(self, place: usize) -> Labelled<'a, 'e>
-        requires { place < length self.entries.now }
-        ensures instance { (other : AnEntry) → result.instance.now ≡ get_or self.entry.entries.now place other }
-        ensures labels { option_map (λ l. l.now) result.labels ≡ slice_get self.entry.labels.now place }
-    {
-        Labelled {
-            instance: &self.entries[place],
-            labels: self.labels.get(place),
-        }
     }
 
     /// Returns `true` if the instance at this place is not stale.
@@ -97,71 +86,99 @@ fn put_report<S: NameTexts>(
 ) -> Result<(), AllocError>
     ensures { OnOk result (text.new.items ≡ text.old.items ++ prometheus_report (S.shown names.now) (labelled extras.entry.labels.now entries.now) (option_map (λ f. f.now) extras.entry.station)) }
 {
+    let labels = label_texts(alloc, names, entries, extras.labels)?;
     let plain = Listing {
         entries,
-        labels: extras.labels,
+        labels: labels.as_slice(),
         ages: &[],
         limit: 0,
     };
     match extras.station {
-        None => put_instances(alloc, text, names, plain),
-        Some(figures) => put_running(alloc, text, names, plain, figures),
+        None => put_instances(alloc, text, plain),
+        Some(figures) => put_running(alloc, text, plain, figures),
     }
+}
+
+/// Returns the texts of the labels of these instances.
+fn label_texts<S: NameTexts>(
+    alloc: Global,
+    names: &S,
+    entries: &[Entry],
+    labels: &[InstanceLabels],
+) -> Result<Vec<Vec<u8>>, AllocError>
+    ensures { IfOk result (AreLabelTexts (S.shown names.now) (labelled labels.now entries.now)
+        entries.now) }
+{
+    let mut texts = Vec::with_capacity(alloc, entries.len())?;
+    for place in 0..entries.len() {
+        let labelled = Labelled {
+            instance: &entries[place],
+            labels: labels.get(place),
+        };
+        texts.push(labels_of(alloc, names, labelled)?)?;
+    }
+    Ok(texts)
 }
 
 /// Adds the report of a running station.
 #[tactic(auto, unfolding(crate::specs::Prometheus::prometheus_report))]
-fn put_running<S: NameTexts>(
+fn put_running(
     alloc: Global,
     text: &mut Vec<u8>,
-    names: &S,
     plain: Listing,
     figures: &Figures,
 ) -> Result<(), AllocError>
-    ensures { OnOk result (text.new.items ≡ text.old.items ++ prometheus_report (S.shown names.now) (labelled plain.entry.labels.now plain.entry.entries.now) (Some figures.now)) }
+    requires { length plain.entry.labels.now ≡ length plain.entry.entries.now }
+    ensures { (shown : List ℕ → List ℕ) (all : List AnyLabelled)
+        → HaveLabels shown all plain.entry.entries.now plain.entry.labels.now
+        → OnOk result (text.new.items
+            ≡ text.old.items ++ prometheus_report shown all (Some figures.now)) }
 {
     let listing = Listing {
         ages: figures.ages.as_slice(),
         limit: figures.stale_after,
         ..plain
     };
-    put_instances(alloc, text, names, listing)?;
+    put_instances(alloc, text, listing)?;
     put_station(alloc, text, figures)?;
-    put_ages(alloc, text, names, listing)
+    put_ages(text, listing)
 }
 
 /// Adds what the report says of the instances, metric by metric.
 #[tactic(auto, unfolding(crate::specs::Prometheus::instances_text))]
-fn put_instances<S: NameTexts>(
-    alloc: Global,
-    text: &mut Vec<u8>,
-    names: &S,
-    listing: Listing,
-) -> Result<(), AllocError>
-    ensures { OnOk result (text.new.items ≡ text.old.items ++ instances_text (S.shown names.now) (labelled listing.entry.labels.now listing.entry.entries.now) (fresh listing.entry.limit listing.entry.ages.now (labelled listing.entry.labels.now listing.entry.entries.now))) }
+fn put_instances(alloc: Global, text: &mut Vec<u8>, listing: Listing) -> Result<(), AllocError>
+    requires { length listing.entry.labels.now ≡ length listing.entry.entries.now }
+    ensures { (shown : List ℕ → List ℕ) (all : List AnyLabelled)
+        → HaveLabels shown all listing.entry.entries.now listing.entry.labels.now
+        → OnOk result (text.new.items ≡ text.old.items
+            ++ instances_text shown all (fresh listing.entry.limit listing.entry.ages.now all)) }
 {
-    put_metric(alloc, text, names, listing, Metric::Counted)?;
-    put_metric(alloc, text, names, listing, Metric::Number)?;
-    put_metric(alloc, text, names, listing.all(), Metric::Samples)?;
-    put_metric(alloc, text, names, listing, Metric::Rate)?;
-    put_metric(alloc, text, names, listing, Metric::Alarm)
+    put_metric(alloc, text, listing, Metric::Counted)?;
+    put_metric(alloc, text, listing, Metric::Number)?;
+    put_metric(alloc, text, listing.all(), Metric::Samples)?;
+    put_metric(alloc, text, listing, Metric::Rate)?;
+    put_metric(alloc, text, listing, Metric::Alarm)
 }
 
 /// Adds a metric: what it is, and its lines of the instances that are not stale.
 #[tactic(auto, unfolding(crate::specs::Prometheus::metric_text))]
-fn put_metric<S: NameTexts>(
+fn put_metric(
     alloc: Global,
     text: &mut Vec<u8>,
-    names: &S,
     listing: Listing,
     metric: Metric,
 ) -> Result<(), AllocError>
-    ensures { OnOk result (text.new.items ≡ text.old.items ++ metric_text metric (S.shown names.now) (fresh listing.entry.limit listing.entry.ages.now (labelled listing.entry.labels.now listing.entry.entries.now))) }
+    requires { length listing.entry.labels.now ≡ length listing.entry.entries.now }
+    ensures { (shown : List ℕ → List ℕ) (all : List AnyLabelled)
+        → HaveLabels shown all listing.entry.entries.now listing.entry.labels.now
+        → OnOk result (text.new.items ≡ text.old.items
+            ++ metric_text metric shown (fresh listing.entry.limit listing.entry.ages.now all)) }
 {
     put_head(text, metric.name(), metric.help(), metric.kind())?;
     for place in 0..listing.entries.len() {
         if listing.is_fresh(place) {
-            put_entry(alloc, text, names, listing.at(place), metric)?;
+            let labels = listing.labels[place].as_slice();
+            put_lines(alloc, text, labels, &listing.entries[place], metric)?;
         }
     }
     Ok(())
@@ -169,51 +186,29 @@ fn put_metric<S: NameTexts>(
 
 /// Adds in how many rounds each of these instances had no new sample, for as many as have an age.
 #[tactic(auto, unfolding(crate::specs::Prometheus::ages_text))]
-fn put_ages<S: NameTexts>(
-    alloc: Global,
-    text: &mut Vec<u8>,
-    names: &S,
-    listing: Listing,
-) -> Result<(), AllocError>
-    ensures { OnOk result (text.new.items ≡ text.old.items ++ ages_text (S.shown names.now) listing.entry.ages.now (labelled listing.entry.labels.now listing.entry.entries.now)) }
+fn put_ages(text: &mut Vec<u8>, listing: Listing) -> Result<(), AllocError>
+    requires { length listing.entry.labels.now ≡ length listing.entry.entries.now }
+    ensures { (shown : List ℕ → List ℕ) (all : List AnyLabelled)
+        → HaveLabels shown all listing.entry.entries.now listing.entry.labels.now
+        → OnOk result (text.new.items
+            ≡ text.old.items ++ ages_text shown listing.entry.ages.now all) }
 {
     let metric = StationMetric::Age;
     put_head(text, metric.name(), metric.help(), metric.kind())?;
     for place in 0..listing.entries.len().min(listing.ages.len()) {
-        put_age(alloc, text, names, listing.at(place), listing.ages[place])?;
+        put_age(text, listing.labels[place].as_slice(), listing.ages[place])?;
     }
     Ok(())
 }
 
-/// Adds the line of an instance that had no new sample in this many rounds.
-fn put_age<S: NameTexts>(
-    alloc: Global,
-    text: &mut Vec<u8>,
-    names: &S,
-    labelled: Labelled,
-    age: u32,
-) -> Result<(), AllocError>
-    ensures { OnOk result (text.new.items ≡ text.old.items ++ age_line (S.shown names.now) (labelled.entry.instance.now, option_map (λ l. l.now) labelled.entry.labels) age) }
+/// Adds the line of an instance with these labels that had no new sample in this many rounds.
+fn put_age(text: &mut Vec<u8>, labels: &[u8], age: u32) -> Result<(), AllocError>
+    ensures { OnOk result (text.new.items
+        ≡ text.old.items ++ metric_line (station_name Age) labels.now (decimal age)) }
 {
-    let labels = labels_of(alloc, names, labelled)?;
     let mut buffer = Buffer::new();
     let number = buffer.format(age);
-    let name = StationMetric::Age.name();
-    put_line(text, name, labels.as_slice(), number.as_bytes())
-}
-
-/// Adds the lines of a metric for one instance.
-fn put_entry<S: NameTexts>(
-    alloc: Global,
-    text: &mut Vec<u8>,
-    names: &S,
-    labelled: Labelled,
-    metric: Metric,
-) -> Result<(), AllocError>
-    ensures { OnOk result (text.new.items ≡ text.old.items ++ entry_lines metric (S.shown names.now) (labelled.entry.instance.now, option_map (λ l. l.now) labelled.entry.labels)) }
-{
-    let labels = labels_of(alloc, names, labelled)?;
-    put_lines(alloc, text, labels.as_slice(), labelled.instance, metric)
+    put_line(text, StationMetric::Age.name(), labels, number.as_bytes())
 }
 
 /// Adds the lines of a metric for an instance with these labels.

@@ -1,6 +1,6 @@
 -- What is said of a round, or of the time after it.
 use Rattle.std.proofs.Common.{◌≡◌, ◌∙◌, ◌≤◌, ◌/◌, ◌++◌, ◌∷◌, Bool, List, ℕ, [], ap, false, inl, inr, length, map, refl, subst, sym, take, true}
-use Rattle.std.specs.Prelude.{IfErr, IfOk, IfSome, IsErrAnd, Option, Some, None, Result, Ok, Err, is_some}
+use Rattle.std.specs.Prelude.{IfErr, IfOk, IfSome, IsErrAnd, OnOk, Option, Some, None, Result, Ok, Err, is_some}
 use Rattle.std.specs.declared.alloc.AllocError.{AllocError}
 use Rattle.std.specs.List.{flat_map}
 use Rattle.std.specs.Time.{system_time_nanos}
@@ -17,7 +17,13 @@ use Rattle.mon_host.specs.Log.{GoesOnBy}
 use Rattle.mon_host.specs.Then.{Follows}
 use Rattle.mon_host.proofs.Promised.{goes_on, stays, then_fails, then_follows, weaker}
 use Rattle.mon_rounds.specs.Grid.{milliseconds_of}
-use Rattle.mon_rounds.specs.Order.{RoundEvent}
+use Rattle.mon_rounds.specs.Next.{RoundState}
+use Rattle.mon_rounds.specs.Order.{IsRound, RoundEvent}
+use Rattle.mon_rounds.specs.Whole.{HasRun, IsWhole, RoundsView}
+use Rattle.mon_station.specs.Ran.{events_of, turns_of}
+use Rattle.mon_station.specs.ReadEvent.{OwnedEvent}
+use Rattle.mon_station.specs.Seen.{Seen}
+use Rattle.mon_disk.specs.declared.disk.Disk.{Ghosts}
 use Rattle.mon_rounds.specs.declared.changes.Change.{Change}
 use Rattle.mon_rounds.specs.declared.freshness.Freshness.{Freshness}
 use Rattle.mon_rounds.specs.declared.freshness.Spell.{Spell}
@@ -31,7 +37,7 @@ use Rattle.mon_station.specs.declared.running.Run.{Run}
 use Rattle.mon_station_commands.specs.Line.{noted}
 use Rattle.mon_station_commands.specs.Pace.{IsDate, IsPassed, IsStopped, IsWait}
 use Rattle.mon_station_commands.specs.Quiet.{AreQuiet}
-use Rattle.mon_station_commands.specs.Spans.{AreAlarms, AreChanges, AreTroubles, AreTroublesOf, IsAccount, IsAccountOf, IsNoReport, IsOfRun, IsReportOr, IsSavedAfter, IsSpan, IsSpanRun, IsTimedRun, IsUnsavedBy, is_round, round_after}
+use Rattle.mon_station_commands.specs.Spans.{AreAlarms, AreChanges, AreTroubles, AreTroublesOf, IsAccount, IsAccountOf, IsNoReport, IsOfRun, IsOfSpan, IsReportOr, IsSavedAfter, IsSpan, IsSpanRun, IsTimedRun, IsUnsavedBy, is_round, round_after}
 use Rattle.mon_station_commands.specs.Steps.{IsSaidOf, IsTried, OrMemory}
 use Rattle.mon_station_commands.specs.Telling.{AreNoted, AreSaid, restart_lines, round_lines}
 use Rattle.mon_station_commands.specs.Troubles.{key_of, lines_before}
@@ -175,14 +181,56 @@ module _ (IsReport : RoundReport → Type 0) (alarms : Bool → List (Level × L
       }
 
 -- the same span, of what a run was afterwards
-pub span_of : (targets targets2 : List Addr) (events events2 : List RoundEvent) (run run2 : Run) (alarms : Bool → List (Level × List ℕ)) (round : ℕ) (whole : Bool) (b a : Kept)
+pub span_of : (IsReport : List Addr → List RoundEvent → Run → RoundReport → Type 0) (targets targets2 : List Addr) (events events2 : List RoundEvent) (run run2 : Run)
+    (alarms : Bool → List (Level × List ℕ)) (round : ℕ) (whole : Bool) (b a : Kept)
     (t0 t1 : Option (List AtHost)) → targets2 ≡ targets → events2 ≡ events → run2 ≡ run
-    → GoesOnBy (λ log. IsSpan (IsOfRun targets events run) alarms round whole b a log) t0 t1
-    → GoesOnBy (λ log. IsSpan (IsOfRun targets2 events2 run2) alarms round whole b a log) t0 t1
-span_of targets targets2 events events2 run run2 alarms round whole b a t0 t1 one two three span =
-    subst (λ (n : Run). GoesOnBy (λ log. IsSpan (IsOfRun targets2 events2 n) alarms round whole b a log) t0 t1) (sym three)
-    (subst (λ (n : List RoundEvent). GoesOnBy (λ log. IsSpan (IsOfRun targets2 n run) alarms round whole b a log) t0 t1) (sym two)
-    (subst (λ (n : List Addr). GoesOnBy (λ log. IsSpan (IsOfRun n events run) alarms round whole b a log) t0 t1) (sym one) span))
+    → GoesOnBy (λ log. IsSpan (IsReport targets events run) alarms round whole b a log) t0 t1
+    → GoesOnBy (λ log. IsSpan (IsReport targets2 events2 run2) alarms round whole b a log) t0 t1
+span_of IsReport targets targets2 events events2 run run2 alarms round whole b a t0 t1 one two three span =
+    subst (λ (n : Run). GoesOnBy (λ log. IsSpan (IsReport targets2 events2 n) alarms round whole b a log) t0 t1) (sym three)
+    (subst (λ (n : List RoundEvent). GoesOnBy (λ log. IsSpan (IsReport targets2 n run) alarms round whole b a log) t0 t1) (sym two)
+    (subst (λ (n : List Addr). GoesOnBy (λ log. IsSpan (IsReport n events run) alarms round whole b a log) t0 t1) (sym one) span))
+
+-- ---- a whole round, which saves or does not
+as_of_span : (span : Span) (old new : RoundState) (given : List OwnedEvent) (run : Run) (report : RoundReport) → IsWhole span old new given
+    → IsOfRun new.targets new.events run report → IsOfSpan span old.saves new.targets new.events run report
+as_of_span Round old new given run report whole is = record {
+  is_of = is;
+  most = old.tries;
+  peers = old.peers;
+  order = subst (λ (t : List Addr). IsRound (length t) old.tries old.peers old.saves new.events) (sym whole.same.targets) whole.order;
+}
+as_of_span (Between milliseconds) old new given run report whole is = is
+
+account_as_of : (IsReport Other : RoundReport → Type 0) (alarms : Bool → List (Level × List ℕ)) (round : ℕ) (ran : Result Spell StationFault) (b a : Option KeeperFault) (log : List AtHost)
+    (r : Result Unit Failure) → OnOk ran ((report : RoundReport) → IsReport report → Other report) → IsAccountOf ran IsReport alarms round b a log r → IsAccountOf ran Other alarms round b a log r
+account_as_of IsReport Other alarms round (Ok spell) b a log r more (inl none) = inl none
+account_as_of IsReport Other alarms round (Ok spell) b a log r more (inr is) = inr record {
+  report = is.report;
+  report_is = more is.report is.report_is;
+  targets = is.targets;
+  begin = is.begin;
+  noted = is.noted;
+  saved = is.saved;
+  rest = is.rest;
+  changed = is.changed;
+  log_is = is.log_is;
+}
+account_as_of IsReport Other alarms round (Err fault) b a log r more is = is
+
+-- the account of a span that was run whole
+pub account_whole : {X : Type 0} {G : Ghosts X} → (span : Span) (old new : RoundState) (before after : Seen RoundsView G) (run : Run) (alarms : Bool → List (Level × List ℕ)) (round : ℕ)
+    (ran : Result Spell StationFault) (b a : Option KeeperFault) (r : Result Unit Failure) (t0 t1 : Option (List AtHost)) → OnOk ran (HasRun (IsWhole span old new) before after run)
+    → GoesOnBy (λ log. IsAccountOf ran (IsOfRun new.targets new.events run) alarms round b a log r) t0 t1
+    → GoesOnBy (λ log. IsAccountOf ran (IsOfSpan span old.saves new.targets new.events run) alarms round b a log r) t0 t1
+account_whole span old new before after run alarms round ran b a r t0 t1 whole =
+    weaker (λ log. IsAccountOf ran (IsOfRun new.targets new.events run) alarms round b a log r) (λ log. IsAccountOf ran (IsOfSpan span old.saves new.targets new.events run) alarms round b a log r) t0 t1
+    (λ log is. account_as_of (IsOfRun new.targets new.events run) (IsOfSpan span old.saves new.targets new.events run) alarms round ran b a log r (known ran whole) is)
+  where
+    known : (given : Result Spell StationFault) → OnOk given (HasRun (IsWhole span old new) before after run)
+        → OnOk given ((report : RoundReport) → IsOfRun new.targets new.events run report → IsOfSpan span old.saves new.targets new.events run report)
+    known (Ok spell) has = λ report is. as_of_span span old new (events_of (turns_of has.ran.calls)) run report has.are is
+    known (Err fault) has = has
 
 -- a clock failed, and nothing was run
 pub span_stops : (IsReport : RoundReport → Type 0) (alarms : Bool → List (Level × List ℕ)) (round : ℕ) (whole : Bool) (b a : Kept) (failure : Failure) (r : Result Unit Failure)

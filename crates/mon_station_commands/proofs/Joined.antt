@@ -264,12 +264,12 @@ module _ (timing : Timing) (reports : Reports) (s : StationSettings) where
   -- the rounds of a station whose reports are those of its arguments
   pub run_of : (own : Reports) (before : Kept) (r : Result Unit Failure) (t0 t1 : Option (List AtHost)) → own.printing ≡ reports.printing
       → own.paths ≡ reports.paths → before ≡ nothing_kept
-      → GoesOnBy (λ log. IsRun timing.rounds timing.report_every own.printing own.paths before log r) t0 t1
+      → GoesOnBy (λ log. IsRun timing own.printing own.paths before log r) t0 t1
       → GoesOnBy (λ log. IsRunOf timing reports log r) t0 t1
   run_of own before r t0 t1 printing out nothing run =
-      subst (λ (p : Printing). GoesOnBy (λ log. IsRun timing.rounds timing.report_every p reports.paths nothing_kept log r) t0 t1) printing
-      (subst (λ (o : Paths). GoesOnBy (λ log. IsRun timing.rounds timing.report_every own.printing o nothing_kept log r) t0 t1) out
-      (subst (λ (k : Kept). GoesOnBy (λ log. IsRun timing.rounds timing.report_every own.printing own.paths k log r) t0 t1) nothing run))
+      subst (λ (p : Printing). GoesOnBy (λ log. IsRun timing p reports.paths nothing_kept log r) t0 t1) printing
+      (subst (λ (o : Paths). GoesOnBy (λ log. IsRun timing own.printing o nothing_kept log r) t0 t1) out
+      (subst (λ (k : Kept). GoesOnBy (λ log. IsRun timing own.printing own.paths k log r) t0 t1) nothing run))
 
   -- a station without HTTP
   module _ where

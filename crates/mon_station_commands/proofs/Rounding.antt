@@ -1,8 +1,9 @@
 -- Rounds of a station, one after another.
 use Rattle.std.proofs.Common.{◌≡◌, ◌∙◌, ◌≢◌, ◌≤◌, ◌++◌, Bool, List, ℕ, [], zero, suc, refl, subst, sym, arith, ◌<◌, ◌-◌, ◌⊎◌, inl, inr, ◌+◌, option_map, string_bytes, true}
-use Rattle.std.specs.Prelude.{Option, Result, Ok, Err, String}
+use Rattle.std.specs.Prelude.{◌↔◌, IsTrue, Option, Result, Ok, Err, String}
 use Rattle.std.specs.Global.{Global}
 use Rattle.mon_alarms.specs.Announcing.{Announcer}
+use Rattle.mon_cli.specs.declared.meaning.Timing.{Timing}
 use Rattle.mon_console.specs.Printing.{IsFitted}
 use Rattle.mon_console.specs.declared.failure.Failure.{Failure}
 use Rattle.mon_console.specs.declared.printing.Printing.{Printing}
@@ -19,7 +20,7 @@ use Rattle.mon_station_commands.specs.Pace.{IsStopped}
 use Rattle.mon_station_commands.specs.Quiet.{AreQuiet}
 use Rattle.mon_station_commands.specs.Reporting.{IsOut, IsReported}
 use Rattle.mon_station_commands.specs.Rounds.{AreRounds, AreRun, IsBetween, IsFinish, IsLastReport, IsLastRun, IsReportAt, IsRound, IsRoundRun, IsRun, Moment, printed_by}
-use Rattle.mon_station_commands.specs.Spans.{IsOfRun, IsSpan}
+use Rattle.mon_station_commands.specs.Spans.{IsOfRound, IsSpan}
 use Rattle.mon_station_commands.specs.Steps.{IsKeptOf}
 use Rattle.mon_station_commands.specs.Telling.{announced_notes}
 use Rattle.mon_station_commands.specs.declared.live.Kept.{Kept}
@@ -27,13 +28,13 @@ use Rattle.mon_station_commands.specs.declared.live.Paths.{Paths}
 use Rattle.mon_udp.specs.declared.addr.Addr.{Addr}
 
 -- a look at the station's file, a span, and then a report
-pub round_is : (round : ℕ) (printing : Printing) (paths : Paths) (targets : List Addr) (events : List RoundEvent) (run : Run) (b ran a : Kept) (moment : Moment)
+pub round_is : (round : ℕ) (saves : Bool) (printing : Printing) (paths : Paths) (targets : List Addr) (events : List RoundEvent) (run : Run) (b ran a : Kept) (moment : Moment)
     (seen : List (List ℕ)) (announcer : Announcer) (strayed : Bool) (start before between after : Option (List AtHost)) → moment.reports.printing ≡ printing → moment.round_at ≡ ran.round_at
     → a ≡ record ran { unwritten = a.unwritten }
     → GoesOnBy (λ log. IsFileKept round (string_bytes paths.file) b.strayed log strayed) start before
-    → GoesOnBy (λ log. IsSpan (IsOfRun targets events run) (announced_notes printing round moment.state.board seen announcer) round true (let k : Kept = record b { strayed = strayed } in k) ran log) before between
-    → GoesOnBy (λ log. IsOut round (option_map string_bytes paths.out) (IsReportAt moment) ran.unwritten log a.unwritten) between after → GoesOnBy (λ log. IsRound round printing paths b a log) start after
-round_is round printing paths targets events run b ran a moment seen announcer strayed start before between after format at kept look first second = record {
+    → GoesOnBy (λ log. IsSpan (IsOfRound saves targets events run) (announced_notes printing round moment.state.board seen announcer) round true (let k : Kept = record b { strayed = strayed } in k) ran log) before between
+    → GoesOnBy (λ log. IsOut round (option_map string_bytes paths.out) (IsReportAt moment) ran.unwritten log a.unwritten) between after → GoesOnBy (λ log. IsRound round saves printing paths b a log) start after
+round_is round saves printing paths targets events run b ran a moment seen announcer strayed start before between after format at kept look first second = record {
   more = look.more ++ (first.more ++ second.more);
   holds = record {
     targets = targets;
@@ -59,15 +60,15 @@ round_is round printing paths targets events run b ran a moment seen announcer s
 }
 
 -- a clock that failed
-pub round_fails : (round : ℕ) (printing : Printing) (paths : Paths) (b a : Kept) (failure : Failure) (r : Result Unit Failure)
+pub round_fails : (round : ℕ) (saves : Bool) (printing : Printing) (paths : Paths) (b a : Kept) (failure : Failure) (r : Result Unit Failure)
     (before after : Option (List AtHost)) → r ≡ Err failure → GoesOnBy (λ log. IsStopped log failure) before after
-    → GoesOnBy (λ log. IsRoundRun round printing paths b a log r) before after
-round_fails round printing paths b a failure r before after is stop =
-    subst (λ (e : Result Unit Failure). GoesOnBy (λ log. IsRoundRun round printing paths b a log e) before after) (sym is) stop
+    → GoesOnBy (λ log. IsRoundRun round saves printing paths b a log r) before after
+round_fails round saves printing paths b a failure r before after is stop =
+    subst (λ (e : Result Unit Failure). GoesOnBy (λ log. IsRoundRun round saves printing paths b a log e) before after) (sym is) stop
 
 -- the last round
 pub last_is : (rounds : ℕ) (printing : Printing) (paths : Paths) (b a : Kept) (r : Result Unit Failure)
-    (before after : Option (List AtHost)) → rounds ≢ 0 → GoesOnBy (λ log. IsRoundRun rounds printing paths b a log r) before after
+    (before after : Option (List AtHost)) → rounds ≢ 0 → GoesOnBy (λ log. IsRoundRun rounds true printing paths b a log r) before after
     → GoesOnBy (λ log. IsLastRun rounds printing paths b a log r) before after
 last_is zero printing paths b a r before after some run = absurd (some refl)
 last_is (suc n) printing paths b a (Ok done) before after some run = run
@@ -77,14 +78,14 @@ last_of_all : (n rounds : ℕ) → (suc n ≤ rounds) ⊎ (suc n ≡ 1) → roun
 last_of_all n rounds (inl within) paths = grind arith
 last_of_all n rounds (inr first) paths = grind arith
 
-module _ (every : ℕ) (printing : Printing) (paths : Paths) (start : Kept) where
+module _ (timing : Timing) (printing : Printing) (paths : Paths) (start : Kept) where
   -- a round more, what is after it, and the wait
-  pub one_more : (n number : ℕ) (p1 p2 : Printing) (paths1 : Paths) (k0 k1 k2 k3 : Kept) (u : Unit)
-      (t0 t1 t2 t3 t4 : Option (List AtHost)) → number ≡ suc n → p1 ≡ printing → paths1 ≡ paths → p2 ≡ printing → k3 ≡ k2
-      → GoesOnBy (λ log. AreRounds every printing paths start n log k0) t0 t1
-      → GoesOnBy (λ log. IsRoundRun number p1 paths1 k0 k1 log (Ok u)) t1 t2 → GoesOnBy (λ log. IsBetween number every p2 k1 log k2) t2 t3
-      → GoesOnBy AreQuiet t3 t4 → GoesOnBy (λ log. AreRounds every printing paths start (suc n) log k3) t0 t4
-  one_more n number p1 p2 paths1 k0 k1 k2 k3 u t0 t1 t2 t3 t4 count same1 sameo same2 last first ran due quiet = record {
+  pub one_more : (n number : ℕ) (saves : Bool) (p1 p2 : Printing) (paths1 : Paths) (k0 k1 k2 k3 : Kept) (u : Unit)
+      (t0 t1 t2 t3 t4 : Option (List AtHost)) → number ≡ suc n → p1 ≡ printing → paths1 ≡ paths → p2 ≡ printing → k3 ≡ k2 → (IsTrue saves ↔ IsDue number timing.save_every)
+      → GoesOnBy (λ log. AreRounds timing printing paths start n log k0) t0 t1
+      → GoesOnBy (λ log. IsRoundRun number saves p1 paths1 k0 k1 log (Ok u)) t1 t2 → GoesOnBy (λ log. IsBetween number timing.report_every p2 k1 log k2) t2 t3
+      → GoesOnBy AreQuiet t3 t4 → GoesOnBy (λ log. AreRounds timing printing paths start (suc n) log k3) t0 t4
+  one_more n number saves p1 p2 paths1 k0 k1 k2 k3 u t0 t1 t2 t3 t4 count same1 sameo same2 last is_due first ran due quiet = record {
     more = ((first.more ++ ran.more) ++ due.more) ++ quiet.more;
     holds = record {
       before = k0;
@@ -92,13 +93,15 @@ module _ (every : ℕ) (printing : Printing) (paths : Paths) (start : Kept) wher
       earlier = first.holds;
       ran = k1;
       run = ran.more;
-      round_is = subst (λ (k : ℕ). IsRound k printing paths k0 k1 ran.more) count
-          (subst (λ (p : Printing). IsRound number p paths k0 k1 ran.more) same1
-          (subst (λ (o : Paths). IsRound number p1 o k0 k1 ran.more) sameo ran.holds));
+      saves = saves;
+      due = subst (λ (k : ℕ). IsTrue saves ↔ IsDue k timing.save_every) count is_due;
+      round_is = subst (λ (k : ℕ). IsRound k saves printing paths k0 k1 ran.more) count
+          (subst (λ (p : Printing). IsRound number saves p paths k0 k1 ran.more) same1
+          (subst (λ (o : Paths). IsRound number saves p1 o k0 k1 ran.more) sameo ran.holds));
       told = due.more;
-      between = subst (λ (k : ℕ). IsBetween k every printing k1 due.more k3) count
-          (subst (λ (p : Printing). IsBetween number every p k1 due.more k3) same2
-          (subst (λ (k : Kept). IsBetween number every p2 k1 due.more k) (sym last) due.holds));
+      between = subst (λ (k : ℕ). IsBetween k timing.report_every printing k1 due.more k3) count
+          (subst (λ (p : Printing). IsBetween number timing.report_every p k1 due.more k3) same2
+          (subst (λ (k : Kept). IsBetween number timing.report_every p2 k1 due.more k) (sym last) due.holds));
       rest = quiet.more;
       quiet = quiet.holds;
       log_is = refl;
@@ -117,17 +120,17 @@ due_is number every printing moment before kept t0 t1 due format at same done = 
   on = done.on;
 }
 
-module _ (every : ℕ) (p : Printing) (o : Paths) (start : Kept) where
+module _ (timing : Timing) (p : Printing) (o : Paths) (start : Kept) where
   -- before the first round
-  pub none_yet : (k : Kept) (t0 t1 : Option (List AtHost)) → k ≡ start → GoesOnBy AreQuiet t0 t1 → GoesOnBy (λ log. AreRounds every p o start zero log k) t0 t1
+  pub none_yet : (k : Kept) (t0 t1 : Option (List AtHost)) → k ≡ start → GoesOnBy AreQuiet t0 t1 → GoesOnBy (λ log. AreRounds timing p o start zero log k) t0 t1
   none_yet k t0 t1 is quiet = record { more = quiet.more; holds = (quiet.holds, is); on = quiet.on }
 
   -- a clock failed after so many rounds
-  pub stopped : (rounds n : ℕ) (k after : Kept) (failure : Failure) (r : Result Unit Failure) (t0 t1 t2 : Option (List AtHost)) → r ≡ Err failure → n ≤ rounds
-      → GoesOnBy (λ log. AreRounds every p o start n log k) t0 t1 → GoesOnBy (λ log. IsStopped log failure) t1 t2
-      → GoesOnBy (λ log. AreRun rounds every p o start log after r) t0 t2
-  stopped rounds n k after failure r t0 t1 t2 is within ran stop =
-      subst (λ (e : Result Unit Failure). GoesOnBy (λ log. AreRun rounds every p o start log after e) t0 t2) (sym is)
+  pub stopped : (n : ℕ) (k after : Kept) (failure : Failure) (r : Result Unit Failure) (t0 t1 t2 : Option (List AtHost)) → r ≡ Err failure → n ≤ timing.rounds
+      → GoesOnBy (λ log. AreRounds timing p o start n log k) t0 t1 → GoesOnBy (λ log. IsStopped log failure) t1 t2
+      → GoesOnBy (λ log. AreRun timing p o start log after r) t0 t2
+  stopped n k after failure r t0 t1 t2 is within ran stop =
+      subst (λ (e : Result Unit Failure). GoesOnBy (λ log. AreRun timing p o start log after e) t0 t2) (sym is)
       record {
         more = ran.more ++ stop.more;
         holds = record { ran = n; within = within; after = k; begin = ran.more; earlier = ran.holds; rest = stop.more; stopped = stop.holds; log_is = refl };
@@ -135,30 +138,30 @@ module _ (every : ℕ) (p : Printing) (o : Paths) (start : Kept) where
       }
 
   -- the last round after the others
-  pub all_run : (rounds n : ℕ) (k after : Kept) (r : Result Unit Failure) (t0 t1 t2 : Option (List AtHost)) → n ≡ rounds - 1
-      → GoesOnBy (λ log. AreRounds every p o start n log k) t0 t1 → GoesOnBy (λ log. IsLastRun rounds p o k after log r) t1 t2
-      → GoesOnBy (λ log. AreRun rounds every p o start log after r) t0 t2
-  all_run rounds n k after (Ok done) t0 t1 t2 count first last = record {
+  pub all_run : (n : ℕ) (k after : Kept) (r : Result Unit Failure) (t0 t1 t2 : Option (List AtHost)) → n ≡ timing.rounds - 1
+      → GoesOnBy (λ log. AreRounds timing p o start n log k) t0 t1 → GoesOnBy (λ log. IsLastRun timing.rounds p o k after log r) t1 t2
+      → GoesOnBy (λ log. AreRun timing p o start log after r) t0 t2
+  all_run n k after (Ok done) t0 t1 t2 count first last = record {
     more = first.more ++ last.more;
     holds = record {
       before = k;
       begin = first.more;
-      earlier = subst (λ (m : ℕ). AreRounds every p o start m first.more k) count first.holds;
+      earlier = subst (λ (m : ℕ). AreRounds timing p o start m first.more k) count first.holds;
       rest = last.more;
       last = last.holds;
       log_is = refl;
     };
     on = goes_on first.more last.more t0 t1 t2 first.on last.on;
   }
-  all_run rounds n k after (Err failure) t0 t1 t2 count first last =
-      stopped rounds n k after failure (Err failure) t0 t1 t2 refl (let within : n ≤ rounds = grind arith in within) first last
+  all_run n k after (Err failure) t0 t1 t2 count first last =
+      stopped n k after failure (Err failure) t0 t1 t2 refl (let within : n ≤ timing.rounds = grind arith in within) first last
 
   -- all of a run
-  pub run_is : (rounds : ℕ) (k : Kept) (moment : Moment) (ran result : Result Unit Failure) (t0 t1 t2 : Option (List AtHost)) → moment.reports.printing ≡ p
+  pub run_is : (k : Kept) (moment : Moment) (ran result : Result Unit Failure) (t0 t1 t2 : Option (List AtHost)) → moment.reports.printing ≡ p
       → moment.round_at ≡ k.round_at
-      → GoesOnBy (λ log. AreRun rounds every p o start log k ran) t0 t1 → GoesOnBy (λ log. Follows (λ done. IsFinish moment k) ran log result) t1 t2
-      → GoesOnBy (λ log. IsRun rounds every p o start log result) t0 t2
-  run_is rounds k moment ran result t0 t1 t2 format at first then = record {
+      → GoesOnBy (λ log. AreRun timing p o start log k ran) t0 t1 → GoesOnBy (λ log. Follows (λ done. IsFinish moment k) ran log result) t1 t2
+      → GoesOnBy (λ log. IsRun timing p o start log result) t0 t2
+  run_is k moment ran result t0 t1 t2 format at first then = record {
     more = first.more ++ then.more;
     holds = record {
       after = k;
@@ -213,15 +216,15 @@ from_zero n = omega arith
 at_last : (n number rounds : ℕ) → number ≡ suc n → (suc n ≤ rounds) ⊎ (suc n ≡ 1) → rounds ≤ number → n ≡ rounds - 1
 at_last n number rounds is so paths = last_of_all n rounds so (subst (λ (k : ℕ). rounds ≤ k) is paths)
 
-pub all_run_as : (every : ℕ) (p : Printing) (paths : Paths) (start : Kept) (rounds n number : ℕ) (p1 : Printing) (paths1 : Paths) (k after : Kept)
-    (r : Result Unit Failure) (t0 t1 t2 : Option (List AtHost)) → number ≡ suc n → (suc n ≤ rounds) ⊎ (suc n ≡ 1) → rounds ≤ number → p1 ≡ p → paths1 ≡ paths
-    → GoesOnBy (λ log. AreRounds every p paths start n log k) t0 t1
+pub all_run_as : (timing : Timing) (p : Printing) (paths : Paths) (start : Kept) (n number : ℕ) (p1 : Printing) (paths1 : Paths) (k after : Kept)
+    (r : Result Unit Failure) (t0 t1 t2 : Option (List AtHost)) → number ≡ suc n → (suc n ≤ timing.rounds) ⊎ (suc n ≡ 1) → timing.rounds ≤ number → p1 ≡ p → paths1 ≡ paths
+    → GoesOnBy (λ log. AreRounds timing p paths start n log k) t0 t1
     → GoesOnBy (λ log. IsLastRun rounds p1 paths1 k after log r) t1 t2
-    → GoesOnBy (λ log. AreRun rounds every p paths start log after r) t0 t2
-all_run_as every p paths start rounds n number p1 paths1 k after r t0 t1 t2 count so over same sameo first last =
-    all_run every p paths start rounds n k after r t0 t1 t2 (at_last n number rounds count so over) first
-    (subst (λ (q : Printing). GoesOnBy (λ log. IsLastRun rounds q paths k after log r) t1 t2) same
-    (subst (λ (q : Paths). GoesOnBy (λ log. IsLastRun rounds p1 q k after log r) t1 t2) sameo last))
+    → GoesOnBy (λ log. AreRun timing p paths start log after r) t0 t2
+all_run_as timing p paths start n number p1 paths1 k after r t0 t1 t2 count so over same sameo first last =
+    all_run timing p paths start n k after r t0 t1 t2 (at_last n number timing.rounds count so over) first
+    (subst (λ (q : Printing). GoesOnBy (λ log. IsLastRun timing.rounds q paths k after log r) t1 t2) same
+    (subst (λ (q : Paths). GoesOnBy (λ log. IsLastRun timing.rounds p1 q k after log r) t1 t2) sameo last))
 
 -- the last report, after standard output was looked at
 pub last_report : (moment : Moment) (last : Printing) (r : Result Unit Failure) (t0 t1 t2 : Option (List AtHost)) → GoesOnBy (IsFitted moment.reports.printing last) t0 t1

@@ -1,7 +1,8 @@
 -- What a station does from its first round to its last one.
-use Rattle.std.specs.Prelude.{◌≡◌, ◌⊎◌, ◌≤◌, ◌-◌, ℕ, zero, suc, Bool, false, true, List, [], ◌++◌, Option, Some, None, Result, Ok, Err, option_map, string_bytes}
+use Rattle.std.specs.Prelude.{◌≡◌, ◌⊎◌, ◌↔◌, ◌≤◌, ◌-◌, ℕ, zero, suc, Bool, IsTrue, false, true, List, [], ◌++◌, Option, Some, None, Result, Ok, Err, option_map, string_bytes}
 use Rattle.std.specs.Global.{Vec}
 use Rattle.mon_alarms.specs.Announcing.{Announcer}
+use Rattle.mon_cli.specs.declared.meaning.Timing.{Timing}
 use Rattle.mon_console.specs.Printing.{IsFitted}
 use Rattle.mon_console.specs.declared.failure.Failure.{Failure}
 use Rattle.mon_console.specs.declared.printing.Printing.{Printing}
@@ -18,7 +19,7 @@ use Rattle.mon_station_commands.specs.Keeping.{IsFileKept}
 use Rattle.mon_station_commands.specs.Pace.{IsStopped}
 use Rattle.mon_station_commands.specs.Quiet.{AreQuiet}
 use Rattle.mon_station_commands.specs.Reporting.{IsOut, IsReportOf, IsReported}
-use Rattle.mon_station_commands.specs.Spans.{IsOfRun, IsSpan}
+use Rattle.mon_station_commands.specs.Spans.{IsOfRound, IsSpan}
 use Rattle.mon_station_commands.specs.Steps.{IsKeptOf}
 use Rattle.mon_station_commands.specs.Telling.{announced_notes}
 use Rattle.mon_station_commands.specs.declared.live.Kept.{Kept}
@@ -63,12 +64,13 @@ IsReportAt m = IsReportOf m.state m.course m.fresh m.peers m.engines m.now m.rou
 abbrev pub nothing_kept : Kept
 nothing_kept = record { round_at = None; unsaved = None; unprinted = None; unwritten = None; strayed = false }
 
--- A round, before which it is seen that the station's file is at its path. Its lines are said, and its
--- report is written to the file for reports, if there is one.
+-- A round, before which it is seen that the station's file is at its path, and at whose end all is
+-- saved if `saves` says so. Its lines are said, and its report is written to the file for reports, if
+-- there is one.
 -- `before` and `after` are what is kept; `seen` is what the windows of alarms were before, and
 -- `announcer` what was announced.
-pub record IsRound (round : ℕ) (printing : Printing) (paths : Paths) (before after : Kept)
-    (log : List AtHost) : Type 0 where
+pub record IsRound (round : ℕ) (saves : Bool) (printing : Printing) (paths : Paths)
+    (before after : Kept) (log : List AtHost) : Type 0 where
   pub targets : List Addr
   pub events : List RoundEvent
   pub run : Run
@@ -82,7 +84,7 @@ pub record IsRound (round : ℕ) (printing : Printing) (paths : Paths) (before a
   pub looked : IsFileKept round (string_bytes paths.file) before.strayed look strayed
   pub ran : Kept
   pub begin : List AtHost
-  pub said : IsSpan (IsOfRun targets events run)
+  pub said : IsSpan (IsOfRound saves targets events run)
       (announced_notes printing round moment.state.board seen announcer) round true
       record before { strayed = strayed } ran begin
   pub rest : List AtHost
@@ -91,10 +93,11 @@ pub record IsRound (round : ℕ) (printing : Printing) (paths : Paths) (before a
   pub log_is : log ≡ look ++ (begin ++ rest)
 
 -- A round was run; or a clock failed, which the failure says, and no report was made.
-abbrev pub IsRoundRun : (round : ℕ) → Printing → (paths : Paths) → (before after : Kept)
-    → List AtHost → Result Unit Failure → Type 0
-IsRoundRun round printing paths before after log (Ok done) = IsRound round printing paths before after log
-IsRoundRun round printing paths before after log (Err failure) = IsStopped log failure
+abbrev pub IsRoundRun : (round : ℕ) → (saves : Bool) → Printing → (paths : Paths)
+    → (before after : Kept) → List AtHost → Result Unit Failure → Type 0
+IsRoundRun round saves printing paths before after log (Ok done) =
+    IsRound round saves printing paths before after log
+IsRoundRun round saves printing paths before after log (Err failure) = IsStopped log failure
 
 -- a report between two rounds is printed, and a failure of that is kept
 pub record IsPrinted (printing : Printing) (before : Kept) (log : List AtHost) (after : Kept)
@@ -112,33 +115,35 @@ IsBetween round every printing before log after =
     ⊎ ((¬ (IsDue round every)) × (log ≡ []) × (after ≡ before))
 
 -- after earlier ones a round more, the report after it, and the wait for the next one
-pub record IsOneMore (Earlier : List AtHost → Kept → Type 0) (round every : ℕ) (printing : Printing)
-    (paths : Paths) (log : List AtHost) (after : Kept) : Type 0 where
+pub record IsOneMore (Earlier : List AtHost → Kept → Type 0) (round : ℕ) (timing : Timing)
+    (printing : Printing) (paths : Paths) (log : List AtHost) (after : Kept) : Type 0 where
   pub before : Kept
   pub begin : List AtHost
   pub earlier : Earlier begin before
   pub ran : Kept
   pub run : List AtHost
-  pub round_is : IsRound round printing paths before ran run
+  pub saves : Bool
+  pub due : IsTrue saves ↔ IsDue round timing.save_every
+  pub round_is : IsRound round saves printing paths before ran run
   pub told : List AtHost
-  pub between : IsBetween round every printing ran told after
+  pub between : IsBetween round timing.report_every printing ran told after
   pub rest : List AtHost
   pub quiet : AreQuiet rest
   pub log_is : log ≡ ((begin ++ run) ++ told) ++ rest
 
 -- So many rounds were run, each with what is between it and the next. `start` and `after` are what is
 -- kept before and after them.
-abbrev pub AreRounds : (every : ℕ) → Printing → (paths : Paths) → (start : Kept) → ℕ
+abbrev pub AreRounds : Timing → Printing → (paths : Paths) → (start : Kept) → ℕ
     → List AtHost → (after : Kept) → Type 0
-AreRounds every printing paths start zero log after = AreQuiet log × (after ≡ start)
-AreRounds every printing paths start (suc n) log after =
-    IsOneMore (AreRounds every printing paths start n) (suc n) every printing paths log after
+AreRounds timing printing paths start zero log after = AreQuiet log × (after ≡ start)
+AreRounds timing printing paths start (suc n) log after =
+    IsOneMore (AreRounds timing printing paths start n) (suc n) timing printing paths log after
 
--- the last of so many rounds, if there are any
+-- the last of so many rounds, if there are any, at whose end all is saved
 abbrev pub IsLast : (rounds : ℕ) → Printing → (paths : Paths) → (before after : Kept)
     → List AtHost → Type 0
 IsLast zero printing paths before after log = (log ≡ []) × (after ≡ before)
-IsLast (suc n) printing paths before after log = IsRound (suc n) printing paths before after log
+IsLast (suc n) printing paths before after log = IsRound (suc n) true printing paths before after log
 
 -- the last of so many rounds, in which a clock may fail
 abbrev pub IsLastRun : (rounds : ℕ) → Printing → (paths : Paths) → (before after : Kept)
@@ -147,34 +152,34 @@ IsLastRun rounds printing paths before after log (Ok done) = IsLast rounds print
 IsLastRun rounds printing paths before after log (Err failure) = IsStopped log failure
 
 -- all rounds were run: those with another one after them, and the last
-pub record AreAll (rounds every : ℕ) (printing : Printing) (paths : Paths) (start : Kept)
+pub record AreAll (timing : Timing) (printing : Printing) (paths : Paths) (start : Kept)
     (log : List AtHost) (after : Kept) : Type 0 where
   pub before : Kept
   pub begin : List AtHost
-  pub earlier : AreRounds every printing paths start (rounds - 1) begin before
+  pub earlier : AreRounds timing printing paths start (timing.rounds - 1) begin before
   pub rest : List AtHost
-  pub last : IsLast rounds printing paths before after rest
+  pub last : IsLast timing.rounds printing paths before after rest
   pub log_is : log ≡ begin ++ rest
 
 -- A clock failed after some of the rounds, which the failure says.
-pub record AreCutShort (rounds every : ℕ) (printing : Printing) (paths : Paths)
+pub record AreCutShort (timing : Timing) (printing : Printing) (paths : Paths)
     (start : Kept) (log : List AtHost) (failure : Failure) : Type 0 where
   pub ran : ℕ
-  pub within : ran ≤ rounds
+  pub within : ran ≤ timing.rounds
   pub after : Kept
   pub begin : List AtHost
-  pub earlier : AreRounds every printing paths start ran begin after
+  pub earlier : AreRounds timing printing paths start ran begin after
   pub rest : List AtHost
   pub stopped : IsStopped rest failure
   pub log_is : log ≡ begin ++ rest
 
 -- all rounds were run, or a clock failed
-abbrev pub AreRun : (rounds every : ℕ) → Printing → (paths : Paths) → (start : Kept)
+abbrev pub AreRun : Timing → Printing → (paths : Paths) → (start : Kept)
     → List AtHost → (after : Kept) → Result Unit Failure → Type 0
-AreRun rounds every printing paths start log after (Ok done) =
-    AreAll rounds every printing paths start log after
-AreRun rounds every printing paths start log after (Err failure) =
-    AreCutShort rounds every printing paths start log failure
+AreRun timing printing paths start log after (Ok done) =
+    AreAll timing printing paths start log after
+AreRun timing printing paths start log after (Err failure) =
+    AreCutShort timing printing paths start log failure
 
 -- the last report is printed: as a table, if standard output is a terminal and the arguments name no
 -- format
@@ -192,13 +197,14 @@ IsFinish moment after = Then (IsLastReport moment)
     (λ done. Quietly (IsEnded after.unsaved after.unprinted after.unwritten))
 
 -- A station's run from its first round on: so many rounds, each with its report, and at the end one
--- report more. Nothing but these reports is printed or written, and nothing is read.
-pub record IsRun (rounds every : ℕ) (printing : Printing) (paths : Paths) (start : Kept)
+-- report more. All is saved at the end of the last round, and of each one that is due. Nothing but
+-- these reports is printed or written, and nothing is read.
+pub record IsRun (timing : Timing) (printing : Printing) (paths : Paths) (start : Kept)
     (log : List AtHost) (result : Result Unit Failure) : Type 0 where
   pub after : Kept
   pub ran : Result Unit Failure
   pub begin : List AtHost
-  pub rounds_are : AreRun rounds every printing paths start begin after ran
+  pub rounds_are : AreRun timing printing paths start begin after ran
   pub moment : Moment
   pub format : moment.reports.printing ≡ printing
   pub at : moment.round_at ≡ after.round_at

@@ -1,5 +1,5 @@
 -- What is said of a round, or of the time after it.
-use Rattle.std.specs.Prelude.{◌≡◌, ◌⊎◌, ◌≤◌, ◌/◌, ℕ, Bool, true, false, IsErrAnd, List, [], ◌∷◌, ◌++◌, Option, Some, None, Result, Ok, Err, map, take}
+use Rattle.std.specs.Prelude.{◌≡◌, ◌⊎◌, ◌≤◌, ◌/◌, ℕ, Bool, true, false, IsErrAnd, List, [], ◌∷◌, ◌++◌, Option, Some, None, Result, Ok, Err, length, map, take}
 use Rattle.std.specs.List.{flat_map}
 use Rattle.std.specs.Time.{system_time_nanos}
 use Rattle.std.specs.declared.time.Instant.{Instant}
@@ -14,7 +14,7 @@ use Rattle.mon_host.specs.Then.{Then}
 use Rattle.mon_host.specs.declared.level.Level.{Level}
 use Rattle.mon_rounds.specs.Grid.{milliseconds_of}
 use Rattle.mon_rounds.specs.Noted.{notices_of}
-use Rattle.mon_rounds.specs.Order.{RoundEvent}
+use Rattle.mon_rounds.specs.Order.{IsRound, RoundEvent}
 use Rattle.mon_rounds.specs.declared.changes.Change.{Change}
 use Rattle.mon_rounds.specs.declared.freshness.Freshness.{Freshness}
 use Rattle.mon_rounds.specs.declared.freshness.Spell.{Spell}
@@ -46,6 +46,19 @@ pub record IsOfRun (targets : List Addr) (events : List RoundEvent) (run : Run) 
   pub noticed : report.notices.items ≡ notices_of targets events run.answers.items
   pub sources : report.source_faults ≡ run.source_faults
   pub sends : report.send_faults ≡ run.send_faults
+
+-- The report of a whole round with these targets and events, which saves or does not.
+pub record IsOfRound (saves : Bool) (targets : List Addr) (events : List RoundEvent) (run : Run)
+    (report : RoundReport) : Type 0 where
+  pub is_of : IsOfRun targets events run report
+  pub most : ℕ
+  pub peers : List ℕ
+  pub order : IsRound (length targets) most peers saves events
+
+-- the report of a round, or of the time between two
+abbrev pub IsOfSpan : Span → (saves : Bool) → List Addr → List RoundEvent → Run → RoundReport → Type 0
+IsOfSpan Round saves = IsOfRound saves
+IsOfSpan (Between milliseconds) saves = IsOfRun
 
 -- the fault of a save, by its number in a notice, if there is one
 abbrev pub IsUnsavedBy : Option ℕ → Option KeeperFault → Type 0

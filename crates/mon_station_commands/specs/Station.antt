@@ -49,7 +49,7 @@ IsWebSaid (Some at) log result = (log ≡ Noted level.Info (http_line at) ∷ []
 
 -- the rounds of a station that has begun
 abbrev pub IsRunOf : Timing → Reports → List AtHost → Result Unit Failure → Type 0
-IsRunOf timing reports = IsRun timing.rounds timing.report_every reports.printing
+IsRunOf timing reports = IsRun timing reports.printing
     reports.paths nothing_kept
 
 -- A station whose socket and file are open begins to receive. It says where it is, which alarms are

@@ -12,7 +12,7 @@ ghost use Rattle.mon_rounds.specs.Whole.{HasRun, IsWhole, view_of};
 ghost use Rattle.mon_station_commands.specs.Opening.{IsNoStation, last_of, unsaved_in};
 ghost use Rattle.mon_station_commands.specs.Places.{IsNoSocket};
 ghost use Rattle.mon_station_commands.specs.Rounds.{nothing_kept};
-ghost use Rattle.mon_station_commands.specs.Spans.{AreAlarms, AreChanges, AreTroubles, AreTroublesOf, IsAccountOf, IsOfRun, IsReportOr, IsSavedAfter, IsSpanRun, IsTimedRun, is_round};
+ghost use Rattle.mon_station_commands.specs.Spans.{AreAlarms, AreChanges, AreTroubles, AreTroublesOf, IsAccountOf, IsOfRun, IsOfSpan, IsReportOr, IsSavedAfter, IsSpanRun, IsTimedRun, is_round};
 ghost use Rattle.mon_station_commands.specs.Steps.{OrMemory, SomeOr, only};
 ghost use Rattle.mon_station_commands.specs.Telling.{AreNoted, IsOpening, announced_notes, new_lines, start_lines};
 ghost use Rattle.mon_station.specs.Seen.{seen};
@@ -402,8 +402,9 @@ pub(crate) fn run_span<H: Host, S: Shows + Drop, O: Outbox + Drop>(
     number: u32,
     span: Span,
 ) -> Result<(), Failure>
-    ensures run { GoesOnBy (λ log. IsSpanRun (IsOfRun live.new.transport.rounds.round.targets
-        live.new.transport.rounds.round.events live.new.run) (announced_notes live.old.reports.printing number
+    ensures run { GoesOnBy (λ log. IsSpanRun (IsOfSpan span live.old.transport.rounds.round.saves
+        live.new.transport.rounds.round.targets live.new.transport.rounds.round.events live.new.run)
+        (announced_notes live.old.reports.printing number
         (state_of live.new.station.life).board (map (λ w. w.items) live.old.course.windows.items)
         live.old.course.announcer)
         number (is_round span) live.old.kept live.new.kept log result) (H.log host.old) (H.log host.new) }

@@ -363,8 +363,8 @@ fn run_rounds<R: Files<File = File> + AllocGlobal, H: Host, S: Shows + Drop, O: 
     live: &mut Live<S, O>,
     timing: Timing,
 ) -> Result<(), Failure>
-    ensures { GoesOnBy (λ log. IsRun timing.rounds timing.report_every live.old.reports.printing
-        live.old.reports.paths live.old.kept log result) (H.log host.old) (H.log host.new) }
+    ensures { GoesOnBy (λ log. IsRun timing live.old.reports.printing live.old.reports.paths
+        live.old.kept log result) (H.log host.old) (H.log host.new) }
 {
     let alloc = rt.alloc();
     run_all(rt, host, live, timing)?;
@@ -379,24 +379,22 @@ fn run_all<R: Files<File = File> + AllocGlobal, H: Host, S: Shows + Drop, O: Out
     live: &mut Live<S, O>,
     timing: Timing,
 ) -> Result<(), Failure>
-    ensures run { GoesOnBy (λ log. AreRun timing.rounds timing.report_every
-        live.old.reports.printing live.old.reports.paths
-        live.old.kept log live.new.kept result)
-        (H.log host.old) (H.log host.new) }
+    ensures run { GoesOnBy (λ log. AreRun timing live.old.reports.printing live.old.reports.paths
+        live.old.kept log live.new.kept result) (H.log host.old) (H.log host.new) }
     ensures printing { live.new.reports.printing ≡ live.old.reports.printing }
     ensures paths { live.new.reports.paths ≡ live.old.reports.paths }
 {
     let alloc = rt.alloc();
     let mut pace = start_pace(alloc, host, live, timing)?;
     for number in 1..timing.rounds {
-        run_round(rt, host, live, number)?;
+        run_round(rt, host, live, number, is_due(number, timing.save_every))?;
         print_due(alloc, host, live, number, timing.report_every);
         pace = wait_for_next(alloc, host, live, number, pace)?;
     }
     run_last(rt, host, live, timing.rounds)
 }
 
-/// Runs the last of so many rounds, if there are any.
+/// Runs the last of so many rounds, if there are any; at its end all is saved.
 fn run_last<R: Files<File = File> + AllocGlobal, H: Host, S: Shows + Drop, O: Outbox + Drop>(
     rt: &R,
     host: &mut H,
@@ -412,24 +410,26 @@ fn run_last<R: Files<File = File> + AllocGlobal, H: Host, S: Shows + Drop, O: Ou
     if rounds == 0 {
         return Ok(());
     }
-    run_round(rt, host, live, rounds)
+    run_round(rt, host, live, rounds, true)
 }
 
 /// Runs a round, once it is seen that the station's file is at its path, and writes its report to the
-/// file for reports.
+/// file for reports. At its end all is saved if `saves` says so.
 fn run_round<R: Files<File = File> + AllocGlobal, H: Host, S: Shows + Drop, O: Outbox + Drop>(
     rt: &R,
     host: &mut H,
     live: &mut Live<S, O>,
     number: u32,
+    saves: bool,
 ) -> Result<(), Failure>
-    ensures run { GoesOnBy (λ log. IsRoundRun number live.old.reports.printing
+    ensures run { GoesOnBy (λ log. IsRoundRun number saves live.old.reports.printing
         live.old.reports.paths live.old.kept live.new.kept log result)
         (H.log host.old) (H.log host.new) }
     ensures printing { live.new.reports.printing ≡ live.old.reports.printing }
     ensures paths { live.new.reports.paths ≡ live.old.reports.paths }
 {
     keep_file(rt, host, live, number);
+    live.transport.rounds.set_saves(saves);
     run_span(rt.alloc(), host, live, number, Span::Round)?;
     write_out(rt.alloc(), host, live, number);
     Ok(())

@@ -198,8 +198,48 @@ BUGS = {
     ),
     "windows_of_equal_length_are_equal": (
         "src/change.rt",
-        "        if !some[place].compare(&others[place]).is_eq() {\n            return false;\n        }\n",
+        "        if !some[place].is_same(&others[place]) {\n            return false;\n        }\n",
         "        let _ = &others[place];\n",
+    ),
+    "moves_on_by_any_sample": (
+        "src/change.rt",
+        "    if has_left(was, is, kept) {\n        return Some(newest);\n    }\n    None",
+        "    let _ = has_left(was, is, kept);\n    Some(newest)",
+    ),
+    "moves_on_where_the_oldest_is_no_older": (
+        "src/change.rt",
+        "    if !oldest.compare(first).is_lt() {",
+        "    if oldest.compare(first).is_gt() {",
+    ),
+    "moves_on_without_a_look_at_the_others": (
+        "src/change.rt",
+        "    are_equal(rest, kept)\n}",
+        "    let _ = rest;\n    kept.len() < was.len()\n}",
+    ),
+    "the_newest_does_nothing": (
+        "src/change.rt",
+        "    (event, right)\n",
+        "    let _ = event;\n    (None, right)\n",
+    ),
+    "the_newest_is_not_put_right": (
+        "src/change.rt",
+        "    (event, right)\n",
+        "    let _ = right;\n    (event, None)\n",
+    ),
+    "the_newest_follows_the_oldest": (
+        "src/change.rt",
+        "observe(was.last(), newest)",
+        "observe(was.first(), newest)",
+    ),
+    "is_put_right_by_the_first_look": (
+        "src/change.rt",
+        "put_right(after.is_raised(), state(rule, is))",
+        "put_right(after.is_raised(), state(rule, was))",
+    ),
+    "the_newest_is_reported_twice": (
+        "src/change.rt",
+        "    put_event(changes, number, event)?;\n    put_event(changes, number, right)\n}",
+        "    put_event(changes, number, event)?;\n    put_event(changes, number, event)?;\n    put_event(changes, number, right)\n}",
     ),
     "a_clear_alarm_is_reported_at_the_start": (
         "src/change.rt",
@@ -353,13 +393,13 @@ BUGS = {
     ),
     "puts_right_always": (
         "src/comparison.rt",
-        "        if reported == now.is_raised() {\n            return None;\n        }\n        Some(event_of(now))",
-        "        let _ = reported;\n        Some(event_of(now))",
+        "    if reported == now.is_raised() {\n        return None;\n    }\n    Some(event_of(now))",
+        "    let _ = reported;\n    Some(event_of(now))",
     ),
     "puts_right_without_what_was_reported": (
         "src/comparison.rt",
-        "raised_after(was, later_new(last, self.last_new));",
-        "{\n            let _ = last;\n            raised_after(was, None)\n        };",
+        "put_right(raised_after(was, later_new(last, self.last_new)), now)",
+        "let _ = last;\n        put_right(raised_after(was, None), now)",
     ),
     "keeps_the_first_as_the_last": (
         "src/comparison.rt",

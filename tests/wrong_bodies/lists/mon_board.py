@@ -48,13 +48,13 @@ BUGS = {
     ),
     "names_fall": (
         "src/instance.rt",
-        "            .then(self.name.parts().cmp(&name.parts()))",
-        "            .then(name.parts().cmp(&self.name.parts()))",
+        "        self.name.parts().cmp(&name.parts())",
+        "        name.parts().cmp(&self.name.parts())",
     ),
     "engines_fall": (
         "src/instance.rt",
-        "            .cmp(&engine)\n",
-        "            .cmp(&engine).reverse()\n",
+        "self.engine.as_slice().cmp(&engine);",
+        "self.engine.as_slice().cmp(&engine).reverse();",
     ),
     "engines_of_33": (
         "src/instance.rt",
@@ -93,8 +93,28 @@ BUGS = {
     ),
     "joins_itself": (
         "src/board.rt",
-        "        keep_each(&mut self.marks, &self.windows);",
-        "        keep_each(&mut self.marks, &other.windows);",
+        "        join_each(&mut self.windows, &other.windows);\n        keep_each(&mut self.marks, &self.windows);",
+        "        join_each(&mut self.windows, &other.windows);\n        keep_each(&mut self.marks, &other.windows);",
+    ),
+    "copies_nothing": (
+        "src/board.rt",
+        "        copy_each(&mut self.windows, &other.windows);\n",
+        "        let _ = other;\n",
+    ),
+    "joins_where_it_copies": (
+        "src/board.rt",
+        "        copy_each(&mut self.windows, &other.windows);\n",
+        "        join_each(&mut self.windows, &other.windows);\n",
+    ),
+    "copies_and_leaves_the_marks_of_what_went": (
+        "src/board.rt",
+        "        copy_each(&mut self.windows, &other.windows);\n        keep_each(&mut self.marks, &self.windows);\n",
+        "        copy_each(&mut self.windows, &other.windows);\n",
+    ),
+    "copies_all_but_the_first": (
+        "src/each.rt",
+        "    for i in 0..windows.len() {\n        windows[i].copy_from(&others[i]);",
+        "    for i in 1..windows.len() {\n        windows[i].copy_from(&others[i]);",
     ),
     "marks_what_is_not_there": (
         "src/board.rt",
@@ -228,8 +248,8 @@ BUGS = {
     ),
     "joins_and_leaves_the_marks_of_what_went": (
         "src/board.rt",
-        "        keep_each(&mut self.marks, &self.windows);\n",
-        "",
+        "        join_each(&mut self.windows, &other.windows);\n        keep_each(&mut self.marks, &self.windows);\n",
+        "        join_each(&mut self.windows, &other.windows);\n",
     ),
     "marks_for_the_first_slot": (
         "src/board.rt",

@@ -1,6 +1,11 @@
 """Bugs of mon_rates for tests/wrong_bodies/planted: by name the file, what stands there once, and the bug in its place."""
 
 BUGS = {
+    "copies_without_the_totals": (
+        "src/track.rt",
+        "        self.totals = other.totals;\n",
+        "        let _ = other.totals;\n",
+    ),
     "subtracts_backwards": (
         "src/totals.rt",
         "    let apart = to.wrapping_sub(from);",

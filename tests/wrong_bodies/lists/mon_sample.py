@@ -1,6 +1,21 @@
 """Bugs of mon_sample for tests/wrong_bodies/planted: by name the file, what stands there once, and the bug in its place."""
 
 BUGS = {
+    "is_the_same_at_another_value": (
+        "src/sample.rt",
+        "        if self.value != other.value || self.time != other.time {",
+        "        if self.time != other.time {",
+    ),
+    "is_the_same_after_a_discontinuity": (
+        "src/sample.rt",
+        "        if self.boots != other.boots || self.discontinuity != other.discontinuity {",
+        "        if self.boots != other.boots {",
+    ),
+    "is_never_the_same": (
+        "src/sample.rt",
+        "        self.kind.tag() == other.kind.tag()",
+        "        self.kind.tag() != other.kind.tag()",
+    ),
     "boots_are_the_time": (
         "src/sample.rt",
         "        self.boots",

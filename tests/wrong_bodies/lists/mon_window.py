@@ -1,6 +1,21 @@
 """Bugs of mon_window for tests/wrong_bodies/planted: by name the file, what stands there once, and the bug in its place."""
 
 BUGS = {
+    "keeps_its_own_in_front_of_copies": (
+        "src/row.rt",
+        "        self.all.clear();\n        self.start = 0;\n",
+        "        self.start = 0;\n",
+    ),
+    "copies_from_where_it_began": (
+        "src/row.rt",
+        "        self.all.clear();\n        self.start = 0;\n",
+        "        self.all.clear();\n        self.start = self.start.min(1).min(samples.len());\n",
+    ),
+    "copies_nothing": (
+        "src/window.rt",
+        "        self.items.replace(other.items.as_slice());",
+        "        let _ = other;",
+    ),
     "shows_what_left": (
         "src/row.rt",
         "        &self.all[self.start..]",

@@ -4,9 +4,9 @@ use Rattle.mon_rounds.specs.declared.freshness.Spell.{Spell}
 use Rattle.mon_station.specs.State.{state_of}
 use Rattle.mon_station.specs.declared.fault.StationFault.{StationFault}
 use Rattle.mon_station_commands.specs.Telling.{announced_notes}
-use Rattle.mon_station_commands.specs.Spans.{IsOfRun, is_round}
+use Rattle.mon_station_commands.specs.Spans.{IsOfSpan, is_round}
 use Rattle.mon_station_commands.specs.declared.live.Kept.{Kept}
-use Rattle.mon_station_commands.proofs.Accounts.{span_is, span_of, span_shown, span_stops, timed_stopped}
+use Rattle.mon_station_commands.proofs.Accounts.{account_whole, span_is, span_of, span_shown, span_stops, timed_stopped}
 use Rattle.mon_station_commands.proofs.Steps.{failure_is}
 use Rattle.mon_station_commands.proofs.live.run_span.Goals as goal
 
@@ -19,7 +19,7 @@ returns-in_err-ran-clause-run g c =
     let start = g.H.Host.log c.args.host.now in
     let end = g.H.Host.log c.run_timed.new.host in
     let r = c.from_residual.result in
-    span_stops (IsOfRun round.targets round.events after.run) (announced_notes live.reports.printing c.args.number (state_of after.station.life).board (map (λ w. w.items) live.course.windows.items) live.course.announcer) c.args.number (is_round c.args.span) live.kept after.kept failure r
+    span_stops (IsOfSpan c.args.span live.transport.rounds.round.saves round.targets round.events after.run) (announced_notes live.reports.printing c.args.number (state_of after.station.life).board (map (λ w. w.items) live.course.windows.items) live.course.announcer) c.args.number (is_round c.args.span) live.kept after.kept failure r
     start end (failure_is r failure c.from_residual.ensures.1)
     (c.run_timed.ensures.kept ∙ (λ i. let k : Kept = record live.kept { round_at = c.in_err-ran.ensures.timed.holds.1 i } in k))
     (timed_stopped (Result Spell StationFault) (is_round c.args.span) live.kept.round_at after.kept.round_at failure start end c.in_err-ran.ensures.timed)
@@ -38,10 +38,11 @@ returns-clause-run g c =
     let last = end.transport.rounds.round in
     let kept = sym (c.show_span.ensures.station ∙ c.report_run-told.ensures.station) in
     let same = c.show_span.ensures.round ∙ c.report_run-told.ensures.round in
-    span_of round.targets last.targets round.events last.events ran.run end.run (announced_notes live.reports.printing c.args.number (state_of end.station.life).board (map (λ w. w.items) live.course.windows.items) live.course.announcer) c.args.number (is_round c.args.span)
+    span_of (IsOfSpan c.args.span live.transport.rounds.round.saves) round.targets last.targets round.events last.events ran.run end.run (announced_notes live.reports.printing c.args.number (state_of end.station.life).board (map (λ w. w.items) live.course.windows.items) live.course.announcer) c.args.number (is_round c.args.span)
     live.kept end.kept start said (λ i. (same i).targets) (λ i. (same i).events) (c.show_span.ensures.ran ∙ c.report_run-told.ensures.ran)
-    (span_shown (IsOfRun round.targets round.events ran.run) (announced_notes ran.reports.printing c.args.number (state_of ran.station.life).board (map (λ w. w.items) ran.course.windows.items) ran.course.announcer) (announced_notes live.reports.printing c.args.number (state_of end.station.life).board (map (λ w. w.items) live.course.windows.items) live.course.announcer) c.args.number (is_round c.args.span)
+    (span_shown (IsOfSpan c.args.span live.transport.rounds.round.saves round.targets round.events ran.run) (announced_notes ran.reports.printing c.args.number (state_of ran.station.life).board (map (λ w. w.items) ran.course.windows.items) ran.course.announcer) (announced_notes live.reports.printing c.args.number (state_of end.station.life).board (map (λ w. w.items) live.course.windows.items) live.course.announcer) c.args.number (is_round c.args.span)
     live.kept end.kept start said (λ i. announced_notes (c.run_timed.ensures.printing i) c.args.number (state_of (kept i).life).board (map (λ w. w.items) (c.run_timed.ensures.course i).windows.items) (c.run_timed.ensures.course i).announcer)
-    (span_is (IsOfRun round.targets round.events ran.run) (announced_notes ran.reports.printing c.args.number (state_of ran.station.life).board (map (λ w. w.items) ran.course.windows.items) ran.course.announcer) c.args.number c.args.span c.in_ok-ran.ran live.kept ran.kept
+    (span_is (IsOfSpan c.args.span live.transport.rounds.round.saves round.targets round.events ran.run) (announced_notes ran.reports.printing c.args.number (state_of ran.station.life).board (map (λ w. w.items) ran.course.windows.items) ran.course.announcer) c.args.number c.args.span c.in_ok-ran.ran live.kept ran.kept
     told.kept end.kept c.report_run-told.result c.said.result start timed reported said c.in_ok-ran.ensures.span c.in_ok-ran.ensures.fault
-    c.run_timed.ensures.kept c.report_run-told.ensures.kept c.show_span.ensures.kept c.in_ok-ran.ensures.timed c.report_run-told.ensures.account c.said.ensures))
+    c.run_timed.ensures.kept c.report_run-told.ensures.kept c.show_span.ensures.kept c.in_ok-ran.ensures.timed
+    (account_whole c.args.span live.transport.rounds.round round _ _ ran.run _ c.args.number c.in_ok-ran.ran _ _ c.report_run-told.result timed reported c.in_ok-ran.ensures.ran c.report_run-told.ensures.account) c.said.ensures))

@@ -6,7 +6,7 @@ use Rattle.mon_station_commands.proofs.station.run_all.Goals as goal
 
 pub loop-number-init : goal.loop-number-init
 loop-number-init g c =
-    let every = c.args.timing.report_every in
+    let timing = c.args.timing in
     let live = c.args.live.now in
     let after = c.start_pace.new.live in
     let paths = live.reports.paths in
@@ -15,14 +15,14 @@ loop-number-init g c =
       0,
       refl,
       inr refl,
-      none_yet every live.reports.printing paths first after.kept start (g.H.Host.log c.start_pace.new.host) c.start_pace.ensures.kept c.in_ok-pace.ensures.quiet,
+      none_yet timing live.reports.printing paths first after.kept start (g.H.Host.log c.start_pace.new.host) c.start_pace.ensures.kept c.in_ok-pace.ensures.quiet,
       c.start_pace.ensures.printing,
       c.start_pace.ensures.paths,
     )
 
 pub loop-number-preserved : goal.loop-number-preserved
 loop-number-preserved g c =
-    let every = c.args.timing.report_every in
+    let timing = c.args.timing in
     let rounds = c.args.timing.rounds in
     let live = c.args.live.now in
     let first = live.kept in
@@ -38,9 +38,9 @@ loop-number-preserved g c =
     let three = c.print_due.new.live in
     let four = c.wait_for_next.new.live in
     let format = c.run_round.ensures.printing ∙ inv.4 in
-    let more = one_more every live.reports.printing live.reports.paths first n c.loop-number.number one.reports.printing two.reports.printing one.reports.paths
+    let more = one_more timing live.reports.printing live.reports.paths first n c.loop-number.number c.is_due.result one.reports.printing two.reports.printing one.reports.paths
     one.kept two.kept three.kept four.kept c.in_ok-run_round.field-0 start before ran told end inv.1 inv.4 inv.5 format
-    c.wait_for_next.ensures.kept inv.3 c.in_ok-run_round.ensures.run c.print_due.ensures.run c.in_ok-pace-2.ensures.quiet in (
+    c.wait_for_next.ensures.kept c.is_due.ensures inv.3 c.in_ok-run_round.ensures.run c.print_due.ensures.run c.in_ok-pace-2.ensures.quiet in (
       suc n,
       one_on n c.loop-number.number inv.1,
       inl (within_one n c.loop-number.number rounds inv.1 c.loop-number-test.true),
@@ -51,7 +51,7 @@ loop-number-preserved g c =
 
 pub returns-in_err-run_round-clause-run : goal.returns-in_err-run_round-clause-run
 returns-in_err-run_round-clause-run g c =
-    let every = c.args.timing.report_every in
+    let timing = c.args.timing in
     let rounds = c.args.timing.rounds in
     let live = c.args.live.now in
     let paths = live.reports.paths in
@@ -64,13 +64,13 @@ returns-in_err-run_round-clause-run g c =
     let ran = g.H.Host.log c.run_round.new.host in
     let failure = c.in_err-run_round.field-0.0 in
     let r = c.from_residual-in_err-run_round.result in
-    stopped every live.reports.printing paths live.kept rounds n one.kept two.kept failure r
+    stopped timing live.reports.printing paths live.kept n one.kept two.kept failure r
     start before ran (failure_is r failure c.from_residual-in_err-run_round.ensures.1) (within n c.loop-number.number rounds inv.1 c.loop-number-test.true) inv.3
     c.in_err-run_round.ensures.run
 
 pub returns-in_err-pace-2-clause-run : goal.returns-in_err-pace-2-clause-run
 returns-in_err-pace-2-clause-run g c =
-    let every = c.args.timing.report_every in
+    let timing = c.args.timing in
     let rounds = c.args.timing.rounds in
     let live = c.args.live.now in
     let paths = live.reports.paths in
@@ -87,17 +87,17 @@ returns-in_err-pace-2-clause-run g c =
     let three = c.print_due.new.live in
     let four = c.wait_for_next.new.live in
     let format = c.run_round.ensures.printing ∙ inv.4 in
-    let more = one_more every live.reports.printing live.reports.paths first n c.loop-number.number one.reports.printing two.reports.printing one.reports.paths
+    let more = one_more timing live.reports.printing live.reports.paths first n c.loop-number.number c.is_due.result one.reports.printing two.reports.printing one.reports.paths
     one.kept two.kept three.kept three.kept c.in_ok-run_round.field-0 start before ran told told inv.1 inv.4 inv.5 format
-    refl inv.3 c.in_ok-run_round.ensures.run c.print_due.ensures.run (still told) in
+    refl c.is_due.ensures inv.3 c.in_ok-run_round.ensures.run c.print_due.ensures.run (still told) in
     let failure = c.in_err-pace-2.field-0.0 in
     let r = c.from_residual-in_err-pace-2.result in
-    stopped every live.reports.printing paths first rounds (suc n) three.kept four.kept failure r start told end
+    stopped timing live.reports.printing paths first (suc n) three.kept four.kept failure r start told end
     (failure_is r failure c.from_residual-in_err-pace-2.ensures.1) (within_less n c.loop-number.number rounds inv.1 c.loop-number-test.true) more c.in_err-pace-2.ensures.quiet
 
 pub returns-clause-run : goal.returns-clause-run
 returns-clause-run g c =
-    let every = c.args.timing.report_every in
+    let timing = c.args.timing in
     let rounds = c.args.timing.rounds in
     let live = c.args.live.now in
     let start = g.H.Host.log c.args.host.now in
@@ -107,7 +107,7 @@ returns-clause-run g c =
     let two = c.run_last.new.live in
     let before = g.H.Host.log c.loop-number.host in
     let end = g.H.Host.log c.run_last.new.host in
-    all_run_as every live.reports.printing live.reports.paths live.kept rounds n c.loop-number.number one.reports.printing one.reports.paths
+    all_run_as timing live.reports.printing live.reports.paths live.kept n c.loop-number.number one.reports.printing one.reports.paths
     one.kept two.kept c.run_last.result start before end inv.1 inv.2 c.loop-number-test.false inv.4 inv.5
     inv.3 c.run_last.ensures.run
 
@@ -134,11 +134,11 @@ returns-in_err-pace-clause-run g c =
     let live = c.args.live.now in
     let after = c.start_pace.new.live in
     let first = live.kept in
-    let every = c.args.timing.report_every in
+    let timing = c.args.timing in
     let paths = live.reports.paths in
     let start = g.H.Host.log c.args.host.now in
     let failure = c.in_err-pace.field-0.0 in
     let r = c.from_residual.result in
-    stopped every live.reports.printing paths first c.args.timing.rounds 0 first after.kept failure r start start
+    stopped timing live.reports.printing paths first 0 first after.kept failure r start start
     (g.H.Host.log c.start_pace.new.host) (failure_is r failure c.from_residual.ensures.1) (from_zero c.args.timing.rounds)
-    (none_yet every live.reports.printing paths first first start start refl (still start)) c.in_err-pace.ensures.quiet
+    (none_yet timing live.reports.printing paths first first start start refl (still start)) c.in_err-pace.ensures.quiet

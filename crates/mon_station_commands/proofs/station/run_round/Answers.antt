@@ -6,7 +6,7 @@ use Rattle.mon_station.specs.State.{state_of}
 use Rattle.mon_station_commands.specs.Reporting.{IsOut}
 use Rattle.mon_station_commands.specs.Rounds.{IsReportAt, Moment}
 use Rattle.mon_station_commands.specs.Telling.{announced_notes}
-use Rattle.mon_station_commands.specs.Spans.{IsOfRun, IsSpan}
+use Rattle.mon_station_commands.specs.Spans.{IsOfRound, IsSpan}
 use Rattle.mon_station_commands.specs.declared.live.Kept.{Kept}
 use Rattle.mon_station_commands.specs.declared.live.Paths.{Paths}
 use Rattle.mon_station_commands.proofs.Accounts.{span_stopped}
@@ -30,9 +30,9 @@ returns-clause-run g c =
     let last = c.write_out.new.live.kept in
     let seen = map (λ w. w.items) looked.course.windows.items in
     let board = (state_of after.station.life).board in
-    let span = subst (λ (k : Kept). GoesOnBy (λ log. IsSpan (IsOfRun round.targets round.events after.run) (announced_notes live.reports.printing c.args.number board seen looked.course.announcer) c.args.number true k after.kept log) found ran) look.kept
-    (subst (λ (p : Printing). GoesOnBy (λ log. IsSpan (IsOfRun round.targets round.events after.run) (announced_notes p c.args.number board seen looked.course.announcer) c.args.number true looked.kept after.kept log) found ran) (λ i. (look.reports i).printing) c.in_ok-run_span.ensures.run) in
-    round_is c.args.number live.reports.printing live.reports.paths round.targets round.events after.run live.kept after.kept last
+    let span = subst (λ (k : Kept). GoesOnBy (λ log. IsSpan (IsOfRound c.args.saves round.targets round.events after.run) (announced_notes live.reports.printing c.args.number board seen looked.course.announcer) c.args.number true k after.kept log) found ran) look.kept
+    (subst (λ (p : Printing). GoesOnBy (λ log. IsSpan (IsOfRound c.args.saves round.targets round.events after.run) (announced_notes p c.args.number board seen looked.course.announcer) c.args.number true looked.kept after.kept log) found ran) (λ i. (look.reports i).printing) c.in_ok-run_span.ensures.run) in
+    round_is c.args.number c.args.saves live.reports.printing live.reports.paths round.targets round.events after.run live.kept after.kept last
     moment seen looked.course.announcer looked.kept.strayed (g.H.Host.log c.args.host.now) found ran end (c.run_span.ensures.printing ∙ (λ i. (look.reports i).printing)) (λ i. after.kept.round_at)
     c.write_out.ensures.kept look.looked span
     (subst (λ (o : Paths). GoesOnBy (λ log. IsOut c.args.number (option_map string_bytes o.out) (IsReportAt moment) after.kept.unwritten log last.unwritten) ran end) (c.run_span.ensures.paths ∙ (λ i. (look.reports i).paths)) c.write_out.ensures.written)
@@ -48,8 +48,8 @@ returns-in_err-run_span-clause-run g c =
     let ran = g.H.Host.log c.run_span.new.host in
     let failure = c.in_err-run_span.field-0.0 in
     let r = c.from_residual.result in
-    round_fails c.args.number live.reports.printing live.reports.paths live.kept after.kept failure r start ran
+    round_fails c.args.number c.args.saves live.reports.printing live.reports.paths live.kept after.kept failure r start ran
     (failure_is r failure c.from_residual.ensures.1)
     (stopped_on failure start found ran (look_quiet c.args.number (string_bytes live.reports.paths.file) live.kept.strayed looked.kept.strayed start found c.keep_file.ensures.looked)
-    (span_stopped (IsOfRun round.targets round.events after.run) (announced_notes looked.reports.printing c.args.number (state_of after.station.life).board (map (λ w. w.items) looked.course.windows.items) looked.course.announcer) c.args.number true looked.kept after.kept failure found ran
+    (span_stopped (IsOfRound c.args.saves round.targets round.events after.run) (announced_notes looked.reports.printing c.args.number (state_of after.station.life).board (map (λ w. w.items) looked.course.windows.items) looked.course.announcer) c.args.number true looked.kept after.kept failure found ran
     c.in_err-run_span.ensures.run))
