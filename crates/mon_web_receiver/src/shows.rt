@@ -38,7 +38,7 @@ pub trait Shows<C: Content>: Receiver {
 }
 
 impl<C: Content, R: Ticks, S: Receives> Shows<C> for SocketReceiver<'_, R, S> {
-    ghost use Rattle.std.specs.Prelude.{None};
+    ghost use Rattle.std.specs.Prelude.{◌≡◌, None};
 
     ghost shown = { λ _. None };
 
