@@ -12,6 +12,7 @@ pub mod laws;
 mod naming;
 mod printing;
 mod settings;
+mod shared;
 
 pub use agents::{AgentAt, agent_at, answer_failure, community};
 pub use failure::Failure;
@@ -26,3 +27,4 @@ pub use naming::{
 };
 pub use printing::Printing;
 pub use settings::{module_files_in, read_station_file, settings_failure, station_settings_in};
+pub use shared::SharedPrinting;

@@ -2,7 +2,7 @@
 
 ghost use Rattle.std.specs.Prelude.{◌≡◌, ◌↔◌, [], IfOk, IsTrue, None, is_some, option_map, string_bytes};
 ghost use Rattle.mon_board.specs.Board.{window_of};
-ghost use Rattle.mon_console.specs.Printing.{IsFitted, IsPrinting, aged, presented, shown_names, with_labels};
+ghost use Rattle.mon_console.specs.Printing.{IsPrinting, aged, presented, shown_names, with_labels};
 ghost use Rattle.mon_console.specs.Shown.{shown_by};
 ghost use Rattle.mon_host.specs.Log.{GoesOnBy};
 ghost use Rattle.mon_formats.specs.Changes.{change_line, instance_text};
@@ -25,10 +25,10 @@ use std::alloc::{AllocError, Global};
 
 /// How reports are printed.
 pub struct Printing {
-    format: Format,
+    pub(crate) format: Format,
     /// `true` if the arguments name the format.
-    chosen: bool,
-    names: Option<Names>,
+    pub(crate) chosen: bool,
+    pub(crate) names: Option<Names>,
     /// The labels of each instance, in their order.
     labels: Vec<InstanceLabels>,
     presentation: Presentation,
@@ -104,31 +104,11 @@ impl Printing {
         printing
     }
 
-    /// Makes reports tables from now on, if the arguments name no format and standard output is a
-    /// terminal.
-    pub fn fit_output<H: Host>(&mut self, host: &mut H)
-        ensures { GoesOnBy (IsFitted self.old self.new) (H.log host.old) (H.log host.new) }
-    {
-        if self.chosen {
-            return;
-        }
-        if host.prints_to_terminal() {
-            self.format = Format::Columns;
-        }
-    }
-
     /// Returns `true` if the format is lines of text.
     pub fn is_text(&self) -> bool
         ensures { IsTrue result ↔ (self.now.format ≡ Text) }
     {
         self.format == Format::Text
-    }
-
-    /// Returns `true` if the format is lines of text with names in numbers.
-    pub fn is_plain(&self) -> bool
-        ensures { IsTrue result ↔ ((self.now.format ≡ Text) × (self.now.names ≡ None)) }
-    {
-        self.is_text() && self.names.is_none()
     }
 
     /// The report of these instances, and for Prometheus of what the station says of itself.
@@ -148,7 +128,7 @@ impl Printing {
 
     /// The report of these instances in this format, and for Prometheus of what the station says of
     /// itself. The buffer's octets are dropped, and its capacity is used again.
-    pub fn text_in(
+    pub(crate) fn text_in(
         &self,
         buffer: Vec<u8>,
         format: Format,
@@ -175,7 +155,7 @@ impl Printing {
     }
 
     /// Returns the line of an alarm of a board that changed, without its end.
-    pub fn alarm_line(
+    pub(crate) fn alarm_line(
         &self,
         alloc: Global,
         board: &Board,
@@ -192,7 +172,11 @@ impl Printing {
     }
 
     /// Returns an instance's engine id and its name.
-    pub fn instance_text(&self, alloc: Global, instance: &Instance) -> Result<String, AllocError>
+    pub(crate) fn instance_text(
+        &self,
+        alloc: Global,
+        instance: &Instance,
+    ) -> Result<String, AllocError>
         ensures { IfOk result (λ text.
             string_bytes text ≡ instance_text (shown_by self.now.names) instance.now) }
     {

@@ -1,6 +1,7 @@
 mod Accounts
 mod Ages
 mod Changes
+mod Copies
 mod Checked
 mod Joined
 mod Keepings

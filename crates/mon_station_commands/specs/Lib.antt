@@ -13,6 +13,7 @@ pub mod Reporting
 pub mod Rounds
 pub mod Saved
 pub mod Showing
+pub mod Snapshot
 pub mod Spans
 pub mod Station
 pub mod Steps

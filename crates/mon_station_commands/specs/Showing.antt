@@ -15,18 +15,17 @@ use Rattle.mon_station.specs.State.{State}
 use Rattle.mon_station_commands.specs.Figures.{AreFigures}
 use Rattle.mon_station_commands.specs.Reporting.{entries_by}
 use Rattle.mon_station_commands.specs.declared.live.Reports.{Reports}
-use Rattle.mon_web.specs.Site.{with_texts}
-use Rattle.mon_web.specs.declared.site.Site.{Site}
-use Rattle.mon_web.specs.declared.site.Texts.{Texts}
+use Rattle.mon_web.specs.Site.{View, with_texts}
+use Rattle.mon_web.specs.Texts.{Texts}
 
 -- Texts are the report of these instances in the formats of a site's three routes: of figures for
 -- which this holds, with names shown so, and with these labels, presented so.
 pub record AreTexts (Holds : Figures → Type 0) (shown : List ℕ → List ℕ) (entries : List Entry) (labels : List InstanceLabels) (presentation : Presentation) (texts : Texts) : Type 0 where
   pub figures : Figures
   pub holds : Holds figures
-  pub metrics : texts.metrics.items ≡ formatted Prometheus shown entries (Some figures) labels presentation
-  pub report : texts.report.items ≡ formatted Json shown entries (Some figures) labels presentation
-  pub page : texts.page.items ≡ formatted Html shown entries (Some figures) labels presentation
+  pub metrics : texts.metrics ≡ formatted Prometheus shown entries (Some figures) labels presentation
+  pub report : texts.report ≡ formatted Json shown entries (Some figures) labels presentation
+  pub page : texts.page ≡ formatted Html shown entries (Some figures) labels presentation
 
 -- The texts of a station: of its board as it is, of what was announced of its alarms, and of what it
 -- says of itself, as AreFigures has it.
@@ -39,7 +38,7 @@ AreTextsOf state course fresh peers engines now round_at reports =
 
 -- A site, if there is one, shows texts for which this holds; or none, if there was no memory for
 -- them.
-pub record IsShown (Holds : Texts → Type 0) (old new : Option Site) : Type 0 where
+pub record IsShown (Holds : Texts → Type 0) (old new : Option View) : Type 0 where
   pub texts : Option Texts
   pub holds : IfSome texts Holds
   pub shown : new ≡ option_map (with_texts texts) old

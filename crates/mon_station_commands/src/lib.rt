@@ -2,6 +2,7 @@
 #![tactic(auto)]
 
 mod age;
+mod copying;
 mod figures;
 mod keeping;
 mod limits;
@@ -10,6 +11,7 @@ mod opening;
 mod pace;
 mod printing;
 mod showing;
+mod snapshot;
 mod station;
 mod telling;
 mod troubles;

@@ -22,9 +22,10 @@ use crate::opening::{or_socket_failure, unopened};
 use crate::pace::{passed, wall_time};
 use crate::printing::said;
 use crate::showing::show_span;
+use crate::snapshot::Snapshot;
 use crate::telling::{Alarms, tell_alarms, tell_notices, tell_raised, tell_restarts};
 use crate::troubles::{Facts, tell_troubles as say_troubles};
-use mon_console::{Failure, Printing};
+use mon_console::{Failure, SharedPrinting};
 use mon_core::Core;
 use mon_disk::{FileDisk, KeeperFault};
 use mon_host::{Host, Level};
@@ -164,7 +165,7 @@ pub(crate) struct Paths {
 pub(crate) struct Reports {
     /// The station's number.
     pub(crate) station: u32,
-    pub(crate) printing: Printing,
+    pub(crate) printing: SharedPrinting,
     pub(crate) paths: Paths,
     pub(crate) stale_after: u32,
     pub(crate) alarm_after: u32,
@@ -395,7 +396,7 @@ fn watched<S: Receiver + Drop, O: Outbox + Drop>(
 
 /// Runs a round or the time after it, and prints its notices. If memory runs out that is reported,
 /// and the station goes on.
-pub(crate) fn run_span<H: Host, S: Shows + Drop, O: Outbox + Drop>(
+pub(crate) fn run_span<H: Host, S: Shows<Snapshot> + Drop, O: Outbox + Drop>(
     alloc: Global,
     host: &mut H,
     live: &mut Live<S, O>,

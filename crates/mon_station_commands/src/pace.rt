@@ -9,6 +9,7 @@ ghost use Rattle.mon_station_commands.specs.Pace.{IsDate, IsPassed, IsTime, IsWa
 ghost use Rattle.mon_station_commands.specs.Telling.{AreNoted, first_line, outrun_lines};
 
 use crate::live::{Live, Transport, run_span};
+use crate::snapshot::Snapshot;
 use mon_cli::Timing;
 use mon_console::Failure;
 use mon_host::{Host, Level};
@@ -37,7 +38,7 @@ const TELL_AFTER: u32 = 1000;
 /// Returns when the rounds begin, the first one now. With a phase it waits for that by the wall clock;
 /// so does a station with peers for its share of the interval, so that they poll one after another.
 /// Until then it answers its peers.
-pub(crate) fn start_pace<H: Host, S: Shows + Drop, O: Outbox + Drop>(
+pub(crate) fn start_pace<H: Host, S: Shows<Snapshot> + Drop, O: Outbox + Drop>(
     alloc: Global,
     host: &mut H,
     live: &mut Live<S, O>,
@@ -103,7 +104,7 @@ fn phase<S: Receiver + Drop, O: Outbox + Drop>(
 }
 
 /// Hands the station what comes until the round after this one begins. Returns when that was due.
-pub(crate) fn wait_for_next<H: Host, S: Shows + Drop, O: Outbox + Drop>(
+pub(crate) fn wait_for_next<H: Host, S: Shows<Snapshot> + Drop, O: Outbox + Drop>(
     alloc: Global,
     host: &mut H,
     live: &mut Live<S, O>,
@@ -143,7 +144,7 @@ fn tell_outrun<H: Host>(host: &mut H, number: u32, pace: Pace, passed: u64)
 }
 
 /// Hands the station what comes until the next round is due.
-fn pause<H: Host, S: Shows + Drop, O: Outbox + Drop>(
+fn pause<H: Host, S: Shows<Snapshot> + Drop, O: Outbox + Drop>(
     alloc: Global,
     host: &mut H,
     live: &mut Live<S, O>,

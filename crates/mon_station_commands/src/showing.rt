@@ -1,30 +1,24 @@
 //! What a running station shows over HTTP.
 
-ghost use Rattle.std.specs.Prelude.{◌≡◌, IfOk, OnOk, Some, option_map};
-ghost use Rattle.mon_console.specs.Shown.{shown_by};
-ghost use Rattle.mon_formats.specs.Formats.{formatted};
+ghost use Rattle.std.specs.Prelude.{◌≡◌, IfOk, option_map};
 ghost use Rattle.mon_station.specs.State.{state_of};
 ghost use Rattle.mon_station_commands.specs.Showing.{AreTextsOf, IsShown};
+ghost use Rattle.mon_station_commands.specs.Snapshot.{AreBlank, texts_of};
 ghost use Rattle.mon_web.specs.Site.{with_round};
 
+use crate::copying::copy_of;
 use crate::figures::make_figures;
 use crate::live::Live;
-use mon_console::Printing;
-use mon_formats::{Figures, Format};
-use mon_report::{Entry, announced_entries};
+use crate::snapshot::{Drafts, Snapshot, Source};
+use mon_board::Board;
 use mon_rounds::{Receiver, Span};
 use mon_station::Outbox;
-use mon_web::Texts;
 use mon_web_receiver::Shows;
 use std::alloc::{AllocError, Global};
-use std::mem;
-
-/// The format of the page for a browser.
-const PAGE: Format = Format::Html;
 
 /// Shows what is known after a round, or after the time between two in which something came. If there
 /// is no memory for that, nothing is shown until there is.
-pub(crate) fn show_span<S: Shows + Drop, O: Outbox + Drop>(
+pub(crate) fn show_span<S: Shows<Snapshot> + Drop, O: Outbox + Drop>(
     alloc: Global,
     live: &mut Live<S, O>,
     number: u32,
@@ -52,8 +46,12 @@ pub(crate) fn show_span<S: Shows + Drop, O: Outbox + Drop>(
     show(alloc, live);
 }
 
-/// Shows what is known, by texts in the buffers of the texts so far.
-pub(crate) fn show<S: Shows + Drop, O: Outbox + Drop>(alloc: Global, live: &mut Live<S, O>)
+/// Shows what is known now. A text of it is made when it is first asked for, in the memory of what was
+/// shown before.
+pub(crate) fn show<S: Shows<Snapshot> + Drop, O: Outbox + Drop>(
+    alloc: Global,
+    live: &mut Live<S, O>,
+)
     ensures shown { IsShown (AreTextsOf (state_of live.old.station.life) live.old.course live.old.freshness live.old.transport.peers.items live.old.transport.engines.items live.old.ended live.old.kept.round_at live.old.reports)
         (S.shown live.old.transport.rounds.receiver) (S.shown live.new.transport.rounds.receiver) }
     ensures printing { live.new.reports.printing ≡ live.old.reports.printing }
@@ -64,52 +62,56 @@ pub(crate) fn show<S: Shows + Drop, O: Outbox + Drop>(alloc: Global, live: &mut 
     ensures station { live.new.station ≡ live.old.station }
 {
     if live.transport.rounds.receiver().is_shown() {
-        let before = live.transport.rounds.receiver_mut().take_texts();
-        let texts = make_texts(alloc, live, before).ok();
-        live.transport.rounds.receiver_mut().show(texts);
+        let before = live.transport.rounds.receiver_mut().take_content();
+        let after = snapshot_of(alloc, live, before).ok();
+        live.transport.rounds.receiver_mut().show(after);
     }
 }
 
-/// Makes the texts that are shown, in the buffers of these before them.
-fn make_texts<S: Receiver + Drop, O: Outbox + Drop>(
+/// Returns what is shown now, in the memory of what was shown before.
+fn snapshot_of<S: Receiver + Drop, O: Outbox + Drop>(
     alloc: Global,
     live: &Live<S, O>,
-    before: Option<Texts>,
-) -> Result<Texts, AllocError>
-    // The texts are those of the board, of what was announced of its alarms and of what the station
+    before: Option<Snapshot>,
+) -> Result<Snapshot, AllocError>
+    // Its texts are those of the board, of what was announced of its alarms and of what the station
     // says of itself, as they are now.
-    ensures { IfOk result (AreTextsOf (state_of live.now.station.life) live.now.course live.now.freshness live.now.transport.peers.items live.now.transport.engines.items live.now.ended live.now.kept.round_at live.now.reports) }
+    ensures { IfOk result (λ snapshot. AreTextsOf (state_of live.now.station.life) live.now.course live.now.freshness live.now.transport.peers.items live.now.transport.engines.items live.now.ended live.now.kept.round_at live.now.reports (texts_of snapshot.source)) }
+{
+    let (drafts, board) = memory_of(alloc, before);
+    let source = source_of(alloc, live, board)?;
+    Ok(Snapshot::new(source, drafts))
+}
+
+/// Returns the memory for texts, and that for windows: those of what was shown before, if anything was.
+fn memory_of(alloc: Global, before: Option<Snapshot>) -> (Drafts, Option<Board>)
+    ensures { AreBlank result.0 }
+{
+    match before {
+        Some(before) => {
+            let (drafts, board) = before.into_parts();
+            (drafts, Some(board))
+        }
+        None => (Drafts::new(alloc), None),
+    }
+}
+
+/// Returns what texts are made of, as it is now, in the memory of a board.
+fn source_of<S: Receiver + Drop, O: Outbox + Drop>(
+    alloc: Global,
+    live: &Live<S, O>,
+    memory: Option<Board>,
+) -> Result<Source, AllocError>
+    ensures { IfOk result (λ source. AreTextsOf (state_of live.now.station.life) live.now.course live.now.freshness live.now.transport.peers.items live.now.transport.engines.items live.now.ended live.now.kept.round_at live.now.reports (texts_of source)) }
 {
     let figures = make_figures(alloc, live)?;
     let states = live.course.announced(alloc)?;
-    let entries = announced_entries(alloc, live.station.board(), states.as_slice())?;
-    let entries = entries.as_slice();
-    let printing = &live.reports.printing;
-    let mut texts = before.unwrap_or(Texts::empty(alloc));
-    make_text(
-        &mut texts.metrics,
+    let board = copy_of(alloc, live.station.board(), memory)?;
+    let printing = live.reports.printing.share()?;
+    Ok(Source {
+        board,
+        states,
+        figures,
         printing,
-        Format::Prometheus,
-        entries,
-        &figures,
-    )?;
-    make_text(&mut texts.report, printing, Format::Json, entries, &figures)?;
-    make_text(&mut texts.page, printing, PAGE, entries, &figures)?;
-    Ok(texts)
-}
-
-/// Makes a text in its own buffer: the report of these instances and of the station in this format.
-fn make_text(
-    text: &mut Vec<u8>,
-    printing: &Printing,
-    format: Format,
-    entries: &[Entry],
-    figures: &Figures,
-) -> Result<(), AllocError>
-    ensures { OnOk result (text.new.items ≡ formatted format (shown_by printing.now.names) entries.now (Some figures.now) printing.now.labels.items printing.now.presentation) }
-{
-    let empty = Vec::new(*text.allocator());
-    let buffer = mem::replace(text, empty);
-    *text = printing.text_in(buffer, format, entries, Some(figures))?;
-    Ok(())
+    })
 }

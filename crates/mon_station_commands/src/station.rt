@@ -22,8 +22,9 @@ use crate::opening::{open_file, or_no_socket, or_socket_failure, unsaved};
 use crate::pace::{now, start_pace, wait_for_next};
 use crate::printing::{print_between, print_last, write_out};
 use crate::showing::show;
+use crate::snapshot::Snapshot;
 use mon_cli::{StationArgs, Timing};
-use mon_console::{Failure, Printing, read_labelled_station};
+use mon_console::{Failure, Printing, SharedPrinting, read_labelled_station};
 use mon_host::{Host, Level};
 use mon_rounds::{Receiver, SocketReceiver, Span, is_due};
 use mon_settings::StationSettings;
@@ -129,6 +130,7 @@ fn reports_of(
 ) -> Result<Reports, Failure>
     ensures { OrMemory (AreReports words.entry settings.now printing) result }
 {
+    let printing = SharedPrinting::new(alloc, printing)?;
     let instances = if printing.is_plain() {
         settings.core.watch().instances().len()
     } else {
@@ -258,7 +260,7 @@ fn tell_http<H: Host>(host: &mut H, at: SocketAddr)
 struct Shown {
     socket: PolledSocket,
     place: Place,
-    web: Web,
+    web: Web<Snapshot>,
     /// Where it serves HTTP.
     at: SocketAddr,
 }
@@ -308,7 +310,7 @@ fn open_web<R: Net + AllocGlobal>(
     front: Front<'_, '_>,
     settings: &StationSettings,
     timing: Timing,
-) -> Result<(Web, SocketAddr), Failure>
+) -> Result<(Web<Snapshot>, SocketAddr), Failure>
     ensures failed { SomeOr (IsNoSocket front.entry.at) result }
     ensures names { IfOk result (λ web. map string_bytes web.0.table.site.names.items ≡ map (λ t. t.now) front.entry.hosts.now) }
     ensures limit { IfOk result (λ web. web.0.table.site.limit ≡ longest_gap settings.now timing.interval) }
@@ -357,12 +359,12 @@ fn door_at(alloc: Global, text: &str) -> Result<Option<Addr>, Failure>
 
 /// Runs a station through its rounds, and prints its report. If a report between two rounds could not
 /// be printed, the last round's could not be written or its save failed, that is the failure.
-fn run_rounds<R: Files<File = File> + AllocGlobal, H: Host, S: Shows + Drop, O: Outbox + Drop>(
-    rt: &R,
-    host: &mut H,
-    live: &mut Live<S, O>,
-    timing: Timing,
-) -> Result<(), Failure>
+fn run_rounds<
+    R: Files<File = File> + AllocGlobal,
+    H: Host,
+    S: Shows<Snapshot> + Drop,
+    O: Outbox + Drop,
+>(rt: &R, host: &mut H, live: &mut Live<S, O>, timing: Timing) -> Result<(), Failure>
     ensures { GoesOnBy (λ log. IsRun timing live.old.reports.printing live.old.reports.paths
         live.old.kept log result) (H.log host.old) (H.log host.new) }
 {
@@ -373,12 +375,12 @@ fn run_rounds<R: Files<File = File> + AllocGlobal, H: Host, S: Shows + Drop, O: 
 }
 
 /// Runs a station's rounds, and what is between them.
-fn run_all<R: Files<File = File> + AllocGlobal, H: Host, S: Shows + Drop, O: Outbox + Drop>(
-    rt: &R,
-    host: &mut H,
-    live: &mut Live<S, O>,
-    timing: Timing,
-) -> Result<(), Failure>
+fn run_all<
+    R: Files<File = File> + AllocGlobal,
+    H: Host,
+    S: Shows<Snapshot> + Drop,
+    O: Outbox + Drop,
+>(rt: &R, host: &mut H, live: &mut Live<S, O>, timing: Timing) -> Result<(), Failure>
     ensures run { GoesOnBy (λ log. AreRun timing live.old.reports.printing live.old.reports.paths
         live.old.kept log live.new.kept result) (H.log host.old) (H.log host.new) }
     ensures printing { live.new.reports.printing ≡ live.old.reports.printing }
@@ -395,12 +397,12 @@ fn run_all<R: Files<File = File> + AllocGlobal, H: Host, S: Shows + Drop, O: Out
 }
 
 /// Runs the last of so many rounds, if there are any; at its end all is saved.
-fn run_last<R: Files<File = File> + AllocGlobal, H: Host, S: Shows + Drop, O: Outbox + Drop>(
-    rt: &R,
-    host: &mut H,
-    live: &mut Live<S, O>,
-    rounds: u32,
-) -> Result<(), Failure>
+fn run_last<
+    R: Files<File = File> + AllocGlobal,
+    H: Host,
+    S: Shows<Snapshot> + Drop,
+    O: Outbox + Drop,
+>(rt: &R, host: &mut H, live: &mut Live<S, O>, rounds: u32) -> Result<(), Failure>
     ensures run { GoesOnBy (λ log. IsLastRun rounds live.old.reports.printing
         live.old.reports.paths live.old.kept live.new.kept log result)
         (H.log host.old) (H.log host.new) }
@@ -415,7 +417,12 @@ fn run_last<R: Files<File = File> + AllocGlobal, H: Host, S: Shows + Drop, O: Ou
 
 /// Runs a round, once it is seen that the station's file is at its path, and writes its report to the
 /// file for reports. At its end all is saved if `saves` says so.
-fn run_round<R: Files<File = File> + AllocGlobal, H: Host, S: Shows + Drop, O: Outbox + Drop>(
+fn run_round<
+    R: Files<File = File> + AllocGlobal,
+    H: Host,
+    S: Shows<Snapshot> + Drop,
+    O: Outbox + Drop,
+>(
     rt: &R,
     host: &mut H,
     live: &mut Live<S, O>,
@@ -436,7 +443,7 @@ fn run_round<R: Files<File = File> + AllocGlobal, H: Host, S: Shows + Drop, O: O
 }
 
 /// Prints the report if it is due after this round.
-fn print_due<H: Host, S: Shows + Drop, O: Outbox + Drop>(
+fn print_due<H: Host, S: Shows<Snapshot> + Drop, O: Outbox + Drop>(
     alloc: Global,
     host: &mut H,
     live: &mut Live<S, O>,

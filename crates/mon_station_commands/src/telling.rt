@@ -12,7 +12,7 @@ ghost use Rattle.mon_station_commands.specs.Telling.{AreNoted, AreSaid, alarm_le
 use crate::live::Live;
 use mon_alarms::{AlarmChange, AlarmEvent};
 use mon_board::Board;
-use mon_console::Printing;
+use mon_console::SharedPrinting;
 use mon_disk::KeeperFault;
 use mon_host::{Host, Level};
 use mon_poller::ResponseFault;
@@ -310,7 +310,7 @@ pub(crate) fn tell_raised<H: Host, S: Receiver + Drop, O: Outbox + Drop>(
 #[derive(Clone, Copy)]
 pub(crate) struct Alarms<'a> {
     pub(crate) board: &'a Board,
-    pub(crate) printing: &'a Printing,
+    pub(crate) printing: &'a SharedPrinting,
     pub(crate) round: Option<u32>,
 }
 

@@ -8,7 +8,7 @@ ghost use Rattle.mon_station_commands.specs.Troubles.{AreTroublesSaid, BeginsWit
 
 use crate::telling::plural;
 use mon_board::Board;
-use mon_console::Printing;
+use mon_console::SharedPrinting;
 use mon_host::{Host, Level};
 use mon_reasons::Latest;
 use mon_rounds::{Change, Freshness, InstanceAge, PeerAge, TargetAge, Trouble, explain_stale};
@@ -23,7 +23,7 @@ pub(crate) struct Facts<'a> {
     pub(crate) engines: &'a [Vec<u8>],
     pub(crate) latest: &'a Latest,
     pub(crate) board: &'a Board,
-    pub(crate) printing: &'a Printing,
+    pub(crate) printing: &'a SharedPrinting,
 }
 
 /// A change, and by what others are said in one line with it.

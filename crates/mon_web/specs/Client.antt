@@ -9,14 +9,13 @@ use Rattle.mon_http.specs.Conversation.{Conversation}
 use Rattle.mon_http.specs.Request.{IsJudged, IsQuiet}
 use Rattle.mon_http.specs.declared.request.Verdict.{Verdict}
 use Rattle.mon_web.specs.Response.{IsResponse}
-use Rattle.mon_web.specs.Site.{names_of}
+use Rattle.mon_web.specs.Site.{View}
 use Rattle.mon_web.specs.Stream.{IsReceived, IsSent, part_of, read_into}
 use Rattle.mon_web.specs.declared.client.Client.{Client}
 use Rattle.mon_web.specs.declared.client.Turn.{Turn}
 use Rattle.mon_web.specs.declared.client.Turn.TheVariants.{Waits, GoesOn, Begins, Ends}
 use Rattle.mon_web.specs.declared.response.Moment.{Moment}
 use Rattle.mon_web.specs.declared.seat.Stage.TheVariants.{Idle, Sending, Closing}
-use Rattle.mon_web.specs.declared.site.Site.{Site}
 
 -- what a call did that passes octets: the stream before, the octets, its answer, the stream after
 abbrev pub Call : Type 0 → Type 1
@@ -90,36 +89,36 @@ pub record IsDraining {S : Type 0} (Read : Call S) (buffer : List ℕ) (old new 
   pub after : turn ≡ after_reading answer
 
 -- What came was answered by what the site shows at this moment, and the stream was asked nothing.
-pub record IsAnswering {S : Type 0} (site : Site) (at : Moment) (old new : Client S)
+pub record IsAnswering {S : Type 0} (view : View) (at : Moment) (old new : Client S)
     (turn : Turn) : Type 0 where
-  pub answered : IsResponse site at old.connection true new.connection
+  pub answered : IsResponse view at old.connection true new.connection
   pub kept : new.stream ≡ old.stream
   pub after : turn ≡ Begins Sending
 
 -- There was no memory for a response to what came: nothing changes, and the client is gone.
-pub record IsGivenUp {S : Type 0} (site : Site) (old new : Client S) (turn : Turn) : Type 0 where
+pub record IsGivenUp {S : Type 0} (view : View) (old new : Client S) (turn : Turn) : Type 0 where
   pub verdict : Verdict
-  pub judged : IsJudged (names_of site) old.connection.unread verdict
+  pub judged : IsJudged view.names old.connection.unread verdict
   pub kept : (new.stream ≡ old.stream) × (new.connection ≡ old.connection)
   pub after : turn ≡ Ends
 
 -- A client's turn. Where something is pending, a part of it is sent. Where the connection then
 -- closes, what still comes is drained. Else what came is answered; or where that is no request yet,
 -- more is read.
-pub data IsTurn {S : Type 0} (Wrote Read : Call S) (Ended : End S) (site : Site) (at : Moment)
+pub data IsTurn {S : Type 0} (Wrote Read : Call S) (Ended : End S) (view : View) (at : Moment)
     (buffer : List ℕ) (old new : Client S) (turn : Turn) : Type 0 where
   sends : old.connection.unsent ≢ []
       → IsSending Wrote Ended old new turn
-      → IsTurn Wrote Read Ended site at buffer old new turn
+      → IsTurn Wrote Read Ended view at buffer old new turn
   drains : old.connection.unsent ≡ [] → old.connection.closing ≡ true
       → IsDraining Read buffer old new turn
-      → IsTurn Wrote Read Ended site at buffer old new turn
+      → IsTurn Wrote Read Ended view at buffer old new turn
   answers : old.connection.unsent ≡ [] → old.connection.closing ≡ false
-      → IsAnswering site at old new turn
-      → IsTurn Wrote Read Ended site at buffer old new turn
+      → IsAnswering view at old new turn
+      → IsTurn Wrote Read Ended view at buffer old new turn
   reads : old.connection.unsent ≡ [] → old.connection.closing ≡ false
       → IsQuiet old.connection.unread → IsReading Read buffer old new turn
-      → IsTurn Wrote Read Ended site at buffer old new turn
+      → IsTurn Wrote Read Ended view at buffer old new turn
   gives_up : old.connection.unsent ≡ [] → old.connection.closing ≡ false
-      → IsGivenUp site old new turn
-      → IsTurn Wrote Read Ended site at buffer old new turn
+      → IsGivenUp view old new turn
+      → IsTurn Wrote Read Ended view at buffer old new turn

@@ -1,3 +1,4 @@
+pub mod Texts
 pub mod Site
 pub mod Seat
 pub mod Response

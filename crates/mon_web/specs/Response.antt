@@ -3,13 +3,12 @@ use Rattle.std.specs.Prelude.{◌≡◌, ◌⊎◌, Bool, true, false}
 use Rattle.mon_http.specs.declared.request.Verdict.{Verdict}
 use Rattle.mon_http.specs.Conversation.{Conversation, Moment as Replies, with_text, len_of, keeps, said}
 use Rattle.mon_http.specs.Request.{IsJudged, IsQuiet}
-use Rattle.mon_web.specs.declared.site.Site.{Site}
 use Rattle.mon_web.specs.declared.response.Moment.{Moment}
-use Rattle.mon_web.specs.Site.{names_of, out_of_memory, reply_for}
+use Rattle.mon_web.specs.Site.{View, out_of_memory, reply_for}
 
 -- what a site answers at this time
-abbrev pub replies : Site → Moment → Replies
-replies site at = record { date = at.date; reply = λ route. reply_for site at.now route }
+abbrev pub replies : View → Moment → Replies
+replies view at = record { date = at.date; reply = λ route. reply_for view at.now route }
 
 -- what is answered at this time if there is no memory for the texts
 abbrev pub poor_replies : Moment → Replies
@@ -21,7 +20,7 @@ after replies verdict c = with_text (len_of verdict) (keeps verdict) (said repli
 
 -- Nothing is answered, and more octets are needed; or what was judged is answered by what the site shows, or
 -- that there is no memory for that. These are the steps of mon_http's histories.
-abbrev pub IsResponse : Site → Moment → Conversation → Bool → Conversation → Type 0
-IsResponse site at old false new = IsQuiet old.unread × (new ≡ old)
-IsResponse site at old true new = (verdict : Verdict) × IsJudged (names_of site) old.unread verdict
-    × ((new ≡ after (replies site at) verdict old) ⊎ (new ≡ after (poor_replies at) verdict old))
+abbrev pub IsResponse : View → Moment → Conversation → Bool → Conversation → Type 0
+IsResponse view at old false new = IsQuiet old.unread × (new ≡ old)
+IsResponse view at old true new = (verdict : Verdict) × IsJudged view.names old.unread verdict
+    × ((new ≡ after (replies view at) verdict old) ⊎ (new ≡ after (poor_replies at) verdict old))

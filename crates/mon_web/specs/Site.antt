@@ -1,14 +1,40 @@
 -- What a station shows over HTTP, and what it answers to a request.
-use Rattle.std.specs.Prelude.{ℕ, ◌-◌, ◌/◌, Bool, false, List, map, string_bytes, Option, Some, None, codes, nat_le, if◌then◌else◌}
+use Rattle.std.specs.Prelude.{ℕ, ◌-◌, ◌/◌, Bool, false, IfSome, List, map, string_bytes, Option, Some, None, codes, nat_le, option_map, if◌then◌else◌}
 use Rattle.mon_http.specs.declared.response.Status.TheVariants.{Success, ServiceUnavailable}
 use Rattle.mon_http.specs.declared.response.Media.TheVariants.{Prometheus, Json, Html, Plain}
 use Rattle.mon_http.specs.declared.route.Route.{Route}
 use Rattle.mon_http.specs.declared.route.Route.TheVariants.{Metrics, Report, Page, Health}
 use Rattle.mon_http.specs.Response.{Reply, healthy_reply, unhealthy_reply}
 use Rattle.mon_http.specs.declared.answer.LastRound.{LastRound}
+use Rattle.mon_web.specs.Texts.{Texts}
+use Rattle.mon_web.specs.declared.content.Text.{Text}
+use Rattle.mon_web.specs.declared.content.Text.TheVariants as texts
 use Rattle.mon_web.specs.declared.site.Ended.{Ended}
 use Rattle.mon_web.specs.declared.site.Site.{Site}
-use Rattle.mon_web.specs.declared.site.Texts.{Texts}
+
+-- what a site answers by: the names of hosts that it serves, beside localhost and addresses; what its
+-- texts say, if it has any; the end of the last round, and how long after it the station is healthy
+pub record View : Type 0 where
+  pub names : List (List ℕ)
+  pub texts : Option Texts
+  pub ended : Option Ended
+  pub limit : ℕ
+
+-- what a site answers by, whose content says so
+abbrev pub view_of : {C : Type 0} → (says : C → Texts) → Site C → View
+view_of says site = record {
+  names = map string_bytes site.names.items;
+  texts = option_map says site.content;
+  ended = site.ended;
+  limit = site.limit;
+}
+
+-- content has the text for a route, if there is content and the route has a text
+abbrev pub IsMadeFor : {C : Type 0} → (made : C → Text → Type 0) → Option C → Route → Type 0
+IsMadeFor made content Metrics = IfSome content (λ c. made c texts.Metrics)
+IsMadeFor made content Report = IfSome content (λ c. made c texts.Report)
+IsMadeFor made content Page = IfSome content (λ c. made c texts.Page)
+IsMadeFor made content Health = Unit {0}
 
 -- rounds end in time: one ended, and at most `limit` ago
 abbrev pub is_healthy : Option Ended → ℕ → ℕ → Bool
@@ -36,15 +62,15 @@ health_reply (Some ended) limit now =
 
 -- the reply with the figures
 abbrev pub metrics_reply : Texts → Reply
-metrics_reply texts = record { status = Success; media = Prometheus; body = texts.metrics.items }
+metrics_reply texts = record { status = Success; media = Prometheus; body = texts.metrics }
 
 -- the reply with the report
 abbrev pub report_reply : Texts → Reply
-report_reply texts = record { status = Success; media = Json; body = texts.report.items }
+report_reply texts = record { status = Success; media = Json; body = texts.report }
 
 -- the reply with the page
 abbrev pub page_reply : Texts → Reply
-page_reply texts = record { status = Success; media = Html; body = texts.page.items }
+page_reply texts = record { status = Success; media = Html; body = texts.page }
 
 -- the reply with one of the texts, or 503 if there was no memory for them
 abbrev pub text_reply : (Texts → Reply) → Option Texts → Reply
@@ -52,20 +78,16 @@ text_reply reply None = out_of_memory
 text_reply reply (Some texts) = reply texts
 
 -- the reply of a site to a request for a route at this time
-abbrev pub reply_for : Site → ℕ → Route → Reply
-reply_for site now Metrics = text_reply metrics_reply site.texts
-reply_for site now Report = text_reply report_reply site.texts
-reply_for site now Page = text_reply page_reply site.texts
-reply_for site now Health = health_reply site.ended site.limit now
-
--- the names of hosts that a site serves, beside localhost and addresses
-abbrev pub names_of : Site → List (List ℕ)
-names_of site = map string_bytes site.names.items
+abbrev pub reply_for : View → ℕ → Route → Reply
+reply_for view now Metrics = text_reply metrics_reply view.texts
+reply_for view now Report = text_reply report_reply view.texts
+reply_for view now Page = text_reply page_reply view.texts
+reply_for view now Health = health_reply view.ended view.limit now
 
 -- a site with these texts
-abbrev pub with_texts : Option Texts → Site → Site
-with_texts texts site = record site { texts = texts }
+abbrev pub with_texts : Option Texts → View → View
+with_texts texts view = record view { texts = texts }
 
 -- a site of a station whose last round had this number and ended at this time
-abbrev pub with_round : ℕ → ℕ → Site → Site
-with_round at number site = record site { ended = Some (ended_at at number) }
+abbrev pub with_round : ℕ → ℕ → View → View
+with_round at number view = record view { ended = Some (ended_at at number) }

@@ -2,8 +2,10 @@
 
 ghost use Rattle.std.specs.Prelude.{◌≡◌};
 ghost use Rattle.std.specs.IoError.{error_kind};
+ghost use Rattle.mon_web.specs.Site.{view_of};
 ghost use Rattle.mon_web.specs.Client.{IsAfterSending, IsDraining, IsReading, IsSending, IsTurn, after_error, after_reading};
 
+use crate::content::Content;
 use crate::response::{Moment, respond};
 use crate::seat::Stage;
 use crate::site::Site;
@@ -55,9 +57,15 @@ impl Client<TcpStream> {
 impl<S: Stream> Client<S> {
     /// Does one thing for the client: sends a part of its response, or answers it, or reads once.
     /// Octets are read into the buffer.
-    pub(crate) fn turn(&mut self, site: &Site, buffer: &mut [u8], at: Moment) -> Turn
-        ensures { IsTurn S.asked_write S.asked_read S.asked_end site.now at buffer.new
-            self.old self.new result }
+    pub(crate) fn turn<C: Content>(
+        &mut self,
+        site: &mut Site<C>,
+        buffer: &mut [u8],
+        at: Moment,
+    ) -> Turn
+        ensures turn { IsTurn S.asked_write S.asked_read S.asked_end (view_of C.says site.old) at
+            buffer.new self.old self.new result }
+        ensures site { view_of C.says site.new ≡ view_of C.says site.old }
     {
         if !self.connection.pending().is_empty() {
             return self.send();

@@ -6,8 +6,9 @@ ghost use Rattle.mon_http.specs.Request.{IsJudged};
 ghost use Rattle.mon_http.specs.declared.request.Verdict.{Verdict};
 ghost use Rattle.mon_http.specs.declared.request.Verdict.TheVariants as Verdicts;
 ghost use Rattle.mon_web.specs.Response.{IsResponse};
-ghost use Rattle.mon_web.specs.Site.{names_of, out_of_memory, reply_for};
+ghost use Rattle.mon_web.specs.Site.{out_of_memory, reply_for, view_of};
 
+use crate::content::Content;
 use crate::site::Site;
 use httpdate::HttpDate;
 use mon_http::{Answer, Connection, Request, Step};
@@ -26,18 +27,20 @@ pub struct Moment {
 /// to answer. If there is no memory for a text, that is answered.
 ///
 /// # Errors
-/// `AllocError` if there is no memory for a response; nothing changes then.
-pub(crate) fn respond(
+/// `AllocError` if there is no memory for a response; the connection does not change then.
+pub(crate) fn respond<C: Content>(
     connection: &mut Connection,
-    site: &Site,
+    site: &mut Site<C>,
     at: Moment,
 ) -> Result<bool, AllocError>
     requires open { connection.old.closing ≡ false }
     requires sent { connection.old.unsent ≡ [] }
-    ensures answered { IfOk result (λ done. IsResponse site.now at connection.old done connection.new) }
+    ensures answered { IfOk result (λ done. IsResponse (view_of C.says site.old) at connection.old
+        done connection.new) }
     ensures kept { OnErr result (connection.new ≡ connection.old) }
     ensures cause { OnErr result (
-        (v : Verdict) × IsJudged (names_of site.now) connection.old.unread v) }
+        (v : Verdict) × IsJudged (view_of C.says site.old).names connection.old.unread v) }
+    ensures site { view_of C.says site.new ≡ view_of C.says site.old }
 {
     match connection.step(at.date, site.names())? {
         Step::Wait => Ok(false),
@@ -51,21 +54,27 @@ pub(crate) fn respond(
 
 /// Answers a request for a host of the site's by what the site shows, or that there is no memory
 /// for that.
-fn answer_or_tell(
+fn answer_or_tell<C: Content>(
     connection: &mut Connection,
-    site: &Site,
+    site: &mut Site<C>,
     at: Moment,
     request: Request,
 ) -> Result<(), AllocError>
     requires open { connection.old.closing ≡ false }
     requires sent { connection.old.unsent ≡ [] }
-    requires asked { IsJudged (names_of site.now) connection.old.unread (Verdicts.Asked request) }
+    requires asked { IsJudged (view_of C.says site.old).names connection.old.unread
+        (Verdicts.Asked request) }
     ensures answered { OnOk result (
         (connection.new ≡
-        with_reply at.date request (reply_for site.now at.now request.route) connection.old)
+        with_reply at.date request (reply_for (view_of C.says site.old) at.now request.route)
+        connection.old)
         ⊎ (connection.new ≡ with_reply at.date request out_of_memory connection.old)) }
     ensures kept { OnErr result (connection.new ≡ connection.old) }
+    ensures site { view_of C.says site.new ≡ view_of C.says site.old }
 {
+    if site.make(request.route).is_err() {
+        return connection.answer(at.date, site.names(), request, Answer::OutOfMemory);
+    }
     let said = site.answer(request.route, at.now);
     match connection.answer(at.date, site.names(), request, said) {
         Ok(()) => Ok(()),

@@ -1,48 +1,14 @@
 //! What a station shows over HTTP.
 
-ghost use Rattle.std.specs.Prelude.{◌≡◌, ◌↔◌, ◌+◌, [], IsTrue, None, Some};
+ghost use Rattle.std.specs.Prelude.{◌≡◌, IfSome, IsTrue, None, OnOk, Some};
 ghost use Rattle.mon_http.specs.Response.{fits, reply_of};
 ghost use Rattle.mon_http.specs.declared.route.Route.TheVariants as Route;
-ghost use Rattle.mon_web.specs.Site.{ended_at, health_reply, is_healthy, last_round, metrics_reply, page_reply, reply_for, report_reply, text_reply};
+ghost use Rattle.mon_web.specs.Site.{IsMadeFor, ended_at, health_reply, is_healthy, last_round, metrics_reply, page_reply, reply_for, report_reply, text_reply, view_of};
+ghost use Rattle.mon_web.specs.declared.content.Text.TheVariants as Texts;
 
+use crate::content::{Content, Text};
 use mon_http::{Answer, LastRound, Route};
-use std::alloc::Global;
-
-/// The texts that are shown. They are made once after each round, and copied for a request.
-pub struct Texts {
-    /// The figures in Prometheus' text format.
-    pub metrics: Vec<u8>,
-    /// The report as JSON.
-    pub report: Vec<u8>,
-    /// The page for a browser.
-    pub page: Vec<u8>,
-}
-
-// By hand: where one is let go, a proof has one call and not a drop of each field.
-impl Drop for Texts {
-    fn drop(self) {
-        let Texts {
-            metrics: _,
-            report: _,
-            page: _,
-        } = self;
-    }
-}
-
-impl Texts {
-    /// Texts without an octet, as buffers for the first ones.
-    pub fn empty(alloc: Global) -> Self
-        ensures metrics { result.metrics.items ≡ [] }
-        ensures report { result.report.items ≡ [] }
-        ensures page { result.page.items ≡ [] }
-    {
-        Texts {
-            metrics: Vec::new(alloc),
-            report: Vec::new(alloc),
-            page: Vec::new(alloc),
-        }
-    }
-}
+use std::alloc::AllocError;
 
 /// The end of a round.
 #[derive(Clone, Copy)]
@@ -66,11 +32,11 @@ impl Ended {
 }
 
 /// What is shown: the texts, and whether rounds end in time; and by which names.
-pub struct Site {
+pub struct Site<C> {
     /// The names of the host that are served, beside `localhost` and addresses.
     pub(crate) names: Vec<String>,
-    /// None if there was no memory for them.
-    pub(crate) texts: Option<Texts>,
+    /// What the texts are made of. None if there was no memory for it.
+    pub(crate) content: Option<C>,
     /// The end of the last round, if any ended.
     pub(crate) ended: Option<Ended>,
     /// How long after it the station is healthy, in milliseconds.
@@ -78,30 +44,30 @@ pub struct Site {
 }
 
 // By hand: where one is let go, a proof has one call and not a drop of each field.
-impl Drop for Site {
+impl<C: Drop> Drop for Site<C> {
     fn drop(self) {
         let Site {
             names: _,
-            texts: _,
+            content: _,
             ended: _,
             limit: _,
         } = self;
     }
 }
 
-impl Site {
+impl<C: Content> Site<C> {
     /// A site without texts, of a station whose rounds have to end within `limit` milliseconds of
     /// one another. A request for a host by a name is answered if the name is `localhost` or one of
     /// these, in any case and with any port; by an address it always is.
     pub fn new(limit: u64, names: Vec<String>) -> Self
         ensures names { result.names ≡ names }
-        ensures texts { result.texts ≡ None }
+        ensures content { result.content ≡ None }
         ensures ended { result.ended ≡ None }
         ensures limit { result.limit ≡ limit }
     {
         Site {
             names,
-            texts: None,
+            content: None,
             ended: None,
             limit,
         }
@@ -114,32 +80,33 @@ impl Site {
         self.names.as_slice()
     }
 
-    /// Replaces the texts; by nothing if there was no memory for them.
-    pub fn show(&mut self, texts: Option<Texts>)
-        ensures texts { self.new.texts ≡ texts }
+    /// Replaces what the texts are made of; by nothing if there was no memory for it.
+    pub fn show(&mut self, content: Option<C>)
+        ensures content { self.new.content ≡ content }
         ensures ended { self.new.ended ≡ self.old.ended }
         ensures limit { self.new.limit ≡ self.old.limit }
         ensures names { self.new.names ≡ self.old.names }
     {
-        self.texts = texts;
+        self.content = content;
     }
 
-    /// Takes the texts away, as buffers for the next ones. Until these are shown there are none.
-    pub fn take_texts(&mut self) -> Option<Texts>
-        ensures taken { result ≡ self.old.texts }
-        ensures texts { self.new.texts ≡ None }
+    /// Takes away what the texts are made of, so that its buffers serve again. Until it is shown
+    /// there are no texts.
+    pub fn take_content(&mut self) -> Option<C>
+        ensures taken { result ≡ self.old.content }
+        ensures content { self.new.content ≡ None }
         ensures ended { self.new.ended ≡ self.old.ended }
         ensures limit { self.new.limit ≡ self.old.limit }
         ensures names { self.new.names ≡ self.old.names }
     {
-        self.texts.take()
+        self.content.take()
     }
 
     /// Takes note that the round of this number ended at this time, in milliseconds since the
     /// station's start.
     pub fn note_round(&mut self, at: u64, number: u32)
         ensures ended { self.new.ended ≡ Some (ended_at at number) }
-        ensures texts { self.new.texts ≡ self.old.texts }
+        ensures content { self.new.content ≡ self.old.content }
         ensures limit { self.new.limit ≡ self.old.limit }
         ensures names { self.new.names ≡ self.old.names }
     {
@@ -156,9 +123,40 @@ impl Site {
         }
     }
 
-    /// Returns what is answered to a request for this route at this time.
-    pub fn answer(&self, route: Route, now: u64) -> Answer<'_>
-        ensures reply { reply_of result ≡ reply_for self.now now route }
+    /// Makes the text for this route, if the route has one.
+    ///
+    /// # Errors
+    /// `AllocError` if there is no memory for it. What the site answers stays in any case.
+    pub(crate) fn make(&mut self, route: Route) -> Result<(), AllocError>
+        ensures made { OnOk result (IsMadeFor C.made self.new.content route) }
+        ensures view { view_of C.says self.new ≡ view_of C.says self.old }
+        ensures names { self.new.names ≡ self.old.names }
+    {
+        match route {
+            Route::Metrics => self.make_text(Text::Metrics),
+            Route::Report => self.make_text(Text::Report),
+            Route::Page => self.make_text(Text::Page),
+            Route::Health => Ok(()),
+        }
+    }
+
+    /// Makes a text, if there is something to make it of.
+    fn make_text(&mut self, text: Text) -> Result<(), AllocError>
+        ensures made { OnOk result (IfSome self.new.content (λ c. C.made c text)) }
+        ensures view { view_of C.says self.new ≡ view_of C.says self.old }
+        ensures names { self.new.names ≡ self.old.names }
+    {
+        match &mut self.content {
+            Some(content) => content.make(text),
+            None => Ok(()),
+        }
+    }
+
+    /// Returns what is answered to a request for this route at this time. The text for it must be
+    /// made.
+    pub(crate) fn answer(&self, route: Route, now: u64) -> Answer<'_>
+        requires { IsMadeFor C.made self.now.content route }
+        ensures reply { reply_of result ≡ reply_for (view_of C.says self.now) now route }
         ensures fits { IsTrue (fits route result) }
     {
         match route {
@@ -170,31 +168,37 @@ impl Site {
     }
 
     fn metrics(&self) -> Answer<'_>
-        ensures reply { reply_of result ≡ text_reply metrics_reply self.now.texts }
+        requires { IfSome self.now.content (λ c. C.made c Texts.Metrics) }
+        ensures reply { reply_of result
+            ≡ text_reply metrics_reply (view_of C.says self.now).texts }
         ensures fits { IsTrue (fits Route.Metrics result) }
     {
-        match &self.texts {
-            Some(texts) => Answer::Metrics(texts.metrics.as_slice()),
+        match &self.content {
+            Some(content) => Answer::Metrics(content.text(Text::Metrics)),
             None => Answer::OutOfMemory,
         }
     }
 
     fn report(&self) -> Answer<'_>
-        ensures reply { reply_of result ≡ text_reply report_reply self.now.texts }
+        requires { IfSome self.now.content (λ c. C.made c Texts.Report) }
+        ensures reply { reply_of result
+            ≡ text_reply report_reply (view_of C.says self.now).texts }
         ensures fits { IsTrue (fits Route.Report result) }
     {
-        match &self.texts {
-            Some(texts) => Answer::Report(texts.report.as_slice()),
+        match &self.content {
+            Some(content) => Answer::Report(content.text(Text::Report)),
             None => Answer::OutOfMemory,
         }
     }
 
     fn page(&self) -> Answer<'_>
-        ensures reply { reply_of result ≡ text_reply page_reply self.now.texts }
+        requires { IfSome self.now.content (λ c. C.made c Texts.Page) }
+        ensures reply { reply_of result
+            ≡ text_reply page_reply (view_of C.says self.now).texts }
         ensures fits { IsTrue (fits Route.Page result) }
     {
-        match &self.texts {
-            Some(texts) => Answer::Page(texts.page.as_slice()),
+        match &self.content {
+            Some(content) => Answer::Page(content.text(Text::Page)),
             None => Answer::OutOfMemory,
         }
     }

@@ -5,8 +5,10 @@ ghost use Rattle.std.specs.Duration.{as_nanos};
 ghost use Rattle.mon_web.specs.Seat.{IsAdmission, IsLate, IsSeated, KeepsOthers, NoneLate, free_seat, has_done, has_newcomer_by, is_free, longest_wait, marked, marked_by, seat_in, settled};
 ghost use Rattle.mon_web.specs.declared.client.Turn.{Turn as TurnData};
 ghost use Rattle.std.specs.List.{list_all};
+ghost use Rattle.mon_web.specs.Site.{view_of};
 
 use crate::client::{Client, Turn};
+use crate::content::Content;
 use crate::response::Moment;
 use crate::seat::{SEATS, SPARED_MS, Seat, Stage, choose_seat, is_late};
 use crate::site::Site;
@@ -44,7 +46,7 @@ fn seat_in(stage: Stage, now: u64) -> Seat
 }
 
 /// The connections, and the listener that they come by.
-pub(crate) struct Table {
+pub(crate) struct Table<C> {
     alloc: Global,
     listener: TcpListener,
     seats: Vec<Seat>,
@@ -54,11 +56,11 @@ pub(crate) struct Table {
     /// Whose turn is next.
     next: usize,
     buffer: Vec<u8>,
-    pub(crate) site: Site,
+    pub(crate) site: Site<C>,
 }
 
 // By hand: where one is let go, a proof has one call and not a drop of each field.
-impl Drop for Table {
+impl<C: Drop> Drop for Table<C> {
     fn drop(self) {
         let Table {
             alloc: _,
@@ -73,9 +75,13 @@ impl Drop for Table {
     }
 }
 
-impl Table {
+impl<C: Content> Table<C> {
     /// No connections yet.
-    pub(crate) fn new(alloc: Global, listener: TcpListener, site: Site) -> Result<Self, AllocError>
+    pub(crate) fn new(
+        alloc: Global,
+        listener: TcpListener,
+        site: Site<C>,
+    ) -> Result<Self, AllocError>
         ensures { IfOk result (λ t. t.site ≡ site) }
     {
         let mut clients = Vec::with_capacity(alloc, SEATS)?;
@@ -133,7 +139,7 @@ impl Table {
     /// Does one thing for one client, or lets a newcomer in. Returns `false` if there was nothing to
     /// do.
     pub(crate) fn turn(&mut self, registry: &Registry, at: Moment) -> bool
-        ensures { self.new.site ≡ self.old.site }
+        ensures { view_of C.says self.new.site ≡ view_of C.says self.old.site }
     {
         for _ in 0..=SEATS {
             let place = self.next;
@@ -147,7 +153,7 @@ impl Table {
 
     /// Does one thing for the client of a place, or at the door. Returns `false` if nothing was done.
     fn give_turn(&mut self, registry: &Registry, place: usize, at: Moment) -> bool
-        ensures site { self.new.site ≡ self.old.site }
+        ensures site { view_of C.says self.new.site ≡ view_of C.says self.old.site }
         ensures door { place ≡ 32
             → IsAdmission result at.now self.old.has_newcomer self.new.has_newcomer
             self.old.seats.items self.new.seats.items }
@@ -160,7 +166,7 @@ impl Table {
             return self.admit(registry, at.now);
         }
         let turn = match self.clients.get_mut(place) {
-            Some(Some(client)) => client.turn(&self.site, self.buffer.as_mut_slice(), at),
+            Some(Some(client)) => client.turn(&mut self.site, self.buffer.as_mut_slice(), at),
             _ => Turn::Waits,
         };
         self.settle(place, turn, at.now);

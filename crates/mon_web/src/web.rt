@@ -1,11 +1,12 @@
 //! The listener and the connections, and what they and a socket are waited for by.
 
-ghost use Rattle.std.specs.Prelude.{◌≡◌, IfOk, None};
-ghost use Rattle.mon_web.specs.Site.{with_round, with_texts};
+ghost use Rattle.std.specs.Prelude.{◌≡◌, IfOk, None, option_map};
+ghost use Rattle.mon_web.specs.Site.{view_of, with_round, with_texts};
 
+use crate::content::Content;
 use crate::door::{Door, DoorBy};
 use crate::response::Moment;
-use crate::site::{Site, Texts};
+use crate::site::Site;
 use crate::table::{DOOR, Table};
 use mio::event::Source;
 use mio::{Events, Interest, Poll, Token};
@@ -21,18 +22,18 @@ const EVENTS: usize = 64;
 
 /// The HTTP side of a station.
 #[derive(Drop)]
-pub struct Web {
+pub struct Web<C> {
     poll: Poll,
     events: Events,
-    table: Table,
+    table: Table<C>,
 }
 
-impl Web {
+impl<C: Content> Web<C> {
     /// Serves at this door what the site shows, with no connections yet.
     ///
     /// # Errors
     /// `OutOfMemory` if there is no memory for it.
-    pub fn new(alloc: Global, door: Door, site: Site) -> io::Result<Self>
+    pub fn new(alloc: Global, door: Door, site: Site<C>) -> io::Result<Self>
         ensures { IfOk result (λ w. w.table.site ≡ site) }
     {
         let DoorBy { listener, poll } = door;
@@ -44,31 +45,35 @@ impl Web {
     }
 
     /// What is shown.
-    pub fn site(&self) -> &Site
+    pub fn site(&self) -> &Site<C>
         ensures { result.now ≡ self.now.table.site }
     {
         &self.table.site
     }
 
-    /// Replaces the texts that are shown; by nothing if there was no memory for them.
-    pub fn show(&mut self, texts: Option<Texts>)
-        ensures { self.new.table.site ≡ with_texts texts self.old.table.site }
+    /// Replaces what the texts that are shown are made of; by nothing if there was no memory for it.
+    pub fn show(&mut self, content: Option<C>)
+        ensures { view_of C.says self.new.table.site
+            ≡ with_texts (option_map C.says content) (view_of C.says self.old.table.site) }
     {
-        self.table.site.show(texts);
+        self.table.site.show(content);
     }
 
-    /// Takes the texts away, as buffers for the next ones. Until these are shown there are none.
-    pub fn take_texts(&mut self) -> Option<Texts>
-        ensures taken { result ≡ self.old.table.site.texts }
-        ensures site { self.new.table.site ≡ with_texts None self.old.table.site }
+    /// Takes away what the texts are made of, so that its buffers serve again. Until it is shown
+    /// there are no texts.
+    pub fn take_content(&mut self) -> Option<C>
+        ensures taken { result ≡ self.old.table.site.content }
+        ensures site { view_of C.says self.new.table.site
+            ≡ with_texts None (view_of C.says self.old.table.site) }
     {
-        self.table.site.take_texts()
+        self.table.site.take_content()
     }
 
     /// Takes note that the round of this number ended at this time, in milliseconds since the
     /// station's start.
     pub fn note_round(&mut self, at: u64, number: u32)
-        ensures { self.new.table.site ≡ with_round at number self.old.table.site }
+        ensures { view_of C.says self.new.table.site
+            ≡ with_round at number (view_of C.says self.old.table.site) }
     {
         self.table.site.note_round(at, number);
     }
@@ -89,7 +94,7 @@ impl Web {
     /// # Errors
     /// That of the system, if it cannot be waited.
     pub fn turn(&mut self, at: Moment, left: Duration) -> io::Result<()>
-        ensures { self.new.table.site ≡ self.old.table.site }
+        ensures { view_of C.says self.new.table.site ≡ view_of C.says self.old.table.site }
     {
         self.table.close_late(at.now);
         if self.table.turn(self.poll.registry(), at) {

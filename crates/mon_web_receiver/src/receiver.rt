@@ -13,7 +13,7 @@ use crate::socket::{Looks, PolledSocket};
 use mio::unix::SourceFd;
 use mon_rounds::{Arrival, Receiver, ReceiverFault, Wait, arrival_of, milliseconds};
 use mon_udp::{Ticks, Timer, datagram_buffer, failed_after};
-use mon_web::{Moment, Texts, Web};
+use mon_web::{Content, Moment, Web};
 use std::alloc::Global;
 use std::io;
 use std::net::SocketAddr;
@@ -54,7 +54,7 @@ pub struct WebReceiver<'a, R: Dates, T: Ticks, S: Looks, W: Serves> {
     failures: u64,
 }
 
-impl<'a, R: Dates + AllocGlobal, T: Ticks> WebReceiver<'a, R, T, PolledSocket, Web> {
+impl<'a, C: Content, R: Dates + AllocGlobal, T: Ticks> WebReceiver<'a, R, T, PolledSocket, Web<C>> {
     /// Returns a receiver by this socket, in no wait yet. Waits are reckoned by `ticks`; the times of
     /// the site are since `origin`.
     ///
@@ -64,7 +64,7 @@ impl<'a, R: Dates + AllocGlobal, T: Ticks> WebReceiver<'a, R, T, PolledSocket, W
         rt: &'a R,
         ticks: &'a T,
         socket: &'a PolledSocket,
-        web: Web,
+        web: Web<C>,
         origin: Instant,
     ) -> io::Result<Self>
         ensures site { IfOk result (λ r. r.web.table.site ≡ web.table.site) }
@@ -275,21 +275,26 @@ impl<R: Dates, T: Ticks, S: Looks, W: Serves> Receiver for WebReceiver<'_, R, T,
     }
 }
 
-impl<R: Dates, T: Ticks, S: Looks> Shows for WebReceiver<'_, R, T, S, Web> {
-    ghost use Rattle.std.specs.Prelude.{Some};
+impl<C: Content, R: Dates, T: Ticks, S: Looks> Shows<C> for WebReceiver<'_, R, T, S, Web<C>> {
+    ghost use Rattle.std.specs.Prelude.{Some, option_map};
+    ghost use Rattle.mon_web.specs.Site.{view_of, with_texts};
 
-    ghost shown = { λ r. Some r.web.table.site };
+    ghost shown = { λ r. Some (view_of C.says r.web.table.site) };
 
     fn is_shown(&self) -> bool {
         true
     }
 
-    fn show(&mut self, texts: Option<Texts>) {
-        self.web.show(texts);
+    fn show(&mut self, content: Option<C>)
+        ensures shown { view_of C.says self.new.web.table.site
+            ≡ with_texts (option_map C.says content) (view_of C.says self.old.web.table.site) }
+        ensures failures { self.new.failures ≡ self.old.failures }
+    {
+        self.web.show(content);
     }
 
-    fn take_texts(&mut self) -> Option<Texts> {
-        self.web.take_texts()
+    fn take_content(&mut self) -> Option<C> {
+        self.web.take_content()
     }
 
     fn note_round(&mut self, at: u64, number: u32) {

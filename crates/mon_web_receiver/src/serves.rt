@@ -1,7 +1,7 @@
 //! What serves HTTP while a station waits for datagrams, and the date that it says.
 
 use httpdate::HttpDate;
-use mon_web::{Moment, Web};
+use mon_web::{Content, Moment, Web};
 use std::io;
 use std::rt::Clock;
 use std::time::{Duration, SystemTime, UNIX_EPOCH};
@@ -11,10 +11,10 @@ pub trait Serves {
     ghost use Rattle.std.specs.Prelude.{◌≡◌, OnOk, ℕ};
     ghost use Rattle.std.specs.Duration.{as_nanos};
     ghost use Rattle.mon_web.specs.declared.response.Moment.{Moment as At};
-    ghost use Rattle.mon_web.specs.declared.site.Site.{Site};
+    ghost use Rattle.mon_web.specs.Site.{View};
 
     // What it shows.
-    ghost site: { Self → Site };
+    ghost site: { Self → View };
 
     // It had a turn at this moment, in which it could wait this many nanoseconds: what it was
     // before, and after. Code that is generic over what serves has this from a call alone, made once.
@@ -30,8 +30,10 @@ pub trait Serves {
 }
 
 // What comes to a listener is not known.
-impl Serves for Web {
-    ghost site = { λ web. web.table.site };
+impl<C: Content> Serves for Web<C> {
+    ghost use Rattle.mon_web.specs.Site.{view_of};
+
+    ghost site = { λ web. view_of C.says web.table.site };
 
     ghost served = { λ _ _ _ _. Unit {0} };
 

@@ -2,31 +2,31 @@
 
 use mon_rounds::{Receiver, SocketReceiver};
 use mon_udp::{Receives, Ticks};
-use mon_web::Texts;
+use mon_web::Content;
 
-/// What a station receives datagrams by, and may show its texts by.
-pub trait Shows: Receiver {
+/// What a station receives datagrams by, and may show such content by.
+pub trait Shows<C: Content>: Receiver {
     ghost use Rattle.std.specs.Prelude.{◌≡◌, None, Option, option_and_then, option_map};
     ghost use Rattle.std.specs.Option.{is_some};
-    ghost use Rattle.mon_web.specs.Site.{with_round, with_texts};
-    ghost use Rattle.mon_web.specs.declared.site.Site.{Site};
+    ghost use Rattle.mon_web.specs.Site.{View, with_round, with_texts};
 
     // What it shows, if it shows anything.
-    ghost shown: { Self → Option Site };
+    ghost shown: { Self → Option View };
 
     /// Returns `true` if it shows anything.
     fn is_shown(&self) -> bool
         ensures { result ≡ is_some (shown self.now) };
 
-    /// Replaces the texts that it shows; by nothing if there was no memory for them.
-    fn show(&mut self, texts: Option<Texts>)
-        ensures shown { shown self.new ≡ option_map (with_texts texts) (shown self.old) }
+    /// Replaces what it shows; by nothing if there was no memory for it.
+    fn show(&mut self, content: Option<C>)
+        ensures shown { shown self.new
+            ≡ option_map (with_texts (option_map C.says content)) (shown self.old) }
         ensures failures { Self.failures self.new ≡ Self.failures self.old };
 
-    /// Takes the texts away that it shows, as buffers for the next ones. Until these are shown there are
-    /// none.
-    fn take_texts(&mut self) -> Option<Texts>
-        ensures taken { result ≡ option_and_then (λ site. site.texts) (shown self.old) }
+    /// Takes away what it shows, so that its buffers serve again. Until it is shown there is nothing.
+    fn take_content(&mut self) -> Option<C>
+        ensures taken { option_map C.says result
+            ≡ option_and_then (λ view. view.texts) (shown self.old) }
         ensures shown { shown self.new ≡ option_map (with_texts None) (shown self.old) }
         ensures failures { Self.failures self.new ≡ Self.failures self.old };
 
@@ -37,8 +37,8 @@ pub trait Shows: Receiver {
         ensures failures { Self.failures self.new ≡ Self.failures self.old };
 }
 
-impl<R: Ticks, S: Receives> Shows for SocketReceiver<'_, R, S> {
-    ghost use Rattle.std.specs.Prelude.{None};
+impl<C: Content, R: Ticks, S: Receives> Shows<C> for SocketReceiver<'_, R, S> {
+    ghost use Rattle.std.specs.Prelude.{◌≡◌, None};
 
     ghost shown = { λ _. None };
 
@@ -46,11 +46,13 @@ impl<R: Ticks, S: Receives> Shows for SocketReceiver<'_, R, S> {
         false
     }
 
-    fn show(&mut self, texts: Option<Texts>) {
-        let _ = texts;
+    fn show(&mut self, content: Option<C>)
+        ensures { self.new ≡ self.old }
+    {
+        let _ = content;
     }
 
-    fn take_texts(&mut self) -> Option<Texts> {
+    fn take_content(&mut self) -> Option<C> {
         None
     }
 

@@ -92,9 +92,9 @@ BUGS = {
         "        self.format != Format::Json",
     ),
     "text_is_plain_with_names_too": (
-        "src/printing.rt",
-        "        self.is_text() && self.names.is_none()",
-        "        self.is_text()",
+        "src/shared.rt",
+        "        self.format == Format::Text && self.shared.names.is_none()",
+        "        self.format == Format::Text",
     ),
     "a_report_says_nothing_of_its_station": (
         "src/printing.rt",
@@ -122,17 +122,17 @@ BUGS = {
         "            None => alarm_line(alloc, &InNumbers, board, &[], change),",
     ),
     "a_table_where_a_format_is_named": (
-        "src/printing.rt",
-        "        if self.chosen {\n            return;\n        }\n        if host.prints_to_terminal() {",
+        "src/shared.rt",
+        "        if self.shared.chosen {\n            return;\n        }\n        if host.prints_to_terminal() {",
         "        if host.prints_to_terminal() {",
     ),
     "a_table_in_a_pipe": (
-        "src/printing.rt",
+        "src/shared.rt",
         "        if host.prints_to_terminal() {",
         "        if !host.prints_to_terminal() {",
     ),
     "no_table_at_a_terminal": (
-        "src/printing.rt",
+        "src/shared.rt",
         "            self.format = Format::Columns;\n",
         "            self.format = Format::Text;\n",
     ),

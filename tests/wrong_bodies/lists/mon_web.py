@@ -53,18 +53,18 @@ BUGS = {
     ),
     "answers_no_text": (
         "src/site.rt",
-        "            Some(texts) => Answer::Metrics(texts.metrics.as_slice()),",
+        "            Some(content) => Answer::Metrics(content.text(Text::Metrics)),",
         "            Some(_) => Answer::OutOfMemory,",
     ),
     "answers_another_text": (
         "src/site.rt",
-        "            Some(texts) => Answer::Page(texts.page.as_slice()),",
-        "            Some(texts) => Answer::Page(texts.report.as_slice()),",
+        "            Some(content) => Answer::Page(content.text(Text::Page)),",
+        "            Some(content) => Answer::Page(content.text(Text::Report)),",
     ),
     "forgets_the_texts": (
         "src/site.rt",
-        "        self.texts = texts;",
-        "        let _ = texts;\n        self.texts = None;",
+        "        self.content = content;",
+        "        let _ = content;\n        self.content = None;",
     ),
     "forgets_the_round": (
         "src/site.rt",
@@ -83,8 +83,8 @@ BUGS = {
     ),
     "shows_nothing": (
         "src/web.rt",
-        "        self.table.site.show(texts);",
-        "        let _ = texts;",
+        "        self.table.site.show(content);",
+        "        let _ = content;",
     ),
     "an_idle_client_stays_for_ever": (
         "src/seat.rt",
@@ -123,8 +123,8 @@ BUGS = {
     ),
     "a_new_site_is_healthy": (
         "src/site.rt",
-        "            texts: None,\n            ended: None,\n            limit,",
-        "            texts: None,\n            ended: Some(Ended { round: 0, at: 0 }),\n            limit,",
+        "            content: None,\n            ended: None,\n            limit,",
+        "            content: None,\n            ended: Some(Ended { round: 0, at: 0 }),\n            limit,",
     ),
     "a_site_is_healthy_for_ever": (
         "src/site.rt",
@@ -133,8 +133,8 @@ BUGS = {
     ),
     "shows_old_texts_when_memory_ends": (
         "src/site.rt",
-        "        self.texts = texts;",
-        "        if texts.is_some() {\n            self.texts = texts;\n        }",
+        "        self.content = content;",
+        "        if content.is_some() {\n            self.content = content;\n        }",
     ),
     "notes_the_first_round_alone": (
         "src/site.rt",
@@ -158,8 +158,8 @@ BUGS = {
     ),
     "the_figures_for_the_report": (
         "src/site.rt",
-        "Answer::Report(texts.report.as_slice())",
-        "Answer::Report(texts.metrics.as_slice())",
+        "Answer::Report(content.text(Text::Report))",
+        "Answer::Report(content.text(Text::Metrics))",
     ),
     "healthy_means_unhealthy": (
         "src/site.rt",
@@ -238,8 +238,8 @@ BUGS = {
     ),
     "shows_that_there_is_no_memory": (
         "src/web.rt",
-        "        self.table.site.show(texts);",
-        "        let _ = texts;\n        self.table.site.show(None);",
+        "        self.table.site.show(content);",
+        "        let _ = content;\n        self.table.site.show(None);",
     ),
     "a_turn_ends_the_texts": (
         "src/web.rt",
@@ -271,14 +271,30 @@ BUGS = {
         "                self.seat(registry, place, stream, now);\n                true",
         "                self.seat(registry, place, stream, now);\n                self.site.note_round(now, 0);\n                true",
     ),
-    "takes_no_texts_away": ("src/site.rt", "        self.texts.take()", "        None"),
-    "takes_texts_and_returns_none": ("src/site.rt", "        self.texts.take()", "        let _ = self.texts.take();\n        None"),
-    "forgets_the_round_with_the_texts": ("src/site.rt", "        self.texts.take()", "        self.ended = None;\n        self.texts.take()"),
-    "an_hour_more_with_the_texts": ("src/site.rt", "        self.texts.take()", "        self.limit = self.limit.saturating_add(3_600_000);\n        self.texts.take()"),
-    "takes_no_texts_of_the_site": ("src/web.rt", "        self.table.site.take_texts()", "        None"),
-    "shows_nothing_and_returns_nothing": ("src/web.rt", "        self.table.site.take_texts()", "        self.table.site.show(None);\n        None"),
-    "takes_texts_in_a_round": ("src/web.rt", "        self.table.site.take_texts()", "        self.table.site.note_round(0, 0);\n        self.table.site.take_texts()"),
-    "takes_texts_and_shows_them_again": ("src/web.rt", "        self.table.site.take_texts()", "        let texts = self.table.site.take_texts();\n        self.table.site.show(texts);\n        None"),
+    "makes_no_text": ("src/site.rt", "            Some(content) => content.make(text),", "            Some(_) => Ok(()),"),
+    "makes_another_text": ("src/site.rt", "            Some(content) => content.make(text),", "            Some(content) => content.make(Text::Page),"),
+    "makes_the_page_for_the_figures": ("src/site.rt", "            Route::Metrics => self.make_text(Text::Metrics),", "            Route::Metrics => self.make_text(Text::Page),"),
+    "makes_no_report": ("src/site.rt", "            Route::Report => self.make_text(Text::Report),", "            Route::Report => Ok(()),"),
+    "a_request_ends_the_texts": ("src/site.rt", "        match &mut self.content {", "        self.content = None;\n        match &mut self.content {"),
+    "a_request_is_a_round": ("src/site.rt", "        match route {\n            Route::Metrics => self.make_text", "        self.note_round(0, 0);\n        match route {\n            Route::Metrics => self.make_text"),
+    "answers_by_what_is_not_made": (
+        "src/response.rt",
+        "    if site.make(request.route).is_err() {\n        return connection.answer(at.date, site.names(), request, Answer::OutOfMemory);\n    }\n",
+        "",
+    ),
+    "a_text_without_memory_is_no_answer": (
+        "src/response.rt",
+        "        return connection.answer(at.date, site.names(), request, Answer::OutOfMemory);\n    }\n",
+        "        return Ok(());\n    }\n",
+    ),
+    "takes_no_texts_away": ("src/site.rt", "        self.content.take()", "        None"),
+    "takes_texts_and_returns_none": ("src/site.rt", "        self.content.take()", "        let _ = self.content.take();\n        None"),
+    "forgets_the_round_with_the_texts": ("src/site.rt", "        self.content.take()", "        self.ended = None;\n        self.content.take()"),
+    "an_hour_more_with_the_texts": ("src/site.rt", "        self.content.take()", "        self.limit = self.limit.saturating_add(3_600_000);\n        self.content.take()"),
+    "takes_no_texts_of_the_site": ("src/web.rt", "        self.table.site.take_content()", "        None"),
+    "shows_nothing_and_returns_nothing": ("src/web.rt", "        self.table.site.take_content()", "        self.table.site.show(None);\n        None"),
+    "takes_texts_in_a_round": ("src/web.rt", "        self.table.site.take_content()", "        self.table.site.note_round(0, 0);\n        self.table.site.take_content()"),
+    "takes_texts_and_shows_them_again": ("src/web.rt", "        self.table.site.take_content()", "        let content = self.table.site.take_content();\n        self.table.site.show(content);\n        None"),
     "counts_a_short_write_as_whole": (
         "src/stream.rt",
         "        Ok(n) => {\n            connection.sent(n);\n            Ok(n)",
@@ -426,8 +442,8 @@ BUGS = {
     ),
     "texts_take_the_names": (
         "src/site.rt",
-        "        self.texts = texts;",
-        "        self.names.clear();\n        self.texts = texts;",
+        "        self.content = content;",
+        "        self.names.clear();\n        self.content = content;",
     ),
     "a_response_waits_for_ever": (
         "src/client.rt",

@@ -3,8 +3,8 @@
 BUGS = {
     "shows_nothing": (
         "src/receiver.rt",
-        "        self.web.show(texts);",
-        "        let _ = texts;",
+        "        self.web.show(content);",
+        "        let _ = content;",
     ),
     "forgets_the_round": (
         "src/receiver.rt",
@@ -48,13 +48,13 @@ BUGS = {
     ),
     "shows_that_there_is_no_memory": (
         "src/receiver.rt",
-        "        self.web.show(texts);",
-        "        let _ = texts;\n        self.web.show(None);",
+        "        self.web.show(content);",
+        "        let _ = content;\n        self.web.show(None);",
     ),
     "texts_are_a_round": (
         "src/receiver.rt",
-        "        self.web.show(texts);",
-        "        self.web.show(texts);\n        self.web.note_round(0, 0);",
+        "        self.web.show(content);",
+        "        self.web.show(content);\n        self.web.note_round(0, 0);",
     ),
     "a_round_ends_the_texts": (
         "src/receiver.rt",
@@ -96,10 +96,10 @@ BUGS = {
         "            socket,\n            web,\n            origin,",
         "            socket,\n            web: {\n                let mut web = web;\n                web.show(None);\n                web\n            },\n            origin,",
     ),
-    "takes_no_texts_away": ("src/receiver.rt", "        self.web.take_texts()", "        None"),
-    "shows_nothing_and_takes_nothing": ("src/receiver.rt", "        self.web.take_texts()", "        self.web.show(None);\n        None"),
-    "takes_texts_in_a_round": ("src/receiver.rt", "        self.web.take_texts()", "        self.web.note_round(0, 0);\n        self.web.take_texts()"),
-    "takes_texts_and_counts_a_failure": ("src/receiver.rt", "        self.web.take_texts()", "        self.failures = 1;\n        self.web.take_texts()"),
+    "takes_no_texts_away": ("src/receiver.rt", "        self.web.take_content()", "        None"),
+    "shows_nothing_and_takes_nothing": ("src/receiver.rt", "        self.web.take_content()", "        self.web.show(None);\n        None"),
+    "takes_texts_in_a_round": ("src/receiver.rt", "        self.web.take_content()", "        self.web.note_round(0, 0);\n        self.web.take_content()"),
+    "takes_texts_and_counts_a_failure": ("src/receiver.rt", "        self.web.take_content()", "        self.failures = 1;\n        self.web.take_content()"),
     "begins_in_a_wait_of_a_second": (
         "src/receiver.rt",
         "            timer: Timer::begin(0, origin),",

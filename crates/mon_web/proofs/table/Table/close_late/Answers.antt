@@ -10,7 +10,7 @@ use Rattle.mon_web.proofs.table.Table.close_late.Goals as goal
 use Rattle.mon_web.proofs.table.Table.close_late.Goals.{then-is_late, else-is_late}
 
 pub returns-clause-none : goal.returns-clause-none
-returns-clause-none c =
+returns-clause-none g c =
     let swept = c.loop-place.invariant.1 in
     let many : vec_len c.args.self.now.seats ≡ length c.args.self.now.seats.items = search rules in
     let new = c.loop-place.self.seats.items in
@@ -20,13 +20,13 @@ returns-clause-none c =
     swept_all c.args.now c.loop-place.place c.args.self.now.seats.items new (omega arith) swept
 
 pub returns-clause-others : goal.returns-clause-others
-returns-clause-others c = c.loop-place.invariant.1.others
+returns-clause-others g c = c.loop-place.invariant.1.others
 
 pub loop-place-init : goal.loop-place-init
-loop-place-init c = (refl, swept_start c.args.now c.args.self.now.seats.items)
+loop-place-init g c = (refl, swept_start c.args.now c.args.self.now.seats.items)
 
 pub loop-place-preserved : goal.loop-place-preserved
-loop-place-preserved c =
+loop-place-preserved g c =
     let (site, swept) = c.loop-place.invariant in
     let old = c.args.self.now.seats.items in
     let new = c.loop-place.self.seats.items in
@@ -40,15 +40,15 @@ loop-place-preserved c =
       | then-is_late w ↦ (
           let at = slice_get-get_or new place free_seat within in
           let late = (c.is_late.ensures.late (slice_index_or new place free_seat) at).0 w.if-is_late.true in
-          let seats : c.if-is_late.self.seats.items ≡ slice_set new place free_seat = ap (λ (t : Table). t.seats.items) w.self-is ∙ w.clear.ensures.seats in (
-            ap (λ (t : Table). t.site) w.self-is ∙ w.clear.ensures.site ∙ site,
+          let seats : c.if-is_late.self.seats.items ≡ slice_set new place free_seat = ap (λ (t : Table _). t.seats.items) w.self-is ∙ w.clear.ensures.seats in (
+            ap (λ (t : Table _). t.site) w.self-is ∙ w.clear.ensures.site ∙ site,
             subst (λ (s : List Seat). Swept c.args.now (place + 1) old s) (sym seats) (swept_late c.args.now place old new (slice_index_or new place free_seat) within at late swept),
           ))
       | else-is_late w ↦ (
           let stays : (seat : Seat) → slice_get new place ≡ Some seat → ¬ (IsLate c.args.now seat) =
           λ seat at over. not_both c.is_late.result w.if-is_late.false ((c.is_late.ensures.late seat at).1 over) in
-          let seats : c.if-is_late.self.seats.items ≡ new = ap (λ (t : Table). t.seats.items) w.self-is in (
-            ap (λ (t : Table). t.site) w.self-is ∙ site,
+          let seats : c.if-is_late.self.seats.items ≡ new = ap (λ (t : Table _). t.seats.items) w.self-is in (
+            ap (λ (t : Table _). t.site) w.self-is ∙ site,
             subst (λ (s : List Seat). Swept c.args.now (place + 1) old s) (sym seats) (swept_other c.args.now place old new stays swept),
           ))
     ]

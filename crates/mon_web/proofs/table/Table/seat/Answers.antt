@@ -7,7 +7,7 @@ use Rattle.mon_web.proofs.table.Table.seat.Goals as goal
 
 -- the place that was freed first is taken
 pub returns-in-Ok-clause-seats : goal.returns-in-Ok-clause-seats
-returns-in-Ok-clause-seats c =
+returns-in-Ok-clause-seats g c =
     let old = c.args.self.now.seats.items in
     let seat = seat_in Asking c.args.now in
     inl (c.set_seat.ensures.seats

@@ -1,0 +1,21 @@
+use Rattle.std.proofs.Common.{◌∙◌}
+use Rattle.mon_alarms.specs.Announcing.{announced_states}
+use Rattle.mon_formats.specs.declared.format.Format.{Format}
+use Rattle.mon_formats.specs.declared.format.Format.TheVariants.{Html, Json, Prometheus}
+use Rattle.mon_station.specs.State.{state_of}
+use Rattle.mon_station_commands.proofs.Copies.{of_copy}
+use Rattle.mon_station_commands.proofs.showing.source_of.Goals as goal
+
+-- each text is that of the entries, which are those of the board
+pub returns : goal.returns
+returns g c =
+    let live = c.args.live.now in
+    let text = λ (format : Format). of_copy format c.in_ok-figures.figures live.reports.printing c.in_ok-printing.printing (state_of live.station.life).board c.in_ok-board.board (announced_states live.course.announcer) c.in_ok-states.states.items
+    c.in_ok-printing.ensures (c.in_ok-board.ensures.watch ∙ (λ i. (c.board.ensures i).watch)) (c.in_ok-board.ensures.windows ∙ (λ i. (c.board.ensures i).windows)) c.in_ok-states.ensures in
+    record {
+      figures = c.in_ok-figures.figures;
+      holds = c.in_ok-figures.ensures;
+      metrics = text Prometheus;
+      report = text Json;
+      page = text Html;
+    }

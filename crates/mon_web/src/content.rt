@@ -1,0 +1,41 @@
+//! What a site shows: three texts, each of which is made when it is asked for.
+
+use std::alloc::AllocError;
+
+/// A text that a site shows.
+#[derive(Clone, Copy)]
+pub enum Text {
+    /// The figures in Prometheus' text format.
+    Metrics,
+    /// The report as JSON.
+    Report,
+    /// The page for a browser.
+    Page,
+}
+
+/// What a site shows. What its texts say is fixed; a text is made when it is first asked for, and
+/// copied for each request.
+pub trait Content: Drop {
+    ghost use Rattle.std.specs.Prelude.{◌≡◌, OnOk};
+    ghost use Rattle.mon_web.specs.Texts.{Texts, text_of};
+    ghost use Rattle.mon_web.specs.declared.content.Text.{Text as AnyText};
+
+    // What its texts say, whether they are made or not.
+    ghost says: { Self → Texts };
+
+    // This text is made.
+    ghost made: { Self → AnyText → Type 0 };
+
+    /// Makes this text, if it is not made.
+    ///
+    /// # Errors
+    /// `AllocError` if there is no memory for it.
+    fn make(&mut self, text: Text) -> Result<(), AllocError>
+        ensures made { OnOk result (made self.new text) }
+        ensures says { says self.new ≡ says self.old };
+
+    /// Returns this text, which must be made.
+    fn text(&self, text: Text) -> &[u8]
+        requires { made self.now text }
+        ensures { result.now ≡ text_of text (says self.now) };
+}
