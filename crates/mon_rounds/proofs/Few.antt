@@ -18,11 +18,11 @@ use Rattle.mon_udp.specs.Counts.{failed_after}
 use Rattle.mon_udp.specs.declared.addr.Addr.{Addr}
 use Rattle.mon_rounds.specs.Given.{with_octets}
 use Rattle.mon_rounds.specs.Kept.{AreFew, Kept, KeepsGiven, KeepsNewest, count_at, kept_in, most_kept}
-use Rattle.mon_rounds.specs.Next.{RoundState, after_polls, event_from, event_in_phase, may_time_out, next_event, share_at, stands_in}
+use Rattle.mon_rounds.specs.Next.{RoundState, after_polls, event_from, event_in_phase, may_time_out, next_event, save_if, share_at, stands_in}
 use Rattle.mon_rounds.specs.Order.{RoundEvent}
 use Rattle.mon_rounds.specs.declared.round.Phase.{Phase}
 use Rattle.mon_rounds.specs.declared.round.Phase.TheVariants.{Polling, Hearing, TimingOut, Sharing, Listening, Over, Resting, Rested}
-use Rattle.mon_station.specs.declared.event.Event.TheVariants.{StartPoll, Timeout, Share, Save}
+use Rattle.mon_station.specs.declared.event.Event.TheVariants.{Timeout}
 
 -- ---- equal addresses
 one_addr : (a b : Addr) → same_addr a b ≡ true → a ≡ b
@@ -163,21 +163,26 @@ came r from octets event old new keeps is = subst (λ (e : OwnedEvent). KeepsGiv
 abbrev gives_none : RoundState → Option RoundEvent → Type 0
 gives_none r e = (k : Kept) → KeepsGiven r (Ok (option_map (λ e. with_octets e []) e)) k k
 
-share_none : (r : RoundState) (peers : List ℕ) (slot : ℕ) → gives_none r (Some (share_at peers slot))
-share_none r [] slot k = refl
-share_none r (p ∷ peers) zero k = refl
-share_none r (p ∷ peers) (suc slot) k = share_none r peers slot k
+save_none : (r : RoundState) (saves : Bool) → gives_none r (save_if saves)
+save_none r true k = refl
+save_none r false k = refl
 
-polls_none : (r : RoundState) (oldest : Option ℕ) → gives_none r (Some (after_polls r oldest))
-polls_none r None k = share_none r r.peers 0 k
-polls_none r (Some id) k = elim (may_time_out r.phase r) as (λ b. KeepsGiven r (Ok (Some (with_octets (cond b (Timeout id) (share_at r.peers 0)) []))) k k) [ true ↦ refl | false ↦ share_none r r.peers 0 k ]
+share_none : (r : RoundState) (saves : Bool) (peers : List ℕ) (slot : ℕ) → gives_none r (share_at saves peers slot)
+share_none r saves [] slot k = save_none r saves k
+share_none r saves (p ∷ peers) zero k = refl
+share_none r saves (p ∷ peers) (suc slot) k = share_none r saves peers slot k
+
+polls_none : (r : RoundState) (oldest : Option ℕ) → gives_none r (after_polls r oldest)
+polls_none r None k = share_none r r.saving r.peers 0 k
+polls_none r (Some id) k =
+    elim (may_time_out r.phase r) as (λ b. KeepsGiven r (Ok (option_map (λ e. with_octets e []) (cond b (Some (Timeout id)) (share_at r.saving r.peers 0)))) k k) [ true ↦ refl | false ↦ share_none r r.saving r.peers 0 k ]
 
 phase_none : (r : RoundState) (phase : Phase) (oldest : Option ℕ) → gives_none r (event_in_phase phase r oldest)
 phase_none r (Polling target) oldest k = refl
 phase_none r Hearing oldest k = polls_none r oldest k
 phase_none r (TimingOut last) oldest k = polls_none r oldest k
-phase_none r (Sharing slot) oldest k = share_none r r.peers slot k
-phase_none r Listening oldest k = refl
+phase_none r (Sharing slot) oldest k = share_none r r.saving r.peers slot k
+phase_none r Listening oldest k = save_none r r.saving k
 phase_none r Over oldest k = refl
 phase_none r Resting oldest k = refl
 phase_none r Rested oldest k = refl

@@ -7,6 +7,7 @@ mod Becoming
 mod Pushed
 mod Restarts
 mod Rows
+mod Saves
 mod Seldom
 mod Wholly
 mod Waited

@@ -4,12 +4,12 @@ use Rattle.std.specs.Prelude.{zero, slice_get}
 use Rattle.std.proofs.lemmas.List.{append-nil, map-append, take_all, take_more}
 use Rattle.std.proofs.lemmas.List.Elements.{All-nil, All-push}
 use Rattle.std.proofs.lemmas.List.Sums.{sum_by-append}
-use Rattle.std.proofs.lemmas.Option.{get_or_from_slice_get, same_Some, slice_get-get_or, slice_get_within}
+use Rattle.std.proofs.lemmas.Option.{get_or_from_slice_get, same_Some, slice_get_within}
 use Rattle.mon_rounds.specs.declared.receiver.Wait.{Wait}
 use Rattle.mon_rounds.specs.declared.round.Phase.{Phase}
 use Rattle.mon_rounds.specs.declared.round.Phase.TheVariants.{Polling, Hearing, TimingOut, Sharing, Listening, Over, Resting, Rested}
-use Rattle.mon_rounds.specs.Next.{RoundState, events_left, is_hearing, may_time_out, quiets_left, settled_phase, share_at, slot_after, timed_out}
-use Rattle.mon_rounds.specs.Order.{RoundEvent, AreHeardAfter, AreHeardIn, AreRising, AreSoFar, AreTimedOut, HasListened, HasPolled, HasShared, HasTimedOut, IsDatagram, IsRound, datagrams_in, datagrams_of, polls_of, shares_with, timeouts_of}
+use Rattle.mon_rounds.specs.Next.{RoundState, event_in_phase, events_left, is_hearing, may_time_out, phase_ended, quiets_left, save_if, settled_phase, share_at, slot_after, timed_out}
+use Rattle.mon_rounds.specs.Order.{RoundEvent, AreHeardIn, AreRising, AreSoFar, HasListened, HasPolled, HasShared, HasTimedOut, IsDatagram, IsRound, datagrams_in, datagrams_of, polls_of, saved_by, shares_with, timeouts_of}
 use Rattle.mon_rounds.specs.Orderly.{IsOrderly, IsSaving, IsSharing, IsTiming}
 use Rattle.mon_station.specs.declared.event.Event.TheVariants.{StartPoll, Timeout, Share, Save}
 
@@ -127,8 +127,8 @@ listened_within n a b peers events le listened = record {
   are = listened.are;
 }
 
-pub round_within : (n a b : ℕ) (peers : List ℕ) (events : List RoundEvent) → a ≤ b → IsRound n a peers events → IsRound n b peers events
-round_within n a b peers events le round = record {
+pub round_within : (n a b : ℕ) (peers : List ℕ) (saves : Bool) (events : List RoundEvent) → a ≤ b → IsRound n a peers saves events → IsRound n b peers saves events
+round_within n a b peers saves events le round = record {
   before = round.before;
   listened = listened_within n a b peers round.before le round.listened;
   are = round.are;
@@ -139,15 +139,15 @@ round_within n a b peers events le round = record {
 pub shared_none : (n m : ℕ) (peers : List ℕ) (events : List RoundEvent) → HasPolled n m events → HasShared n m (take 0 peers) events
 shared_none n m peers events polled = record { before = events; polled = polled; are = sym (append-nil events) }
 
-pub shared_so_far : (n m slot : ℕ) (peers : List ℕ) (phase : Phase) (events : List RoundEvent) → IsSharing phase slot → AreSoFar n m peers phase events → HasShared n m (take slot peers) events
-shared_so_far n m slot peers Hearing events at polled = subst (λ k. HasShared n m (take k peers) events) (sym at) (shared_none n m peers events polled)
-shared_so_far n m slot peers (Sharing next) events at shared = subst (λ k. HasShared n m (take k peers) events) (sym at) shared.1
-shared_so_far n m slot peers (Polling t) events at so_far = elim at [ ]
-shared_so_far n m slot peers (TimingOut last) events at timed = subst (λ k. HasShared n m (take k peers) events) (sym at) (shared_none n m peers events (timed_all n m last events timed))
-shared_so_far n m slot peers Listening events at so_far = elim at [ ]
-shared_so_far n m slot peers Over events at so_far = elim at [ ]
-shared_so_far n m slot peers Resting events at so_far = elim at [ ]
-shared_so_far n m slot peers Rested events at so_far = elim at [ ]
+pub shared_so_far : (n m slot : ℕ) (peers : List ℕ) (saves : Bool) (phase : Phase) (events : List RoundEvent) → IsSharing phase slot → AreSoFar n m peers saves phase events → HasShared n m (take slot peers) events
+shared_so_far n m slot peers saves Hearing events at polled = subst (λ k. HasShared n m (take k peers) events) (sym at) (shared_none n m peers events polled)
+shared_so_far n m slot peers saves (Sharing next) events at shared = subst (λ k. HasShared n m (take k peers) events) (sym at) shared.1
+shared_so_far n m slot peers saves (Polling t) events at so_far = elim at [ ]
+shared_so_far n m slot peers saves (TimingOut last) events at timed = subst (λ k. HasShared n m (take k peers) events) (sym at) (shared_none n m peers events (timed_all n m last events timed))
+shared_so_far n m slot peers saves Listening events at so_far = elim at [ ]
+shared_so_far n m slot peers saves Over events at so_far = elim at [ ]
+shared_so_far n m slot peers saves Resting events at so_far = elim at [ ]
+shared_so_far n m slot peers saves Rested events at so_far = elim at [ ]
 
 pub shared_more : (n m slot : ℕ) (peers : List ℕ) (p : ℕ) (events es : List RoundEvent) → HasShared n m (take slot peers) events → slice_get peers slot ≡ Some p → es ≡ events ++ Share p ∷ []
     → HasShared n m (take (slot + 1) peers) es
@@ -174,36 +174,36 @@ listened_more n m peers events es e listened is more = record {
   are = more ∙ ap (λ l. l ++ e ∷ []) listened.are ∙ append_assoc listened.before listened.heard (e ∷ []);
 }
 
-pub listened_so_far : (n m : ℕ) (peers : List ℕ) (phase : Phase) (events : List RoundEvent) → IsSaving phase peers → AreSoFar n m peers phase events → HasListened n m peers events
-listened_so_far n m peers Hearing events none polled =
+pub listened_so_far : (n m : ℕ) (peers : List ℕ) (saves : Bool) (phase : Phase) (events : List RoundEvent) → IsSaving phase peers → AreSoFar n m peers saves phase events → HasListened n m peers events
+listened_so_far n m peers saves Hearing events none polled =
     listened_none n m peers events (subst (λ ps. HasShared n m ps events) (sym none) (shared_none n m [] events polled))
-listened_so_far n m peers (TimingOut last) events none timed =
+listened_so_far n m peers saves (TimingOut last) events none timed =
     listened_none n m peers events (subst (λ ps. HasShared n m ps events) (sym none) (shared_none n m [] events (timed_all n m last events timed)))
-listened_so_far n m peers Listening events at listened = listened
-listened_so_far n m peers (Polling t) events at so_far = elim at [ ]
-listened_so_far n m peers (Sharing slot) events at so_far = elim at [ ]
-listened_so_far n m peers Over events at so_far = elim at [ ]
-listened_so_far n m peers Resting events at so_far = elim at [ ]
-listened_so_far n m peers Rested events at so_far = elim at [ ]
+listened_so_far n m peers saves Listening events at listened = listened
+listened_so_far n m peers saves (Polling t) events at so_far = elim at [ ]
+listened_so_far n m peers saves (Sharing slot) events at so_far = elim at [ ]
+listened_so_far n m peers saves Over events at so_far = elim at [ ]
+listened_so_far n m peers saves Resting events at so_far = elim at [ ]
+listened_so_far n m peers saves Rested events at so_far = elim at [ ]
 
 -- ---- datagrams
-pub heard_more : (n m : ℕ) (peers : List ℕ) (phase : Phase) (events es : List RoundEvent) (e : RoundEvent) → is_hearing phase ≡ true → IsDatagram e
-    → AreSoFar n m peers phase events → es ≡ events ++ e ∷ [] → AreSoFar n m peers phase es
-heard_more n m peers Hearing events es e at is so_far more = polled_more n m events es e so_far is more
-heard_more n m peers Listening events es e at is so_far more = listened_more n m peers events es e so_far is more
-heard_more n m peers Resting events es e at is so_far more = subst (λ l. All IsDatagram l) (sym more) (All-push IsDatagram events e so_far is)
-heard_more n m peers (Polling target) events es e at is so_far more = absurd cc
-heard_more n m peers (TimingOut last) events es e at is so_far more = absurd cc
-heard_more n m peers (Sharing slot) events es e at is so_far more = absurd cc
-heard_more n m peers Over events es e at is so_far more = absurd cc
-heard_more n m peers Rested events es e at is so_far more = absurd cc
+pub heard_more : (n m : ℕ) (peers : List ℕ) (saves : Bool) (phase : Phase) (events es : List RoundEvent) (e : RoundEvent) → is_hearing phase ≡ true → IsDatagram e
+    → AreSoFar n m peers saves phase events → es ≡ events ++ e ∷ [] → AreSoFar n m peers saves phase es
+heard_more n m peers saves Hearing events es e at is so_far more = polled_more n m events es e so_far is more
+heard_more n m peers saves Listening events es e at is so_far more = listened_more n m peers events es e so_far is more
+heard_more n m peers saves Resting events es e at is so_far more = subst (λ l. All IsDatagram l) (sym more) (All-push IsDatagram events e so_far is)
+heard_more n m peers saves (Polling target) events es e at is so_far more = absurd cc
+heard_more n m peers saves (TimingOut last) events es e at is so_far more = absurd cc
+heard_more n m peers saves (Sharing slot) events es e at is so_far more = absurd cc
+heard_more n m peers saves Over events es e at is so_far more = absurd cc
+heard_more n m peers saves Rested events es e at is so_far more = absurd cc
 
 -- ---- a round goes on
 -- a target but the last is polled
 pub after_poll : (room now : ℕ) (r : RoundState) (t : ℕ) (w : Wait) (es : List RoundEvent) → IsOrderly room r → r.phase ≡ Polling t → t + 1 < length r.targets
     → es ≡ r.events ++ StartPoll t ∷ [] → now ≡ room → IsOrderly now (record r { phase = Polling (t + 1); wait = w; events = es })
 after_poll room now r t w es orderly at next more same =
-    let so_far : AreSoFar (length r.targets) (r.tries - r.quiets) r.peers (Polling t) r.events = subst (λ p. AreSoFar (length r.targets) (r.tries - r.quiets) r.peers p r.events) at orderly.order in
+    let so_far : AreSoFar (length r.targets) (r.tries - r.quiets) r.peers r.saving (Polling t) r.events = subst (λ p. AreSoFar (length r.targets) (r.tries - r.quiets) r.peers r.saving p r.events) at orderly.order in
     let left : events_left r.phase r ≡ length r.targets - t + length r.peers + 1 = ap (λ p. events_left p r) at in
     let long = length_more r.events es (StartPoll t) more in
     record {
@@ -218,7 +218,7 @@ after_poll room now r t w es orderly at next more same =
 pub after_last_poll : (room now : ℕ) (r : RoundState) (t : ℕ) (w : Wait) (es : List RoundEvent) → IsOrderly room r → r.phase ≡ Polling t → length r.targets ≤ t + 1
     → es ≡ r.events ++ StartPoll t ∷ [] → now ≡ room → IsOrderly now (record r { phase = Hearing; wait = w; events = es })
 after_last_poll room now r t w es orderly at next more same =
-    let so_far : AreSoFar (length r.targets) (r.tries - r.quiets) r.peers (Polling t) r.events = subst (λ p. AreSoFar (length r.targets) (r.tries - r.quiets) r.peers p r.events) at orderly.order in
+    let so_far : AreSoFar (length r.targets) (r.tries - r.quiets) r.peers r.saving (Polling t) r.events = subst (λ p. AreSoFar (length r.targets) (r.tries - r.quiets) r.peers r.saving p r.events) at orderly.order in
     let left : events_left r.phase r ≡ length r.targets - t + length r.peers + 1 = ap (λ p. events_left p r) at in
     let long = length_more r.events es (StartPoll t) more in
     let lt = so_far.0 in
@@ -244,7 +244,7 @@ timing_left r Rested at = elim at [ ]
 
 -- a quiet wait is used up, and there was one
 timed_so_far : (r : RoundState) (phase : Phase) (id : ℕ) (es : List RoundEvent) → IsTiming phase → timed_out phase < id → may_time_out phase r ≡ true → r.quiets ≤ r.tries
-    → AreSoFar (length r.targets) (r.tries - r.quiets) r.peers phase r.events → es ≡ r.events ++ Timeout id ∷ []
+    → AreSoFar (length r.targets) (r.tries - r.quiets) r.peers r.saving phase r.events → es ≡ r.events ++ Timeout id ∷ []
     → HasTimedOut (length r.targets) (r.tries - quiets_left phase r.quiets) id es × (quiets_left phase r.quiets ≤ r.tries)
 timed_so_far r Hearing id es at lt may le so_far more =
     let both : (0 < r.timeouts) × (0 < r.quiets) = search rules in
@@ -295,8 +295,8 @@ settles room r more orderly = record {
   whole = orderly.whole;
 }
   where
-    ordered : (phase : Phase) (more : Bool) → AreSoFar (length r.targets) (r.tries - r.quiets) r.peers phase r.events
-        → AreSoFar (length r.targets) (r.tries - r.quiets) r.peers (settled_phase phase more) r.events
+    ordered : (phase : Phase) (more : Bool) → AreSoFar (length r.targets) (r.tries - r.quiets) r.peers r.saving phase r.events
+        → AreSoFar (length r.targets) (r.tries - r.quiets) r.peers r.saving (settled_phase phase more) r.events
     ordered (TimingOut last) true so_far = so_far
     ordered (TimingOut last) false so_far = timed_all (length r.targets) (r.tries - r.quiets) last r.events so_far
     ordered (Polling t) more so_far = so_far
@@ -337,7 +337,7 @@ sharing_left r Rested slot at = elim at [ ]
 pub after_share : (room now : ℕ) (r : RoundState) (slot p : ℕ) (w : Wait) (es : List RoundEvent) → IsOrderly room r → IsSharing r.phase slot → slice_get r.peers slot ≡ Some p
     → slot + 1 < length r.peers → es ≡ r.events ++ Share p ∷ [] → now ≡ room → IsOrderly now (record r { phase = Sharing (slot + 1); wait = w; events = es })
 after_share room now r slot p w es orderly at found next more same =
-    let shared = shared_so_far (length r.targets) (r.tries - r.quiets) slot r.peers r.phase r.events at orderly.order in
+    let shared = shared_so_far (length r.targets) (r.tries - r.quiets) slot r.peers r.saving r.phase r.events at orderly.order in
     let left = sharing_left r r.phase slot at in
     let long = length_more r.events es (Share p) more in
     record {
@@ -352,7 +352,7 @@ after_share room now r slot p w es orderly at found next more same =
 pub after_last_share : (room now : ℕ) (r : RoundState) (slot p : ℕ) (w : Wait) (es : List RoundEvent) → IsOrderly room r → IsSharing r.phase slot → slice_get r.peers slot ≡ Some p
     → length r.peers ≤ slot + 1 → es ≡ r.events ++ Share p ∷ [] → now ≡ room → IsOrderly now (record r { phase = Listening; wait = w; events = es })
 after_last_share room now r slot p w es orderly at found last more same =
-    let shared = shared_so_far (length r.targets) (r.tries - r.quiets) slot r.peers r.phase r.events at orderly.order in
+    let shared = shared_so_far (length r.targets) (r.tries - r.quiets) slot r.peers r.saving r.phase r.events at orderly.order in
     let left = sharing_left r r.phase slot at in
     let long = length_more r.events es (Share p) more in
     let within = slice_get_within r.peers slot p found in
@@ -377,17 +377,17 @@ saving_left r Resting at = elim at [ ]
 saving_left r Rested at = elim at [ ]
 
 -- all is saved
-pub after_save : (room now : ℕ) (r : RoundState) (w : Wait) (es : List RoundEvent) → IsOrderly room r → IsSaving r.phase r.peers
+pub after_save : (room now : ℕ) (r : RoundState) (w : Wait) (es : List RoundEvent) → IsOrderly room r → IsSaving r.phase r.peers → r.saving ≡ true
     → es ≡ r.events ++ Save ∷ [] → now ≡ room → IsOrderly now (record r { phase = Over; wait = w; events = es })
-after_save room now r w es orderly at more same =
+after_save room now r w es orderly at saves more same =
     let left = saving_left r r.phase at in
     let long = length_more r.events es Save more in
     let few = few_more r.events es Save r.datagrams more refl orderly.few in
     record {
       order = record {
         before = r.events;
-        listened = listened_so_far (length r.targets) (r.tries - r.quiets) r.peers r.phase r.events at orderly.order;
-        are = more;
+        listened = listened_so_far (length r.targets) (r.tries - r.quiets) r.peers r.saving r.phase r.events at orderly.order;
+        are = more ∙ ap (λ b. r.events ++ saved_by b) (sym saves);
         few = omega (arith, few);
       };
       few = few;
@@ -395,6 +395,70 @@ after_save room now r w es orderly at more same =
       space = omega (arith, orderly.space, left, long, same);
       whole = omega (arith, orderly.whole, same);
     }
+
+-- ---- the end where nothing is given
+-- what gives nothing next is done, and does not save
+saves_not : (saves : Bool) → save_if saves ≡ None → saves ≡ false
+saves_not true none = absurd (let s : Some Save ≡ None = none in cc)
+saves_not false none = refl
+
+is_done : (saves : Bool) (peers : List ℕ) → share_at saves peers 0 ≡ None → (peers ≡ []) × (saves ≡ false)
+is_done saves [] none = (refl, saves_not saves none)
+is_done saves (p ∷ peers) none = absurd (let s : Some (Share p) ≡ None = none in cc)
+
+share_there : (saves : Bool) (peers : List ℕ) (slot : ℕ) → slot < length peers → share_at saves peers slot ≡ None → ⊥
+share_there saves [] slot lt none = absurd (omega (arith, lt))
+share_there saves (p ∷ peers) zero lt none = absurd (let s : Some (Share p) ≡ None = none in cc)
+share_there saves (p ∷ peers) (suc slot) lt none = share_there saves peers slot (omega (arith, lt)) none
+
+unsaved : (n m : ℕ) (peers : List ℕ) (saves : Bool) (events : List RoundEvent) → HasListened n m peers events → datagrams_in events ≤ 4096 → saves ≡ false → IsRound n m peers saves events
+unsaved n m peers saves events listened few off = record {
+  before = events;
+  listened = listened;
+  are = sym (append-nil events) ∙ ap (λ b. events ++ saved_by b) (sym off);
+  few = few;
+}
+
+ended_so_far : (r : RoundState) (phase : Phase) → datagrams_in r.events ≤ 4096 → event_in_phase phase r None ≡ None
+    → AreSoFar (length r.targets) (r.tries - r.quiets) r.peers r.saving phase r.events → AreSoFar (length r.targets) (r.tries - r.quiets) r.peers r.saving (phase_ended phase) r.events
+ended_so_far r Hearing few none so_far =
+    let done = is_done r.saving r.peers none in
+    unsaved (length r.targets) (r.tries - r.quiets) r.peers r.saving r.events (listened_so_far (length r.targets) (r.tries - r.quiets) r.peers r.saving Hearing r.events done.0 so_far) few done.1
+ended_so_far r (TimingOut last) few none so_far =
+    let done = is_done r.saving r.peers none in
+    unsaved (length r.targets) (r.tries - r.quiets) r.peers r.saving r.events (listened_so_far (length r.targets) (r.tries - r.quiets) r.peers r.saving (TimingOut last) r.events done.0 so_far) few done.1
+ended_so_far r Listening few none so_far = unsaved (length r.targets) (r.tries - r.quiets) r.peers r.saving r.events so_far few (saves_not r.saving none)
+ended_so_far r (Polling t) few none so_far = absurd (let s : Some (StartPoll t) ≡ None = none in cc)
+ended_so_far r (Sharing slot) few none so_far = absurd (share_there r.saving r.peers slot so_far.0 none)
+ended_so_far r Over few none so_far = so_far
+ended_so_far r Resting few none so_far = so_far
+ended_so_far r Rested few none so_far = so_far
+
+nothing_left : (phase : Phase) (r : RoundState) → events_left (phase_ended phase) r ≡ 0
+nothing_left Hearing r = refl
+nothing_left (TimingOut last) r = refl
+nothing_left Listening r = refl
+nothing_left (Polling t) r = refl
+nothing_left (Sharing slot) r = refl
+nothing_left Over r = refl
+nothing_left Resting r = refl
+nothing_left Rested r = refl
+
+-- the round, or the time between two, is over without a further event
+pub after_end : (room : ℕ) (r : RoundState) (next : Phase) (w : Wait) → IsOrderly room r → event_in_phase r.phase r None ≡ None → next ≡ phase_ended r.phase
+    → IsOrderly room (record r { phase = next; wait = w })
+after_end room r next w orderly none is = subst (λ p. IsOrderly room (record r { phase = p; wait = w })) (sym is) ended
+  where
+    ended : IsOrderly room (record r { phase = phase_ended r.phase; wait = w })
+    ended =
+        let left = nothing_left r.phase (record r { phase = phase_ended r.phase; wait = w }) in
+        record {
+          order = ended_so_far r r.phase (let few = orderly.few in omega (arith, few)) none orderly.order;
+          quiets = orderly.quiets;
+          few = orderly.few;
+          space = (let space = orderly.space in omega (arith, space, left));
+          whole = orderly.whole;
+        }
 
 -- a datagram came
 pub after_arrival : (room now : ℕ) (r : RoundState) (e : RoundEvent) (w : Wait) (es : List RoundEvent) → IsOrderly room r → is_hearing r.phase ≡ true → 0 < r.datagrams → IsDatagram e
@@ -405,7 +469,7 @@ after_arrival room now r e w es orderly at some is more same =
     let still : events_left r.phase new ≡ events_left r.phase r = left_alike r.phase in
     let count : datagrams_in es ≡ datagrams_in r.events + datagrams_of e = ap datagrams_in more ∙ datagrams_more r.events e in
     record {
-      order = heard_more (length r.targets) (r.tries - r.quiets) r.peers r.phase r.events es e at is orderly.order more;
+      order = heard_more (length r.targets) (r.tries - r.quiets) r.peers r.saving r.phase r.events es e at is orderly.order more;
       few = omega (arith, count, is, orderly.few, some);
       quiets = orderly.quiets;
       space = omega (arith, orderly.space, still, long, same, some);
@@ -423,33 +487,15 @@ after_arrival room now r e w es orderly at some is more same =
     left_alike Rested = refl
 
 -- ---- what is shared next
-pub share_found : (peers : List ℕ) (slot p : ℕ) → slice_get peers slot ≡ Some p → share_at peers slot ≡ Share p
-share_found [] slot p found = absurd cc
-share_found (q ∷ peers) zero p found = ap (λ n. Share n) (same_Some q p found)
-share_found (q ∷ peers) (suc slot) p found = share_found peers slot p found
+pub share_found : (saves : Bool) (peers : List ℕ) (slot p : ℕ) → slice_get peers slot ≡ Some p → share_at saves peers slot ≡ Some (Share p)
+share_found saves [] slot p found = absurd cc
+share_found saves (q ∷ peers) zero p found = ap (λ n. Some (Share n)) (same_Some q p found)
+share_found saves (q ∷ peers) (suc slot) p found = share_found saves peers slot p found
 
-pub share_past : (peers : List ℕ) (slot : ℕ) → slice_get peers slot ≡ None → share_at peers slot ≡ Save
-share_past [] slot past = refl
-share_past (q ∷ peers) zero past = absurd cc
-share_past (q ∷ peers) (suc slot) past = share_past peers slot past
-
--- if there is no peer at the slot, all is saved next
-pub saving_past : (n m slot : ℕ) (peers : List ℕ) (phase : Phase) (events : List RoundEvent) → IsSharing phase slot → AreSoFar n m peers phase events → slice_get peers slot ≡ None → IsSaving phase peers
-saving_past n m slot [] Hearing events at so_far past = refl
-saving_past n m slot (q ∷ peers) Hearing events at so_far past =
-    let first : slice_get (q ∷ peers) 0 ≡ None = subst (λ k. slice_get (q ∷ peers) k ≡ None) at past in absurd cc
-saving_past n m slot [] (TimingOut last) events at so_far past = refl
-saving_past n m slot (q ∷ peers) (TimingOut last) events at so_far past =
-    let first : slice_get (q ∷ peers) 0 ≡ None = subst (λ k. slice_get (q ∷ peers) k ≡ None) at past in absurd cc
-saving_past n m slot peers (Sharing next) events at so_far past =
-    let there = slice_get-get_or peers next 0 so_far.0 in
-    let gone : slice_get peers next ≡ None = subst (λ k. slice_get peers k ≡ None) at past in
-    absurd cc
-saving_past n m slot peers (Polling t) events at so_far past = elim at [ ]
-saving_past n m slot peers Listening events at so_far past = elim at [ ]
-saving_past n m slot peers Over events at so_far past = elim at [ ]
-saving_past n m slot peers Resting events at so_far past = elim at [ ]
-saving_past n m slot peers Rested events at so_far past = elim at [ ]
+pub share_past : (saves : Bool) (peers : List ℕ) (slot : ℕ) → slice_get peers slot ≡ None → share_at saves peers slot ≡ save_if saves
+share_past saves [] slot past = refl
+share_past saves (q ∷ peers) zero past = absurd cc
+share_past saves (q ∷ peers) (suc slot) past = share_past saves peers slot past
 
 pub slot_next : (phase : Phase) (slot : ℕ) → IsSharing phase slot → slot_after phase ≡ slot + 1
 slot_next Hearing slot at = omega (arith, at)

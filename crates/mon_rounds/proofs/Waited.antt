@@ -1,10 +1,10 @@
 -- How often a round waits, and how long.
-use Rattle.std.proofs.Common.{ℕ, ◌≡◌, ◌≤◌, ◌<◌, ◌+◌, ◌-◌, ◌*◌, ◌⊎◌, inl, inr, Bool, true, false, List, [], ◌∷◌, ◌++◌, Option, Some, None, Result, Ok, Err, All, length, map, refl, sym, ap, subst, ◌∙◌, arith, rules}
+use Rattle.std.proofs.Common.{ℕ, ◌≡◌, ◌≤◌, ◌<◌, ◌+◌, ◌-◌, ◌*◌, ◌⊎◌, inl, inr, Bool, true, false, List, [], ◌∷◌, Option, Some, None, Result, length, map, refl, sym, ap, subst, ◌∙◌, arith, rules}
 use Rattle.std.specs.Prelude.{zero, suc, cond, is_some, nat_lt, ◌&&◌}
-use Rattle.std.proofs.lemmas.List.Elements.{All-append, All-head, All-nil, All-push, All-tail}
+use Rattle.std.proofs.lemmas.List.Elements.{All-head, All-nil, All-push, All-tail}
 use Rattle.std.proofs.lemmas.List.Sums.{sum_by-cons}
 use Rattle.mon_station.specs.ReadEvent.{OwnedEvent}
-use Rattle.mon_station.specs.declared.event.Event.TheVariants.{StartPoll, Timeout, Share, Save}
+use Rattle.mon_station.specs.declared.event.Event.TheVariants.{StartPoll, Timeout, Share}
 use Rattle.mon_station.specs.declared.running.Answer.{Answer}
 use Rattle.mon_station.specs.declared.running.SourceFault.{SourceFault}
 use Rattle.mon_rounds.specs.declared.receiver.Arrival.{Arrival}
@@ -13,7 +13,7 @@ use Rattle.mon_rounds.specs.declared.receiver.Wait.{Wait}
 use Rattle.mon_rounds.specs.declared.receiver.Wait.TheVariants.{Begin, Renew, Rest}
 use Rattle.mon_rounds.specs.declared.round.Phase.{Phase}
 use Rattle.mon_rounds.specs.declared.round.Phase.TheVariants.{Polling, Hearing, TimingOut, Sharing, Listening, Over, Resting, Rested}
-use Rattle.mon_rounds.specs.Next.{LeadsTo, Receives, RoundState, after_datagram, after_event, after_failure, after_polls, event_in_phase, is_hearing, is_taken, listens_to, may_time_out, must_receive, next_event, next_wait, phase_after, phase_ended, quiets_left, settled, settled_phase, share_at, slot_after, wait_due, wait_in, waits_left}
+use Rattle.mon_rounds.specs.Next.{LeadsTo, Receives, RoundState, after_datagram, after_event, after_failure, after_polls, event_in_phase, is_hearing, is_taken, listens_to, may_time_out, must_receive, next_event, next_wait, phase_ended, quiets_left, save_if, settled, settled_phase, share_at, slot_after, wait_due, wait_in, waits_left}
 use Rattle.mon_rounds.specs.Order.{RoundEvent}
 use Rattle.mon_rounds.specs.Reception.{AreTimely, EachLasts, HasWaits, Lasts, Reception, Timed, begins_in, begins_of, end_of, time_in}
 
@@ -29,72 +29,67 @@ rest_left Over r = 0
 rest_left Resting r = 0
 rest_left Rested r = 0
 
--- after an event
-abbrev left_after : RoundState → RoundEvent → ℕ
-left_after r e = waits_left (phase_after r e) (after_event r (Some e))
+-- after an event, or after none
+abbrev left_after : RoundState → Option RoundEvent → ℕ
+left_after r n = waits_left (after_event r n).phase (after_event r n)
 
-share_one : (r : RoundState) (p : ℕ) → left_after r (Share p) ≡ 1
+ended_left : (r : RoundState) (phase : Phase) → waits_left (phase_ended phase) (after_event r None) ≡ 0
+ended_left r (Polling target) = refl
+ended_left r Hearing = refl
+ended_left r (TimingOut last) = refl
+ended_left r (Sharing slot) = refl
+ended_left r Listening = refl
+ended_left r Over = refl
+ended_left r Resting = refl
+ended_left r Rested = refl
+
+save_left : (r : RoundState) (saves : Bool) → left_after r (save_if saves) ≡ 0
+save_left r true = refl
+save_left r false = ended_left r r.phase
+
+share_one : (r : RoundState) (p : ℕ) → left_after r (Some (Share p)) ≡ 1
 share_one r p = elim (nat_lt (slot_after r.phase) (length r.peers)) as (λ b. waits_left (cond b (Sharing (slot_after r.phase)) Listening) (after_event r (Some (Share p))) ≡ 1) [ true ↦ refl | false ↦ refl ]
 
-share_left : (r : RoundState) (peers : List ℕ) (slot : ℕ) → left_after r (share_at peers slot) ≤ 1
-share_left r [] slot = omega arith
-share_left r (p ∷ peers) zero = let one = share_one r p in omega (arith, one)
-share_left r (p ∷ peers) (suc slot) = share_left r peers slot
+share_left : (r : RoundState) (saves : Bool) (peers : List ℕ) (slot : ℕ) → left_after r (share_at saves peers slot) ≤ 1
+share_left r saves [] slot = let none = save_left r saves in omega (arith, none)
+share_left r saves (p ∷ peers) zero = let one = share_one r p in omega (arith, one)
+share_left r saves (p ∷ peers) (suc slot) = share_left r saves peers slot
 
-share_first : (r : RoundState) (peers : List ℕ) → left_after r (share_at peers 0) ≤ listens_to peers
-share_first r [] = omega arith
-share_first r (p ∷ peers) = let one = share_one r p in omega (arith, one)
+share_first : (r : RoundState) (saves : Bool) (peers : List ℕ) → left_after r (share_at saves peers 0) ≤ listens_to peers
+share_first r saves [] = let none = save_left r saves in omega (arith, none)
+share_first r saves (p ∷ peers) = let one = share_one r p in omega (arith, one)
 
 polls_left : (r : RoundState) (oldest : Option ℕ) (k : ℕ) → listens_to r.peers ≤ k → (may_time_out r.phase r ≡ true → 1 + (quiets_left r.phase r.quiets + listens_to r.peers) ≤ k) → left_after r (after_polls r oldest) ≤ k
-polls_left r None k shares times = let first = share_first r r.peers in omega (arith, first, shares)
+polls_left r None k shares times = let first = share_first r r.saving r.peers in omega (arith, first, shares)
 polls_left r (Some id) k shares times = timed (may_time_out r.phase r) refl
   where
-    timed : (b : Bool) → may_time_out r.phase r ≡ b → left_after r (cond b (Timeout id) (share_at r.peers 0)) ≤ k
+    timed : (b : Bool) → may_time_out r.phase r ≡ b → left_after r (cond b (Some (Timeout id)) (share_at r.saving r.peers 0)) ≤ k
     timed true is = times is
-    timed false is = let first = share_first r r.peers in omega (arith, first, shares)
+    timed false is = let first = share_first r r.saving r.peers in omega (arith, first, shares)
 
 some_quiets : (r : RoundState) → may_time_out Hearing r ≡ true → 0 < r.quiets
 some_quiets r may = let both : (0 < r.timeouts) × (0 < r.quiets) = search rules in both.1
 
-event_left : (r : RoundState) (oldest : Option ℕ) (phase : Phase) (e : RoundEvent) → r.phase ≡ phase → event_in_phase phase r oldest ≡ Some e → left_after r e ≤ rest_left phase r
-event_left r oldest (Polling target) e is given =
-    let same : StartPoll target ≡ e = (let s : Some (StartPoll target) ≡ Some e = given in cc) in
-    subst (λ x. left_after r x ≤ 1 + (r.quiets + listens_to r.peers)) same
-    (elim (nat_lt (target + 1) (length r.targets)) as (λ b. waits_left (cond b (Polling (target + 1)) Hearing) (after_event r (Some (StartPoll target))) ≤ 1 + (r.quiets + listens_to r.peers)) [ true ↦ omega arith | false ↦ omega arith ])
-event_left r oldest Hearing e is given =
-    let same : after_polls r oldest ≡ e = (let s : Some (after_polls r oldest) ≡ Some e = given in cc) in
+event_left : (r : RoundState) (oldest : Option ℕ) (phase : Phase) → r.phase ≡ phase → left_after r (event_in_phase phase r oldest) ≤ rest_left phase r
+event_left r oldest (Polling target) is =
+    elim (nat_lt (target + 1) (length r.targets)) as (λ b. waits_left (cond b (Polling (target + 1)) Hearing) (after_event r (Some (StartPoll target))) ≤ 1 + (r.quiets + listens_to r.peers)) [ true ↦ omega arith | false ↦ omega arith ]
+event_left r oldest Hearing is =
     let times : may_time_out r.phase r ≡ true → 1 + (quiets_left r.phase r.quiets + listens_to r.peers) ≤ r.quiets + listens_to r.peers =
     subst (λ p. may_time_out p r ≡ true → 1 + (quiets_left p r.quiets + listens_to r.peers) ≤ r.quiets + listens_to r.peers) (sym is)
     (λ may. let some = some_quiets r may in omega (arith, some)) in
-    subst (λ x. left_after r x ≤ r.quiets + listens_to r.peers) same (polls_left r oldest (r.quiets + listens_to r.peers) (omega arith) times)
-event_left r oldest (TimingOut last) e is given =
-    let same : after_polls r oldest ≡ e = (let s : Some (after_polls r oldest) ≡ Some e = given in cc) in
+    polls_left r oldest (r.quiets + listens_to r.peers) (omega arith) times
+event_left r oldest (TimingOut last) is =
     let times : may_time_out r.phase r ≡ true → 1 + (quiets_left r.phase r.quiets + listens_to r.peers) ≤ 1 + (r.quiets + listens_to r.peers) =
     subst (λ p. may_time_out p r ≡ true → 1 + (quiets_left p r.quiets + listens_to r.peers) ≤ 1 + (r.quiets + listens_to r.peers)) (sym is) (λ may. omega arith) in
-    subst (λ x. left_after r x ≤ 1 + (r.quiets + listens_to r.peers)) same (polls_left r oldest (1 + (r.quiets + listens_to r.peers)) (omega arith) times)
-event_left r oldest (Sharing slot) e is given =
-    let same : share_at r.peers slot ≡ e = (let s : Some (share_at r.peers slot) ≡ Some e = given in cc) in
-    subst (λ x. left_after r x ≤ 1) same (share_left r r.peers slot)
-event_left r oldest Listening e is given =
-    let same : Save ≡ e = (let s : Some Save ≡ Some e = given in cc) in
-    subst (λ x. left_after r x ≤ 0) same (omega arith)
-event_left r oldest Over e is given = absurd (let s : None ≡ Some e = given in cc)
-event_left r oldest Resting e is given = absurd (let s : None ≡ Some e = given in cc)
-event_left r oldest Rested e is given = absurd (let s : None ≡ Some e = given in cc)
+    polls_left r oldest (1 + (r.quiets + listens_to r.peers)) (omega arith) times
+event_left r oldest (Sharing slot) is = share_left r r.saving r.peers slot
+event_left r oldest Listening is = let none = save_left r r.saving in omega (arith, none)
+event_left r oldest Over is = let none = ended_left r r.phase in omega (arith, none)
+event_left r oldest Resting is = let none = ended_left r r.phase in omega (arith, none)
+event_left r oldest Rested is = let none = ended_left r r.phase in omega (arith, none)
 
-ended_left : (r : RoundState) (oldest : Option ℕ) (phase : Phase) → event_in_phase phase r oldest ≡ None → waits_left (phase_ended phase) (after_event r None) ≤ 0
-ended_left r oldest Over none = omega arith
-ended_left r oldest Resting none = omega arith
-ended_left r oldest Rested none = omega arith
-ended_left r oldest (Polling target) none = absurd (let s : Some (StartPoll target) ≡ None = none in cc)
-ended_left r oldest Hearing none = absurd (let s : Some (after_polls r oldest) ≡ None = none in cc)
-ended_left r oldest (TimingOut last) none = absurd (let s : Some (after_polls r oldest) ≡ None = none in cc)
-ended_left r oldest (Sharing slot) none = absurd (let s : Some (share_at r.peers slot) ≡ None = none in cc)
-ended_left r oldest Listening none = absurd (let s : Some Save ≡ None = none in cc)
-
-next_left : (r : RoundState) (oldest : Option ℕ) (n : Option RoundEvent) → next_event r oldest ≡ n → waits_left (after_event r n).phase (after_event r n) ≤ rest_left r.phase r
-next_left r oldest None is = let none = ended_left r oldest r.phase is in omega (arith, none)
-next_left r oldest (Some e) is = event_left r oldest r.phase e refl is
+next_left : (r : RoundState) (oldest : Option ℕ) → left_after r (next_event r oldest) ≤ rest_left r.phase r
+next_left r oldest = event_left r oldest r.phase refl
 
 rest_within : (r : RoundState) (phase : Phase) → rest_left phase r ≤ waits_left phase r
 rest_within r (Polling target) = omega arith
@@ -159,7 +154,7 @@ arrived_uses r new oldest None result at leads =
     same_left Over at left = omega arith
     same_left Rested at left = omega arith
 arrived_uses r new oldest (Some Quiet) result at leads =
-    subst (λ (n : RoundState). waits_left n.phase n ≤ rest_left r.phase r) (sym leads.after) (next_left r oldest (next_event r oldest) refl)
+    subst (λ (n : RoundState). waits_left n.phase n ≤ rest_left r.phase r) (sym leads.after) (next_left r oldest)
 arrived_uses r new oldest (Some (Datagram from octets)) result at leads =
     subst (λ (n : RoundState). waits_left n.phase n ≤ rest_left r.phase r) (sym leads.after) (none_left r.phase at (in_begins r.phase))
   where
@@ -176,7 +171,7 @@ arrived_uses r new oldest (Some (Datagram from octets)) result at leads =
 received_uses : (r new : RoundState) (oldest : Option ℕ) (last : Option Answer) (log : List Reception) (result : Result (Option OwnedEvent) SourceFault) → Receives r oldest last log result new
     → begins_in log + waits_left new.phase new ≤ waits_left r.phase r
 received_uses r new oldest last [] result g =
-    let left = next_left r oldest (next_event r oldest) refl in
+    let left = next_left r oldest in
     let within = rest_within r r.phase in
     subst (λ (n : RoundState). 0 + waits_left n.phase n ≤ waits_left r.phase r) (sym g.1.after) (omega (arith, left, within))
 received_uses r new oldest last (one ∷ []) result g =

@@ -8,7 +8,7 @@ use Rattle.mon_disk.specs.declared.disk.Disk.{Ghosts}
 use Rattle.mon_poller.specs.Polls.{Open}
 use Rattle.mon_station.specs.ReadEvent.{OwnedEvent}
 use Rattle.mon_station.specs.declared.running.Answer.{Answer}
-use Rattle.mon_station.specs.declared.event.Event.TheVariants.{StartPoll, Timeout, Save}
+use Rattle.mon_station.specs.declared.event.Event.TheVariants.{Timeout}
 use Rattle.mon_udp.specs.declared.addr.Addr.{Addr}
 use Rattle.mon_rounds.specs.declared.receiver.Arrival.{Arrival}
 use Rattle.mon_rounds.specs.declared.receiver.Arrival.TheVariants.{Datagram, Quiet}
@@ -17,7 +17,7 @@ use Rattle.mon_rounds.specs.declared.round.Phase.TheVariants.{Polling, Hearing, 
 use Rattle.mon_rounds.specs.declared.round.Span.{Span}
 use Rattle.mon_rounds.specs.declared.round.Span.TheVariants.{Round, Between}
 use Rattle.mon_rounds.specs.Given.{AreGiven, IsGiven, with_octets}
-use Rattle.mon_rounds.specs.Next.{GivesNext, IsEnded, LeadsTo, Proceeds, Receives, RoundState, TakesTurn, after_datagram, after_event, after_failure, after_polls, event_from, event_in_phase, may_time_out, next_event, phase_after, phase_ended, settled, settled_phase, share_at, slot_after, listens_to, turns_left, waits_left}
+use Rattle.mon_rounds.specs.Next.{GivesNext, IsEnded, LeadsTo, Proceeds, Receives, RoundState, TakesTurn, after_datagram, after_event, after_failure, after_polls, event_from, event_in_phase, may_time_out, next_event, phase_ended, save_if, settled, settled_phase, share_at, slot_after, listens_to, turns_left, waits_left}
 use Rattle.mon_rounds.specs.Order.{RoundEvent, AreSoFar, IsRound}
 use Rattle.mon_rounds.specs.Orderly.{begun, first_phase, first_wait, most_waits}
 use Rattle.mon_rounds.proofs.Waited.{Keeps, settled_used}
@@ -64,47 +64,16 @@ is_rest Over = false
 -- what a call leaves
 record IsLeft (r new : RoundState) (result : Result (Option OwnedEvent) SourceFault) : Type 0 where
   same : HasSame r new
+  saving : new.saving ≡ r.saving
   given : (all : List OwnedEvent) → AreGiven r.events all → AreGiven new.events (all ++ given_in result)
   rest : is_rest new.phase ≡ is_rest r.phase
 
 itself : (r : RoundState) → HasSame r r
-itself r = record { targets = refl; peers = refl; peer_addresses = refl; wait_ms = refl; tries = refl }
+itself r = record { targets = refl; peers = refl; peer_addresses = refl; wait_ms = refl; tries = refl; saves = refl }
 
-share_rest : (r : RoundState) (peers : List ℕ) (slot : ℕ) → is_rest (phase_after r (share_at peers slot)) ≡ false
-share_rest r [] slot = refl
-share_rest r (p ∷ peers) zero = elim (nat_lt (slot_after r.phase) (length r.peers)) as (λ b. is_rest (cond b (Sharing (slot_after r.phase)) Listening) ≡ false) [ true ↦ refl | false ↦ refl ]
-share_rest r (p ∷ peers) (suc slot) = share_rest r peers slot
-
--- after the polls a round goes on
-polls_rest : (r : RoundState) (oldest : Option ℕ) → is_rest (phase_after r (after_polls r oldest)) ≡ false
-polls_rest r None = share_rest r r.peers 0
-polls_rest r (Some id) = timed (may_time_out r.phase r)
-  where
-    timed : (b : Bool) → is_rest (phase_after r (cond b (Timeout id) (share_at r.peers 0))) ≡ false
-    timed true = refl
-    timed false = share_rest r r.peers 0
-
--- the phase that an event of a round leaves
-event_rest : (r : RoundState) (oldest : Option ℕ) (phase : Phase) (e : RoundEvent) → r.phase ≡ phase → event_in_phase phase r oldest ≡ Some e → is_rest (phase_after r e) ≡ is_rest phase
-event_rest r oldest (Polling target) e is given =
-    let same : StartPoll target ≡ e = (let s : Some (StartPoll target) ≡ Some e = given in cc) in
-    subst (λ x. is_rest (phase_after r x) ≡ false) same
-    (elim (nat_lt (target + 1) (length r.targets)) as (λ b. is_rest (cond b (Polling (target + 1)) Hearing) ≡ false) [ true ↦ refl | false ↦ refl ])
-event_rest r oldest Hearing e is given =
-    let same : after_polls r oldest ≡ e = (let s : Some (after_polls r oldest) ≡ Some e = given in cc) in
-    subst (λ x. is_rest (phase_after r x) ≡ false) same (polls_rest r oldest)
-event_rest r oldest (TimingOut last) e is given =
-    let same : after_polls r oldest ≡ e = (let s : Some (after_polls r oldest) ≡ Some e = given in cc) in
-    subst (λ x. is_rest (phase_after r x) ≡ false) same (polls_rest r oldest)
-event_rest r oldest (Sharing slot) e is given =
-    let same : share_at r.peers slot ≡ e = (let s : Some (share_at r.peers slot) ≡ Some e = given in cc) in
-    subst (λ x. is_rest (phase_after r x) ≡ false) same (share_rest r r.peers slot)
-event_rest r oldest Listening e is given =
-    let same : Save ≡ e = (let s : Some Save ≡ Some e = given in cc) in
-    subst (λ x. is_rest (phase_after r x) ≡ false) same refl
-event_rest r oldest Over e is given = absurd (let s : None ≡ Some e = given in cc)
-event_rest r oldest Resting e is given = absurd (let s : None ≡ Some e = given in cc)
-event_rest r oldest Rested e is given = absurd (let s : None ≡ Some e = given in cc)
+-- whether this is the time between two rounds, after an event or after none
+abbrev rest_after : RoundState → Option RoundEvent → Bool
+rest_after r n = is_rest (after_event r n).phase
 
 ended_rest : (phase : Phase) → is_rest (phase_ended phase) ≡ is_rest phase
 ended_rest (Polling target) = refl
@@ -116,13 +85,49 @@ ended_rest Over = refl
 ended_rest Resting = refl
 ended_rest Rested = refl
 
+save_rest : (r : RoundState) (saves : Bool) → is_rest r.phase ≡ false → rest_after r (save_if saves) ≡ false
+save_rest r true round = refl
+save_rest r false round = ended_rest r.phase ∙ round
+
+share_rest : (r : RoundState) (saves : Bool) (peers : List ℕ) (slot : ℕ) → is_rest r.phase ≡ false → rest_after r (share_at saves peers slot) ≡ false
+share_rest r saves [] slot round = save_rest r saves round
+share_rest r saves (p ∷ peers) zero round = elim (nat_lt (slot_after r.phase) (length r.peers)) as (λ b. is_rest (cond b (Sharing (slot_after r.phase)) Listening) ≡ false) [ true ↦ refl | false ↦ refl ]
+share_rest r saves (p ∷ peers) (suc slot) round = share_rest r saves peers slot round
+
+-- after the polls a round goes on
+polls_rest : (r : RoundState) (oldest : Option ℕ) → is_rest r.phase ≡ false → rest_after r (after_polls r oldest) ≡ false
+polls_rest r None round = share_rest r r.saving r.peers 0 round
+polls_rest r (Some id) round = timed (may_time_out r.phase r)
+  where
+    timed : (b : Bool) → rest_after r (cond b (Some (Timeout id)) (share_at r.saving r.peers 0)) ≡ false
+    timed true = refl
+    timed false = share_rest r r.saving r.peers 0 round
+
+-- the phase that the next event of a round leaves, or its end
+event_rest : (r : RoundState) (oldest : Option ℕ) (phase : Phase) → r.phase ≡ phase → rest_after r (event_in_phase phase r oldest) ≡ is_rest phase
+event_rest r oldest (Polling target) is =
+    elim (nat_lt (target + 1) (length r.targets)) as (λ b. is_rest (cond b (Polling (target + 1)) Hearing) ≡ false) [ true ↦ refl | false ↦ refl ]
+event_rest r oldest Hearing is = polls_rest r oldest (ap is_rest is)
+event_rest r oldest (TimingOut last) is = polls_rest r oldest (ap is_rest is)
+event_rest r oldest (Sharing slot) is = share_rest r r.saving r.peers slot (ap is_rest is)
+event_rest r oldest Listening is = save_rest r r.saving (ap is_rest is)
+event_rest r oldest Over is = ended_rest r.phase ∙ ap is_rest is
+event_rest r oldest Resting is = ended_rest r.phase ∙ ap is_rest is
+event_rest r oldest Rested is = ended_rest r.phase ∙ ap is_rest is
+
 -- the next event of the round, if it has one
 next_left : (r : RoundState) (oldest : Option ℕ) (n : Option RoundEvent) → next_event r oldest ≡ n → IsLeft r (after_event r n) (Ok (option_map (λ e. with_octets e []) n))
-next_left r oldest None is = record { same = record { targets = refl; peers = refl; peer_addresses = refl; wait_ms = refl; tries = refl }; given = λ all are. given_none r.events all are; rest = ended_rest r.phase }
+next_left r oldest None is = record {
+  same = record { targets = refl; peers = refl; peer_addresses = refl; wait_ms = refl; tries = refl; saves = refl };
+  saving = refl;
+  given = λ all are. given_none r.events all are;
+  rest = ended_rest r.phase;
+}
 next_left r oldest (Some e) is = record {
-  same = record { targets = refl; peers = refl; peer_addresses = refl; wait_ms = refl; tries = refl };
+  same = record { targets = refl; peers = refl; peer_addresses = refl; wait_ms = refl; tries = refl; saves = refl };
+  saving = refl;
   given = λ all are. given_more r.events all e (with_octets e []) are ([], refl);
-  rest = event_rest r oldest r.phase e refl is;
+  rest = subst (λ n. rest_after r n ≡ is_rest r.phase) is (event_rest r oldest r.phase refl);
 }
 
 left_as : (r new other : RoundState) (result given : Result (Option OwnedEvent) SourceFault) → new ≡ other → result ≡ given → IsLeft r other given → IsLeft r new result
@@ -132,11 +137,11 @@ proceeds_left : (r new : RoundState) (oldest : Option ℕ) (result : Result (Opt
 proceeds_left r new oldest result p = left_as r new _ result _ p.after p.event (next_left r oldest (next_event r oldest) refl)
 
 arrived_left : (r new : RoundState) (oldest : Option ℕ) (arrival : Option Arrival) (result : Result (Option OwnedEvent) SourceFault) → LeadsTo r oldest arrival result new → IsLeft r new result
-arrived_left r new oldest None result m = left_as r new (after_failure r) result (Err m.fault.0) m.after m.fault.1 (record { same = record { targets = refl; peers = refl; peer_addresses = refl; wait_ms = refl; tries = refl }; given = λ all are. given_none r.events all are; rest = refl })
+arrived_left r new oldest None result m = left_as r new (after_failure r) result (Err m.fault.0) m.after m.fault.1 (record { same = record { targets = refl; peers = refl; peer_addresses = refl; wait_ms = refl; tries = refl; saves = refl }; saving = refl; given = λ all are. given_none r.events all are; rest = refl })
 arrived_left r new oldest (Some Quiet) result p = proceeds_left r new oldest result p
 arrived_left r new oldest (Some (Datagram from octets)) result h =
     left_as r new (after_datagram r from) result (Ok (Some (with_octets (event_from r from) octets))) h.after h.event
-    (record { same = record { targets = refl; peers = refl; peer_addresses = refl; wait_ms = refl; tries = refl }; given = λ all are. given_more r.events all (event_from r from) (with_octets (event_from r from) octets) are (octets, refl); rest = refl })
+    (record { same = record { targets = refl; peers = refl; peer_addresses = refl; wait_ms = refl; tries = refl; saves = refl }; saving = refl; given = λ all are. given_more r.events all (event_from r from) (with_octets (event_from r from) octets) are (octets, refl); rest = refl })
 
 received_left : (r new : RoundState) (oldest : Option ℕ) (last : Option Answer) (log : List Reception) (result : Result (Option OwnedEvent) SourceFault) → Receives r oldest last log result new → IsLeft r new result
 received_left r new oldest last [] result g = proceeds_left r new oldest result g.1
@@ -158,7 +163,8 @@ call_left : (r new : RoundState) (open_polls : Open) (last : Option Answer) (log
 call_left r new open_polls last log result g =
     let left = received_left (settled r g.more) new g.oldest last log result g.gives in
     record {
-      same = record { targets = left.same.targets; peers = left.same.peers; peer_addresses = left.same.peer_addresses; wait_ms = left.same.wait_ms; tries = left.same.tries };
+      same = record { targets = left.same.targets; peers = left.same.peers; peer_addresses = left.same.peer_addresses; wait_ms = left.same.wait_ms; tries = left.same.tries; saves = left.same.saves };
+      saving = left.saving;
       given = left.given;
       rest = left.rest ∙ settled_rest r.phase (is_some g.more && nat_lt 0 r.timeouts);
     }
@@ -171,6 +177,7 @@ same_then a b c one two = record {
   peer_addresses = two.peer_addresses ∙ one.peer_addresses;
   wait_ms = two.wait_ms ∙ one.wait_ms;
   tries = two.tries ∙ one.tries;
+  saves = two.saves ∙ one.saves;
 }
 
 -- what the turn of a call was given
@@ -182,17 +189,19 @@ turn_given (Fault f) turns = sym (append-nil (events_of turns))
 -- what calls leave
 pub record AreLeft (first now : RoundState) (given : List OwnedEvent) : Type 0 where
   pub same : HasSame first now
+  pub saving : now.saving ≡ first.saving
   pub are : AreGiven now.events given
   pub rest : is_rest now.phase ≡ is_rest first.phase
 
 pub calls_left : (v : RoundsView) (s : State) (calls : List (Call RoundsView)) → v.round.events ≡ [] → AreCalls GivesOn v s calls → AreLeft v.round (view_after v calls).round (events_of (turns_of calls))
-calls_left v s [] none are = record { same = itself v.round; are = subst (λ (l : List RoundEvent). AreGiven l []) (sym none) tt; rest = refl }
+calls_left v s [] none are = record { same = itself v.round; saving = refl; are = subst (λ (l : List RoundEvent). AreGiven l []) (sym none) tt; rest = refl }
 calls_left v s (c ∷ calls) none are =
     let before = calls_left v s calls none are.2 in
     let gives = are.0.gives in
     let left = call_left (view_after v calls).round c.view.round (state_after s (turns_of calls)).poller.polls.open_polls (last_answer calls) gives.step.more (result_of c.gave) gives.step.holds in
     record {
       same = same_then v.round (view_after v calls).round c.view.round before.same left.same;
+      saving = left.saving ∙ before.saving;
       are = subst (AreGiven c.view.round.events) (sym (turn_given c.gave (turns_of calls))) (left.given (events_of (turns_of calls)) before.are);
       rest = left.rest ∙ before.rest;
     }
@@ -281,7 +290,8 @@ begins_round (t ∷ targets) = refl
 
 module _ {X : Type 0} {G : Ghosts X} (old new : RoundState) (begins : RoundState) (heard now : Option (List Reception)) (first_kept last_kept : Kept) (before after : Seen RoundsView G) (run : Run)
     (ran : Ran GivesOn before after 5000 run) (from : before.view ≡ view_of begins heard first_kept) (to : after.view ≡ view_of new now last_kept)
-    (none : begins.events ≡ []) (few : turns_left begins ≤ 4704) (still : HasSame old begins) (order : AreSoFar (length new.targets) (new.tries - new.quiets) new.peers new.phase new.events) where
+    (none : begins.events ≡ []) (few : turns_left begins ≤ 4704) (still : HasSame old begins) (marked : begins.saving ≡ old.saves)
+    (order : AreSoFar (length new.targets) (new.tries - new.quiets) new.peers new.saving new.phase new.events) where
   abbrev given : List OwnedEvent
   given = events_of (turns_of ran.calls)
 
@@ -306,16 +316,17 @@ module _ {X : Type 0} {G : Ghosts X} (old new : RoundState) (begins : RoundState
   whole_round : is_rest begins.phase ≡ false → HasRun (IsWholeRound old new) before after run
   whole_round round =
       let phase : new.phase ≡ Over = over new.phase ended (left.rest ∙ round) in
-      let events : IsRound (length new.targets) (new.tries - new.quiets) new.peers new.events = subst (λ (p : Phase). AreSoFar (length new.targets) (new.tries - new.quiets) new.peers p new.events) phase order in
-      let within : IsRound (length new.targets) new.tries new.peers new.events = round_within (length new.targets) (new.tries - new.quiets) new.tries new.peers new.events (omega arith) events in
+      let events : IsRound (length new.targets) (new.tries - new.quiets) new.peers new.saving new.events = subst (λ (p : Phase). AreSoFar (length new.targets) (new.tries - new.quiets) new.peers new.saving p new.events) phase order in
+      let within : IsRound (length new.targets) new.tries new.peers new.saving new.events = round_within (length new.targets) (new.tries - new.quiets) new.tries new.peers new.saving new.events (omega arith) events in
+      let said : IsRound (length new.targets) new.tries new.peers old.saves new.events = subst (λ (b : Bool). IsRound (length new.targets) new.tries new.peers b new.events) (left.saving ∙ marked) within in
       record {
         ran = ran;
         are = record {
           same = kept;
           over = phase;
           order =
-              subst (λ (t : ℕ). IsRound (length old.targets) t old.peers new.events) kept.tries
-              (subst (λ (n : ℕ). IsRound n new.tries old.peers new.events) (ap length kept.targets) (subst (λ (p : List ℕ). IsRound (length new.targets) new.tries p new.events) kept.peers within));
+              subst (λ (t : ℕ). IsRound (length old.targets) t old.peers old.saves new.events) kept.tries
+              (subst (λ (n : ℕ). IsRound n new.tries old.peers old.saves new.events) (ap length kept.targets) (subst (λ (p : List ℕ). IsRound (length new.targets) new.tries p old.saves new.events) kept.peers said));
           are = left.are;
         };
       }
@@ -328,7 +339,7 @@ module _ {X : Type 0} {G : Ghosts X} (old new : RoundState) (begins : RoundState
         are = record {
           same = kept;
           over = phase;
-          each = subst (λ (p : Phase). AreSoFar (length new.targets) (new.tries - new.quiets) new.peers p new.events) phase order;
+          each = subst (λ (p : Phase). AreSoFar (length new.targets) (new.tries - new.quiets) new.peers new.saving p new.events) phase order;
           are = left.are;
         };
       }

@@ -23,15 +23,17 @@ use Rattle.mon_rounds.specs.Reception.{Reception, begins_of}
 use Rattle.mon_station.specs.declared.running.SourceFault.{SourceFault}
 
 -- What is known of a round: where targets and peers are reached, how long a wait is and how often a
--- poll is tried at most; its phase and the next wait, which is renewed if the last datagram was
--- taken; how many datagrams, quiet waits with timeouts, timeouts and failures it may still have;
--- and its events so far.
+-- poll is tried at most; whether the next round saves, and whether this one does; its phase and the
+-- next wait, which is renewed if the last datagram was taken; how many datagrams, quiet waits with
+-- timeouts, timeouts and failures it may still have; and its events so far.
 pub record RoundState : Type 0 where
   pub targets : List Addr
   pub peers : List ℕ
   pub peer_addresses : List Addr
   pub wait_ms : ℕ
   pub tries : ℕ
+  pub saves : Bool
+  pub saving : Bool
   pub phase : Phase
   pub wait : Wait
   pub datagrams : ℕ
@@ -107,11 +109,16 @@ abbrev pub after_failure : RoundState → RoundState
 after_failure r = record r { wait = Rest; failures = r.failures - 1 }
 
 -- ---- when nothing more is received
--- a share with the peer of this slot, or a save if there is no such peer
-abbrev pub share_at : List ℕ → ℕ → RoundEvent
-share_at [] slot = Save
-share_at (p ∷ peers) zero = Share p
-share_at (p ∷ peers) (suc slot) = share_at peers slot
+-- a save, if the round saves
+abbrev pub save_if : Bool → Option RoundEvent
+save_if true = Some Save
+save_if false = None
+
+-- a share with the peer of this slot; if there is no such peer, a save, if the round saves
+abbrev pub share_at : (saves : Bool) → List ℕ → ℕ → Option RoundEvent
+share_at saves [] slot = save_if saves
+share_at saves (p ∷ peers) zero = Some (Share p)
+share_at saves (p ∷ peers) (suc slot) = share_at saves peers slot
 
 -- ---- timeouts
 -- the request-id after which the next poll is timed out
@@ -136,23 +143,23 @@ abbrev pub settled : RoundState → Option ℕ → RoundState
 settled r more = record r { phase = settled_phase r.phase (is_some more && nat_lt 0 r.timeouts) }
 
 -- a timeout of the next open poll, where one is open and there may be a timeout; else the first
--- share
-abbrev pub after_polls : RoundState → Option ℕ → RoundEvent
-after_polls r None = share_at r.peers 0
-after_polls r (Some id) = cond (may_time_out r.phase r) (Timeout id) (share_at r.peers 0)
+-- share, or what follows it if there are no peers
+abbrev pub after_polls : RoundState → Option ℕ → Option RoundEvent
+after_polls r None = share_at r.saving r.peers 0
+after_polls r (Some id) = cond (may_time_out r.phase r) (Some (Timeout id)) (share_at r.saving r.peers 0)
 
 -- the event that a round gives in a phase, where it gives one
 abbrev pub event_in_phase : Phase → RoundState → Option ℕ → Option RoundEvent
 event_in_phase (Polling target) r oldest = Some (StartPoll target)
-event_in_phase Hearing r oldest = Some (after_polls r oldest)
-event_in_phase (TimingOut last) r oldest = Some (after_polls r oldest)
-event_in_phase (Sharing slot) r oldest = Some (share_at r.peers slot)
-event_in_phase Listening r oldest = Some Save
+event_in_phase Hearing r oldest = after_polls r oldest
+event_in_phase (TimingOut last) r oldest = after_polls r oldest
+event_in_phase (Sharing slot) r oldest = share_at r.saving r.peers slot
+event_in_phase Listening r oldest = save_if r.saving
 event_in_phase Over r oldest = None
 event_in_phase Resting r oldest = None
 event_in_phase Rested r oldest = None
 
--- the event that a round gives next
+-- the event that a round gives next, if it gives one: none where it is done and does not save
 abbrev pub next_event : RoundState → Option ℕ → Option RoundEvent
 next_event r oldest = event_in_phase r.phase r oldest
 
@@ -186,10 +193,11 @@ abbrev pub quiets_after : RoundState → RoundEvent → ℕ
 quiets_after r (Timeout id) = quiets_left r.phase r.quiets
 quiets_after r e = r.quiets
 
--- the phase after one that gives no event
+-- the phase after one that gives no event: the round, or the time between two, is over
 abbrev pub phase_ended : Phase → Phase
 phase_ended Resting = Rested
-phase_ended phase = phase
+phase_ended Rested = Rested
+phase_ended phase = Over
 
 -- after the event that a round gave next, if it gave one; a wait that follows begins again
 abbrev pub after_event : RoundState → Option RoundEvent → RoundState
@@ -235,7 +243,7 @@ pub record GivesNext (r : RoundState) (open_polls : Open) (last : Option Answer)
   pub gives : Receives (settled r more) oldest last log result new
 
 -- ---- how long a round is
--- how many events that are no datagrams and timeouts are still to come
+-- how many events that are no datagrams and timeouts are still to come at most
 abbrev pub events_left : Phase → RoundState → ℕ
 events_left (Polling target) r = length r.targets - target + length r.peers + 1
 events_left Hearing r = length r.peers + 1

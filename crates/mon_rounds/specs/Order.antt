@@ -1,7 +1,7 @@
 -- The order of a round's events: each target is polled, what comes is received, each peer is
--- offered what it is owed, what comes is received, and all is saved. After a quiet wait with open
--- polls each of them is timed out, by rising request-id, before the next wait.
-use Rattle.std.specs.Prelude.{ℕ, zero, suc, ◌≡◌, ◌≤◌, ◌<◌, List, [], ◌∷◌, ◌++◌, All, map, take, length, sum_by}
+-- offered what it is owed, what comes is received, and all is saved, if the round saves. After a
+-- quiet wait with open polls each of them is timed out, by rising request-id, before the next wait.
+use Rattle.std.specs.Prelude.{ℕ, zero, suc, ◌≡◌, ◌≤◌, ◌<◌, Bool, true, false, List, [], ◌∷◌, ◌++◌, All, map, take, length, sum_by}
 use Rattle.mon_rounds.specs.declared.round.Phase.{Phase}
 use Rattle.mon_rounds.specs.declared.round.Phase.TheVariants.{Polling, Hearing, TimingOut, Sharing, Listening, Over, Resting, Rested}
 use Rattle.mon_station.specs.declared.event.Event.{Event}
@@ -103,22 +103,48 @@ pub record HasListened (targets most : ℕ) (peers : List ℕ) (events : List Ro
   pub each : All IsDatagram heard
   pub are : events ≡ before ++ heard
 
--- The events of a whole round: after that all was saved, and at most 4096 datagrams came. Polls
--- were timed out after at most so many quiet waits, each at most once after each of them.
-pub record IsRound (targets most : ℕ) (peers : List ℕ) (events : List RoundEvent) : Type 0 where
+-- the last events of a round: a save, if it saves
+abbrev pub saved_by : Bool → List RoundEvent
+saved_by true = Save ∷ []
+saved_by false = []
+
+-- The events of a whole round: after that all was saved, if this round saves, and at most 4096
+-- datagrams came. Polls were timed out after at most so many quiet waits, each at most once after
+-- each of them.
+pub record IsRound (targets most : ℕ) (peers : List ℕ) (saves : Bool) (events : List RoundEvent) : Type 0 where
   pub before : List RoundEvent
   pub listened : HasListened targets most peers before
-  pub are : events ≡ before ++ Save ∷ []
+  pub are : events ≡ before ++ saved_by saves
   pub few : datagrams_in events ≤ 4096
 
--- the events of a round, or of the time between two, that is in this phase, with timeouts after at
--- most so many quiet waits so far
-abbrev pub AreSoFar : (targets most : ℕ) → List ℕ → Phase → List RoundEvent → Type 0
-AreSoFar targets most peers (Polling target) events = (target < targets) × (events ≡ polls_of target)
-AreSoFar targets most peers Hearing events = HasPolled targets most events
-AreSoFar targets most peers (TimingOut last) events = HasTimedOut targets most last events
-AreSoFar targets most peers (Sharing slot) events = (slot < length peers) × HasShared targets most (take slot peers) events
-AreSoFar targets most peers Listening events = HasListened targets most peers events
-AreSoFar targets most peers Over events = IsRound targets most peers events
-AreSoFar targets most peers Resting events = All IsDatagram events
-AreSoFar targets most peers Rested events = All IsDatagram events
+-- the events of a round, which saves at its end or does not, or of the time between two, that is in
+-- this phase, with timeouts after at most so many quiet waits so far
+abbrev pub AreSoFar : (targets most : ℕ) → List ℕ → (saves : Bool) → Phase → List RoundEvent → Type 0
+AreSoFar targets most peers saves (Polling target) events = (target < targets) × (events ≡ polls_of target)
+AreSoFar targets most peers saves Hearing events = HasPolled targets most events
+AreSoFar targets most peers saves (TimingOut last) events = HasTimedOut targets most last events
+AreSoFar targets most peers saves (Sharing slot) events = (slot < length peers) × HasShared targets most (take slot peers) events
+AreSoFar targets most peers saves Listening events = HasListened targets most peers events
+AreSoFar targets most peers saves Over events = IsRound targets most peers saves events
+AreSoFar targets most peers saves Resting events = All IsDatagram events
+AreSoFar targets most peers saves Rested events = All IsDatagram events
+
+-- ---- saves
+-- how many saves an event is
+abbrev pub saves_of : RoundEvent → ℕ
+saves_of Save = 1
+saves_of (StartPoll target) = 0
+saves_of (Timeout id) = 0
+saves_of (FromAgent from none) = 0
+saves_of (FromPeer from) = 0
+saves_of (Share peer) = 0
+
+-- how many saves there are among these events
+abbrev pub saves_in : List RoundEvent → ℕ
+saves_in events = sum_by saves_of events
+
+-- the last of these events is a save, and no other one is
+pub record SavesAtTheEnd (events : List RoundEvent) : Type 0 where
+  pub before : List RoundEvent
+  pub are : events ≡ before ++ Save ∷ []
+  pub none : saves_in before ≡ 0

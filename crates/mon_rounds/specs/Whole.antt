@@ -38,21 +38,23 @@ pub record GivesOn (before : RoundsView) (open_polls : Open) (last : Option Answ
   pub turns : TakesTurn result (turns_left before.round) (turns_left after.round)
   pub ended : result ≡ Ok None → IsEnded after.round.phase
 
--- targets and peers are reached where they were, a wait is as long, and polls are tried as often
+-- targets and peers are reached where they were, a wait is as long, polls are tried as often, and
+-- the next round saves if it did before
 pub record HasSame (old new : RoundState) : Type 0 where
   pub targets : new.targets ≡ old.targets
   pub peers : new.peers ≡ old.peers
   pub peer_addresses : new.peer_addresses ≡ old.peer_addresses
   pub wait_ms : new.wait_ms ≡ old.wait_ms
   pub tries : new.tries ≡ old.tries
+  pub saves : new.saves ≡ old.saves
 
 -- These events are those of a whole round over the same targets and peers: each target is polled,
 -- what comes is received and what is not answered times out, each peer is offered what it is owed,
--- what comes is received, and all is saved.
+-- what comes is received, and all is saved, if that was said of the next round before it began.
 pub record IsWholeRound (old new : RoundState) (given : List OwnedEvent) : Type 0 where
   pub same : HasSame old new
   pub over : new.phase ≡ Over
-  pub order : IsRound (length old.targets) old.tries old.peers new.events
+  pub order : IsRound (length old.targets) old.tries old.peers old.saves new.events
   pub are : AreGiven new.events given
 
 -- these events are those of a whole time between two rounds: only datagrams

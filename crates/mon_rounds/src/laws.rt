@@ -1,11 +1,12 @@
-//! Laws of how long a round waits, of which peers and targets are named, and of restarts. Each is a
-//! function that does nothing; its clauses are the law.
+//! Laws of how long a round waits, of its save, of which peers and targets are named, and of
+//! restarts. Each is a function that does nothing; its clauses are the law.
 
-ghost use Rattle.std.specs.Prelude.{◌≡◌, ◌≤◌, ◌+◌, ◌*◌, Bool, ℕ, List, None, Some, false, map};
+ghost use Rattle.std.specs.Prelude.{◌≡◌, ◌≤◌, ◌+◌, ◌*◌, Bool, ℕ, List, None, Some, false, map, true};
 ghost use Rattle.mon_station.specs.declared.event.TargetStamp.{TargetStamp};
 ghost use Rattle.mon_rounds.specs.Changes.{offers_often};
 ghost use Rattle.mon_rounds.specs.Clock.{Follows, Happened, clock_after, responses_of};
 ghost use Rattle.mon_rounds.specs.Freshness.{AreQuiet, IsSeldom, late_after, late_over, new_peer, no_row, peer_over, rounds_in};
+ghost use Rattle.mon_rounds.specs.Order.{IsRound, RoundEvent, SavesAtTheEnd, saves_in};
 ghost use Rattle.mon_rounds.specs.Reception.{AreTimely, HasWaits, Timed, time_in};
 ghost use Rattle.mon_rounds.specs.declared.clock.Clock.{Clock};
 ghost use Rattle.mon_rounds.specs.declared.clock.Restart.{Restart};
@@ -18,6 +19,15 @@ ghost use Rattle.mon_rounds.specs.declared.round.Span.TheVariants.{Round};
 pub fn waiting_ends()
     ensures { (most wait_ms now end : ℕ) (all : List Timed) → end ≤ now → AreTimely now end all → HasWaits most wait_ms (map (λ t. t.reception) all)
         → time_in all ≤ most * (4 * (wait_ms * 1_000_000)) }
+{}
+
+/// Of the events of a round that saves the last one is a save, and no other one is. A round that
+/// does not save has no save among its events.
+pub fn saves_once()
+    ensures saved { (targets most : ℕ) (peers : List ℕ) (events : List RoundEvent)
+        → IsRound targets most peers true events → SavesAtTheEnd events }
+    ensures unsaved { (targets most : ℕ) (peers : List ℕ) (events : List RoundEvent)
+        → IsRound targets most peers false events → saves_in events ≡ 0 }
 {}
 
 /// If at most one spell of a peer is counted between two rounds, it is never said to offer often.

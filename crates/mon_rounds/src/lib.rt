@@ -4,9 +4,9 @@
 //! `RoundReport::of` says what is reported of it, `Freshness::add` how long ago each target
 //! answered and each instance had a new sample, and `Troubles::take_changes` what changed in that.
 //! Contract: a round polls each target, receives, offers each peer what it is owed, receives again
-//! and saves, in this order; what it gives a station is fixed by what its receiver got. Only a
-//! datagram that was taken renews a wait, after a quiet wait each open poll is timed out once, and
-//! so a round ends soon whatever comes.
+//! and saves, in this order; after `Rounds::set_saves(false)` it ends without a save. What it gives
+//! a station is fixed by what its receiver got. Only a datagram that was taken renews a wait, after
+//! a quiet wait each open poll is timed out once, and so a round ends soon whatever comes.
 #![tactic(auto)]
 
 mod addresses;

@@ -1,10 +1,10 @@
 //! A round: what a station is handed in it, and in which order.
 
-ghost use Rattle.std.specs.Prelude.{◌≡◌, ◌≤◌, ◌<◌, ◌+◌, ◌-◌, [], None, Some, IfOk, IfSome, OnSome, length, option_map, slice_get, true};
+ghost use Rattle.std.specs.Prelude.{◌≡◌, ◌≤◌, ◌<◌, ◌+◌, ◌-◌, [], None, Some, IfOk, IfSome, OnSome, false, length, option_map, slice_get, true};
 ghost use Rattle.mon_rounds.specs.Given.{with_octets};
 ghost use Rattle.mon_rounds.specs.Kept.{most_kept};
 ghost use Rattle.mon_rounds.specs.Orderly.{IsSaving, IsSharing, IsTiming, begun, unbegun};
-ghost use Rattle.mon_rounds.specs.Next.{after_datagram, after_event, after_failure, after_polls, event_from, is_hearing, is_taken, may_time_out, must_receive, next_event, next_wait, quiets_left, settled, settled_phase, share_at, slot_after, stands_in, timed_out, turns_left, wait_due, wait_in};
+ghost use Rattle.mon_rounds.specs.Next.{after_datagram, after_event, after_failure, after_polls, event_from, is_hearing, is_taken, may_time_out, must_receive, next_event, next_wait, phase_ended, quiets_left, save_if, settled, settled_phase, share_at, slot_after, stands_in, timed_out, turns_left, wait_due, wait_in};
 ghost use Rattle.mon_rounds.specs.Order.{AreSoFar, datagrams_in};
 
 use crate::addresses::Addresses;
@@ -51,7 +51,8 @@ pub enum Phase {
     TimingOut(u32),
     /// The peer of this slot is offered next what it is owed.
     Sharing(u16),
-    /// Datagrams are received after the shares; if a wait times out, all is saved.
+    /// Datagrams are received after the shares; if a wait times out, all is saved, if the round
+    /// saves, and the round is over.
     Listening,
     /// The round is over.
     Over,
@@ -69,6 +70,10 @@ pub struct Round {
     addresses: Addresses,
     wait_ms: u32,
     tries: u32,
+    /// Whether the next round saves.
+    saves: bool,
+    /// Whether this round saves.
+    saving: bool,
     phase: Phase,
     wait: Wait,
     datagrams: u32,
@@ -85,6 +90,8 @@ impl Drop for Round {
             addresses: _,
             wait_ms: _,
             tries: _,
+            saves: _,
+            saving: _,
             phase: _,
             wait: _,
             datagrams: _,
@@ -109,6 +116,8 @@ impl Model for Round {
       peer_addresses = r.addresses.peer_addresses.items;
       wait_ms = r.wait_ms;
       tries = r.tries;
+      saves = r.saves;
+      saving = r.saving;
       phase = r.phase;
       wait = r.wait;
       datagrams = r.datagrams;
@@ -124,6 +133,8 @@ impl Model for Round {
       peer_addresses = r.addresses.peer_addresses.items;
       wait_ms = r.wait_ms;
       tries = r.tries;
+      saves = r.saves;
+      saving = r.saving;
       phase = r.phase;
       wait = r.wait;
       datagrams = r.datagrams;
@@ -136,7 +147,7 @@ impl Model for Round {
 
 impl Round {
     /// Between two rounds. A wait is over when it was quiet for this many milliseconds, and a poll
-    /// is tried at most so often.
+    /// is tried at most so often. Rounds save until `set_saves` says otherwise.
     pub(crate) fn new(
         alloc: Global,
         addresses: Addresses,
@@ -149,6 +160,8 @@ impl Round {
             addresses,
             wait_ms,
             tries: u32::from(tries),
+            saves: true,
+            saving: true,
             phase: Phase::Rested,
             wait: Wait::Begin(wait_ms),
             datagrams: MOST_DATAGRAMS,
@@ -159,12 +172,21 @@ impl Round {
         })
     }
 
+    /// Says whether the rounds that begin from now on end with a save. Before the first call they
+    /// do.
+    pub(crate) fn set_saves(&mut self, saves: bool)
+        ensures { self.new ≡ record self.old { saves = saves } }
+    {
+        self.saves = saves;
+    }
+
     /// Begins a round, or the time between two.
     pub(crate) fn begin(&mut self, span: Span)
         ensures state { self.new ≡ begun span self.old }
         ensures turns { turns_left self.new ≤ 4704 }
     {
         self.events.clear();
+        self.saving = self.saves;
         self.datagrams = MOST_DATAGRAMS;
         self.quiets = self.tries;
         self.timeouts = MOST_TIMEOUTS;
@@ -189,7 +211,8 @@ impl Round {
     pub fn events(&self) -> &[RoundEvent]
         ensures events { result.now ≡ self.now.events }
         // They are in the order of a round; where it is over, they are those of a whole round.
-        ensures order { AreSoFar (length self.now.targets) (self.now.tries - self.now.quiets) self.now.peers self.now.phase self.now.events }
+        ensures order { AreSoFar (length self.now.targets) (self.now.tries - self.now.quiets)
+            self.now.peers self.now.saving self.now.phase self.now.events }
     {
         self.events.as_slice()
     }
@@ -304,9 +327,9 @@ impl Round {
     {
         match self.phase {
             Phase::Polling(target) => Some(self.poll(target)),
-            Phase::Hearing | Phase::TimingOut(_) => Some(self.time_out(oldest)),
-            Phase::Sharing(slot) => Some(self.share(slot)),
-            Phase::Listening => Some(self.save()),
+            Phase::Hearing | Phase::TimingOut(_) => self.time_out(oldest),
+            Phase::Sharing(slot) => self.share(slot),
+            Phase::Listening => self.finish(),
             Phase::Resting | Phase::Over | Phase::Rested => {
                 self.end();
                 None
@@ -314,15 +337,13 @@ impl Round {
         }
     }
 
-    /// Ends the time between two rounds.
+    /// Ends a round that gives nothing more, or the time between two.
     fn end(&mut self)
         requires phase { next_event self.old None ≡ None }
         ensures state { self.new ≡ after_event self.old None }
     {
         self.wait = Wait::Begin(self.wait_ms);
-        if self.phase == Phase::Resting {
-            self.phase = Phase::Rested;
-        }
+        self.phase = phase_ended(self.phase);
     }
 
     /// Polls this target.
@@ -353,15 +374,15 @@ impl Round {
     }
 
     /// Times out the next open poll. Where none is open, sharing begins.
-    fn time_out(&mut self, oldest: Option<u32>) -> OwnedEvent
+    fn time_out(&mut self, oldest: Option<u32>) -> Option<OwnedEvent>
         requires phase { IsTiming self.old.phase }
         requires later { IfSome oldest (λ id. timed_out self.old.phase < id) }
-        ensures state { self.new ≡ after_event self.old (Some (after_polls self.old oldest)) }
-        ensures event { result ≡ with_octets (after_polls self.old oldest) [] }
-        ensures turns { turns_left self.new < turns_left self.old }
+        ensures state { self.new ≡ after_event self.old (after_polls self.old oldest) }
+        ensures event { result ≡ option_map (λ e. with_octets e []) (after_polls self.old oldest) }
+        ensures turns { OnSome result (turns_left self.new < turns_left self.old) }
     {
         match oldest {
-            Some(id) if self.may_time_out() => self.time_out_one(id),
+            Some(id) if self.may_time_out() => Some(self.time_out_one(id)),
             _ => self.share(0),
         }
     }
@@ -383,16 +404,18 @@ impl Round {
         OwnedEvent::Timeout(id)
     }
 
-    /// Offers the peer of this slot what it is owed, or saves if there is no such peer.
-    fn share(&mut self, slot: u16) -> OwnedEvent
+    /// Offers the peer of this slot what it is owed. If there is no such peer, the round ends.
+    fn share(&mut self, slot: u16) -> Option<OwnedEvent>
         requires phase { IsSharing self.old.phase slot }
-        ensures state { self.new ≡ after_event self.old (Some (share_at self.old.peers slot)) }
-        ensures event { result ≡ with_octets (share_at self.old.peers slot) [] }
-        ensures turns { turns_left self.new < turns_left self.old }
+        ensures state { self.new
+            ≡ after_event self.old (share_at self.old.saving self.old.peers slot) }
+        ensures event { result
+            ≡ option_map (λ e. with_octets e []) (share_at self.old.saving self.old.peers slot) }
+        ensures turns { OnSome result (turns_left self.new < turns_left self.old) }
     {
         match self.addresses.peer_at(slot) {
-            Some(peer) => self.offer(slot, peer),
-            None => self.save(),
+            Some(peer) => Some(self.offer(slot, peer)),
+            None => self.finish(),
         }
     }
 
@@ -415,9 +438,24 @@ impl Round {
         OwnedEvent::Share(peer)
     }
 
+    /// Ends a round that is done: all is saved, if it saves.
+    fn finish(&mut self) -> Option<OwnedEvent>
+        requires phase { IsSaving self.old.phase self.old.peers }
+        ensures state { self.new ≡ after_event self.old (save_if self.old.saving) }
+        ensures event { result ≡ option_map (λ e. with_octets e []) (save_if self.old.saving) }
+        ensures turns { OnSome result (turns_left self.new < turns_left self.old) }
+    {
+        if self.saving {
+            return Some(self.save());
+        }
+        self.end();
+        None
+    }
+
     /// Saves all.
     fn save(&mut self) -> OwnedEvent
         requires phase { IsSaving self.old.phase self.old.peers }
+        requires saves { self.old.saving ≡ true }
         ensures state { self.new ≡ after_event self.old (Some Event.Save) }
         ensures event { result ≡ Event.Save }
         ensures turns { turns_left self.new < turns_left self.old }
@@ -448,6 +486,16 @@ fn settled_phase(phase: Phase, more: bool) -> Phase
     match phase {
         Phase::TimingOut(_) if !more => Phase::Hearing,
         phase => phase,
+    }
+}
+
+/// Returns the phase after one that gives no event: the round, or the time between two, is over.
+fn phase_ended(phase: Phase) -> Phase
+    ensures { result ≡ phase_ended phase }
+{
+    match phase {
+        Phase::Resting | Phase::Rested => Phase::Rested,
+        _ => Phase::Over,
     }
 }
 

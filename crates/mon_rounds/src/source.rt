@@ -75,7 +75,9 @@ impl<R: Receiver + Drop> Rounds<R> {
 
     /// The events of the round are in its order. It does nothing.
     pub(crate) fn invariants(&self)
-        ensures { AreSoFar (length self.now.round.targets) (self.now.round.tries - self.now.round.quiets) self.now.round.peers self.now.round.phase self.now.round.events }
+        ensures { AreSoFar (length self.now.round.targets)
+            (self.now.round.tries - self.now.round.quiets) self.now.round.peers
+            self.now.round.saving self.now.round.phase self.now.round.events }
     {
         // Proof: the invariant of the round.
         let _ = self.round.events();
@@ -104,6 +106,16 @@ impl<R: Receiver + Drop> Rounds<R> {
         ensures* writes_back { sem 𝓛 (Lends (the_row R.row R.Receiver) R.row self.entry result (λ w. record self.old { receiver = w })) }
     {
         &mut self.receiver
+    }
+
+    /// Says whether the rounds that begin from now on end with a save. Before the first call they
+    /// do.
+    pub fn set_saves(&mut self, saves: bool)
+        ensures round { self.new.round ≡ record self.old.round { saves = saves } }
+        ensures receiver { self.new.receiver ≡ self.old.receiver }
+        ensures latest { self.new.latest ≡ self.old.latest }
+    {
+        self.round.set_saves(saves);
     }
 
     /// Begins a round, or the time between two.

@@ -133,8 +133,48 @@ BUGS = {
     ),
     "saves_nothing": (
         "src/round.rt",
-        "            Phase::Listening => Some(self.save()),",
+        "            Phase::Listening => self.finish(),",
         "            Phase::Listening => None,",
+    ),
+    "a_round_never_saves": (
+        "src/round.rt",
+        "        if self.saving {\n            return Some(self.save());\n        }\n",
+        "",
+    ),
+    "a_round_saves_though_told_not_to": (
+        "src/round.rt",
+        "        if self.saving {\n            return Some(self.save());\n        }\n        self.end();\n        None\n",
+        "        Some(self.save())\n",
+    ),
+    "a_round_saves_twice": (
+        "src/round.rt",
+        "        self.events.push_reserved(RoundEvent::Save);\n",
+        "        self.events.push_reserved(RoundEvent::Save);\n        self.events.push_reserved(RoundEvent::Save);\n",
+    ),
+    "a_round_that_does_not_save_ends_without_its_shares": (
+        "src/round.rt",
+        "            _ => self.share(0),",
+        "            _ if self.saving => self.share(0),\n            _ => self.finish(),",
+    ),
+    "each_round_saves_as_the_one_before": (
+        "src/round.rt",
+        "        self.saving = self.saves;\n",
+        "",
+    ),
+    "a_round_that_began_is_told_too": (
+        "src/round.rt",
+        "        self.saves = saves;\n",
+        "        self.saves = saves;\n        self.saving = saves;\n",
+    ),
+    "saves_whatever_is_said": (
+        "src/source.rt",
+        "        self.round.set_saves(saves);\n",
+        "        let _ = saves;\n        self.round.set_saves(true);\n",
+    ),
+    "does_not_save_till_told_to": (
+        "src/round.rt",
+        "            saves: true,\n",
+        "            saves: false,\n",
     ),
     "shares_before_it_polls": (
         "src/round.rt",
@@ -663,13 +703,13 @@ BUGS = {
     ),
     "offers_no_peer": (
         "src/round.rt",
-        "            Some(peer) => self.offer(slot, peer),\n            None => self.save(),",
-        "            _ => self.save(),",
+        "            Some(peer) => Some(self.offer(slot, peer)),\n            None => self.finish(),",
+        "            _ => self.finish(),",
     ),
     "a_rest_never_ends": (
         "src/round.rt",
-        "        if self.phase == Phase::Resting {\n            self.phase = Phase::Rested;\n        }\n",
-        "",
+        "        Phase::Resting | Phase::Rested => Phase::Rested,\n        _ => Phase::Over,",
+        "        Phase::Resting => Phase::Resting,\n        Phase::Rested => Phase::Rested,\n        _ => Phase::Over,",
     ),
     "counts_datagrams_downwards": (
         "src/round.rt",
@@ -863,12 +903,12 @@ BUGS = {
     ),
     "shares_while_polls_are_open": (
         "src/round.rt",
-        "            Some(id) if self.may_time_out() => self.time_out_one(id),",
-        "            Some(id) if self.may_time_out() && self.quiets > 1 => self.time_out_one(id),",
+        "            Some(id) if self.may_time_out() => Some(self.time_out_one(id)),",
+        "            Some(id) if self.may_time_out() && self.quiets > 1 => Some(self.time_out_one(id)),",
     ),
     "a_quiet_wait_ends_the_polls": (
         "src/round.rt",
-        "            Some(id) if self.may_time_out() => self.time_out_one(id),\n            _ => self.share(0),",
+        "            Some(id) if self.may_time_out() => Some(self.time_out_one(id)),\n            _ => self.share(0),",
         "            _ => self.share(0),",
     ),
     "tries_once_more": (
@@ -1187,6 +1227,9 @@ PROMISES = {
     "times_out_the_oldest_poll_alone": "round::Round::settle",
     "as_many_quiet_waits_as_there_are_timeouts": "round::Round::may_time_out",
     "a_quiet_wait_ends_the_polls": "round::Round::time_out",
+    "a_round_saves_though_told_not_to": "round::Round::finish",
+    "a_round_that_does_not_save_ends_without_its_shares": "round::Round::time_out",
+    "each_round_saves_as_the_one_before": "round::Round::begin",
     "forgets_what_became_of_the_last_event": "source::Rounds::give",
     "begins_no_wait_at_the_socket": "socket::SocketReceiver::begin",
     "sends_without_a_call": "socket::SocketOutbox::put",

@@ -24,7 +24,7 @@ returns-clause-ran g c =
     let ran = subst (λ (v : RoundsView). Ran GivesOn (seen c.args.station.now v handed) after 5000 c.run.new.run) is c.in_ok-run.ensures.ran in
     whole old new begins heard now kept last (seen c.args.station.now (view_of begins heard kept) handed) after c.run.new.run ran refl refl refl
     (subst (λ (r : RoundState). turns_left r ≤ 4704) c.begin.ensures.round c.begin.ensures.turns)
-    (record { targets = refl; peers = refl; peer_addresses = refl; wait_ms = refl; tries = refl }) c.invariants.ensures c.args.span refl
+    (record { targets = refl; peers = refl; peer_addresses = refl; wait_ms = refl; tries = refl; saves = refl }) refl c.invariants.ensures c.args.span refl
 
 pub returns-clause-waits : goal.returns-clause-waits
 returns-clause-waits g c =
@@ -42,4 +42,4 @@ returns-clause-waits g c =
     let ran = subst (λ (v : RoundsView). Ran GivesOn (seen c.args.station.now v handed) after 5000 c.run.new.run) is c.in_ok-run.ensures.ran in
     waited old new begins heard now kept last (seen c.args.station.now (view_of begins heard kept) handed) after c.run.new.run ran refl refl refl
     (subst (λ (r : RoundState). turns_left r ≤ 4704) c.begin.ensures.round c.begin.ensures.turns)
-    (record { targets = refl; peers = refl; peer_addresses = refl; wait_ms = refl; tries = refl }) c.invariants.ensures c.args.span refl
+    (record { targets = refl; peers = refl; peer_addresses = refl; wait_ms = refl; tries = refl; saves = refl }) refl c.invariants.ensures c.args.span refl
