@@ -1,4 +1,7 @@
+pub mod Bound
 pub mod Each
+pub mod Framed
+pub mod InPlace
 pub mod Longest
 pub mod Read
 pub mod Rounds

@@ -3,6 +3,7 @@ pub mod Assigned
 pub mod Bulk
 pub mod Fault
 pub mod Growing
+pub mod InPlace
 pub mod Ready
 pub mod Reply
 pub mod Sent

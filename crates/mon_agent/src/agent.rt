@@ -14,6 +14,7 @@ ghost use Rattle.mon_agent.specs.Answer.{IsAnswer, IsSilenceOf, cause_of, is_req
 ghost use Rattle.mon_agent.specs.Ready.{IsReady, IsReadyFor, IsRoomy};
 ghost use Rattle.mon_agent.specs.Sent.{IsReadOut};
 
+use crate::buffers::ReplyBuffers;
 use crate::fault::AgentFault;
 use crate::reading::read;
 use crate::ready::{Ready, make_answer};
@@ -72,10 +73,7 @@ impl<D: Device + Drop> Agent<D> {
         self.mib.device()
     }
 
-    /// Answers a datagram at a moment, or is silent. Every datagram counts in snmpInPkts before it
-    /// is answered, and then in the counter of its cause where it is not answered. A Set that is
-    /// refused, or is too big, assigns nothing; all memory of a Set, its response's too, is taken
-    /// before the first assignment.
+    /// Answers a datagram at a moment, or is silent, as `answer_into` does, with buffers of its own.
     ///
     /// # Errors
     /// `OutOfMemory`; then everything is as it was, the counters and the device too.
@@ -97,9 +95,40 @@ impl<D: Device + Drop> Agent<D> {
         // A fault changes nothing.
         ensures fault { OnErr result (self.new ≡ self.old) }
     {
+        let mut buffers = ReplyBuffers::new(alloc);
+        self.answer_into(alloc, datagram, moment, &mut buffers)
+    }
+
+    /// Answers a datagram at a moment, or is silent. Every datagram counts in snmpInPkts before it
+    /// is answered, and then in the counter of its cause where it is not answered. A Set that is
+    /// refused, or is too big, assigns nothing; all memory of a Set, its response's too, is taken
+    /// before the first assignment. A Get or GetNext whose response fits is read in place and written
+    /// into the buffers; the reply has the memory of one of them, which `ReplyBuffers::keep` takes back.
+    ///
+    /// # Errors
+    /// `OutOfMemory`; then everything is as it was, the counters and the device too.
+    pub fn answer_into(
+        &mut self,
+        alloc: Global,
+        datagram: &[u8],
+        moment: Moment,
+        buffers: &mut ReplyBuffers,
+    ) -> Result<Reply, AgentFault>
+        // The reply, and what becomes of the device: only a Set that is granted and refused in nothing changes it.
+        ensures answer { let known = known_of (settings_of self.old) (counted (counters_of self.old) InPackets) (D.held (device_of self.old)) moment in
+            IfOk result (IsAnswer D.held D.failed D.refuses (policy_of self.old) known (device_of self.old) (device_of self.new) datagram.now) }
+        ensures counters { IfOk result (λ reply. (counters_of self.new) ≡ raised_by reply (counted (counters_of self.old) InPackets)) }
+
+        // The rest stays.
+        ensures policy { policy_of self.new ≡ policy_of self.old }
+        ensures settings { settings_of self.new ≡ settings_of self.old }
+
+        // A fault changes nothing.
+        ensures fault { OnErr result (self.new ≡ self.old) }
+    {
         let before = self.mib.counters();
         self.mib.count(Counter::InPackets);
-        match self.prepare(alloc, datagram, moment) {
+        match self.prepare(alloc, datagram, moment, buffers) {
             Ok(ready) => {
                 let reply = self.finish(ready);
                 raise(&mut self.mib, &reply);
@@ -113,7 +142,30 @@ impl<D: Device + Drop> Agent<D> {
     }
 
     /// What the agent is about to do about a datagram.
-    fn prepare(&self, alloc: Global, datagram: &[u8], moment: Moment) -> Result<Ready, AgentFault>
+    fn prepare(
+        &self,
+        alloc: Global,
+        datagram: &[u8],
+        moment: Moment,
+        buffers: &mut ReplyBuffers,
+    ) -> Result<Ready, AgentFault>
+        ensures ready { let known = known_by D.held self.now.mib moment in
+            IfOk result (IsReady D.held D.failed D.refuses self.now.policy known (map_device self.now.mib) datagram.now) }
+        ensures room { IfOk result IsRoomy }
+    {
+        if let Some(octets) = self.in_place(alloc, datagram, moment, buffers) {
+            return Ok(Ready::Answer(Reply::Send(octets)));
+        }
+        self.prepare_message(alloc, datagram, moment)
+    }
+
+    /// What the agent is about to do about a datagram, by the message that it begins with.
+    fn prepare_message(
+        &self,
+        alloc: Global,
+        datagram: &[u8],
+        moment: Moment,
+    ) -> Result<Ready, AgentFault>
         ensures ready { let known = known_by D.held self.now.mib moment in
             IfOk result (IsReady D.held D.failed D.refuses self.now.policy known (map_device self.now.mib) datagram.now) }
         ensures room { IfOk result IsRoomy }

@@ -5,9 +5,12 @@
 
 mod agent;
 mod assigning;
+mod buffers;
 mod bulk;
 mod fault;
+mod framing;
 mod growing;
+mod in_place;
 pub mod laws;
 mod reading;
 mod ready;
@@ -15,5 +18,6 @@ mod reply;
 mod sending;
 
 pub use agent::Agent;
+pub use buffers::ReplyBuffers;
 pub use fault::AgentFault;
 pub use reply::{Reply, Silence};

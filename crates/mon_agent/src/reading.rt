@@ -94,7 +94,7 @@ fn read_all<D: Device + Drop>(
 }
 
 /// Returns the value of what was found.
-fn got_value(got: Got) -> Value
+pub(crate) fn got_value(got: Got) -> Value
     ensures { result ≡ got_value got }
 {
     match got {

@@ -52,6 +52,10 @@ impl<D: Device + Drop> Device for CountingDevice<D> {
         self.device.next_index(after)
     }
 
+    fn interface_count(&self) -> u32 {
+        self.device.interface_count()
+    }
+
     fn facts(&self, index: u32, moment: Moment) -> Option<Facts> {
         self.count();
         self.device.facts(index, moment)

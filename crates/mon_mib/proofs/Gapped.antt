@@ -6,6 +6,8 @@ use Rattle.std.proofs.lemmas.List.Elements.{All-contains, All-push, Contains-pus
 use Rattle.mon_pdu.specs.declared.message.Binding.{Binding}
 use Rattle.mon_mib.specs.declared.gaps.Gap.{Gap}
 use Rattle.mon_mib.specs.declared.got.Got.{Got}
+use Rattle.mon_mib.specs.declared.shown.Shown.{Shown}
+use Rattle.mon_mib.specs.Shown.{got_of}
 use Rattle.mon_mib.specs.declared.got.Got.TheVariants.{NoObject}
 use Rattle.mon_mib.specs.declared.object.Object.{Object}
 use Rattle.mon_mib.specs.declared.start.Start.{Start}
@@ -112,6 +114,12 @@ module _ {D : Type 0} (held : D → Held) (s t : Sought D) (same : s ≡ t) wher
   shown x (Ok got) seen is =
       inr (subst (λ (u : Sought D). IsSeenIn u x) same seen, subst (λ (u : Sought D). IsGot (known_in held u) x got) same is)
   shown x (Err e) seen is = tt
+
+  pub seen_as : {E : Type 0} (x : List ℕ) (r : Result Shown E) → IsSeenIn s x → IfOk r (λ shown. IsGot (known_in held s) x (got_of shown))
+      → IfOk r (λ shown. (¬ (IsSeenIn t x) × (got_of shown ≡ NoObject)) ⊎ (IsSeenIn t x × IsGot (known_in held t) x (got_of shown)))
+  seen_as x (Ok shown) seen is =
+      inr (subst (λ (u : Sought D). IsSeenIn u x) same seen, subst (λ (u : Sought D). IsGot (known_in held u) x (got_of shown)) same is)
+  seen_as x (Err e) seen is = tt
 
   -- one more gap
   pub added : (gaps more : List Gap) (g : Gap) → more ≡ gaps ++ g ∷ [] → AreGaps (held s.map.device) (IsSeenIn s) gaps

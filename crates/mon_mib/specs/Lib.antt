@@ -18,6 +18,7 @@ pub mod Plan
 pub mod Refusal
 pub mod Search
 pub mod SetStatus
+pub mod Shown
 pub mod Sim
 pub mod Standing
 pub mod Status

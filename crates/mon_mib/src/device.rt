@@ -1,4 +1,4 @@
-ghost use Rattle.std.specs.Prelude.{◌≡◌, ◌^◌, ◌<◌, [], ℕ, IfSome, IfOk, OnOk, OnErr, Contains};
+ghost use Rattle.std.specs.Prelude.{◌≡◌, ◌^◌, ◌<◌, [], ℕ, IfSome, IfOk, OnOk, OnErr, Contains, length};
 ghost use Rattle.mon_mib.specs.declared.change.Change.{Change as AnyChange};
 ghost use Rattle.mon_mib.specs.Change.{changed, undoing, IsOf, one_failure};
 ghost use Rattle.mon_mib.specs.Held.{Held, AreIndexes, IsAbove, IsLeastOf, facts_at, text_at};
@@ -27,6 +27,11 @@ pub trait Device {
     fn next_index(&self, after: Option<u32>) -> Option<u32>
         ensures least { IsLeastOf (held self.now).indexes (IsAbove after) result }
         ensures indexes { AreIndexes (held self.now).indexes };
+
+    /// How many interfaces it has.
+    fn interface_count(&self) -> u32
+        ensures value { result ≡ length (held self.now).indexes }
+        ensures range { result < 2 ^ 31 };
 
     /// Returns the numbers of an interface at a time, or `None` for an index that the device lacks.
     fn facts(&self, index: u32, moment: Moment) -> Option<Facts>

@@ -1,10 +1,12 @@
-ghost use Rattle.std.specs.Prelude.{Some, ◌≡◌, ◌^◌, ◌<◌, ◌+◌, ◌/◌, ◌%◌, min, length, IfOk, IfSome, IfNone, IsTrue, ◌++◌, Contains, ℕ, List};
+ghost use Rattle.std.specs.Prelude.{Some, ◌≡◌, ◌^◌, ◌<◌, ◌+◌, ◌/◌, ◌%◌, min, length, IfOk, IfSome, IfNone, IsTrue, ◌++◌, ◌∷◌, [], Contains, ℕ, List};
 ghost use Rattle.std.specs.List.{AllWithin};
 ghost use Rattle.std.specs.declared.cmp.Ordering.TheVariants.{Less};
 ghost use Rattle.mon_oid.specs.Oid.{IsPrefix};
 ghost use Rattle.mon_mib.specs.Counters.{counted, no_counts};
 ghost use Rattle.mon_mib.specs.Held.{IsAbove, IsLeastOf, text_at};
-ghost use Rattle.mon_mib.specs.Known.{instances, variable_value, scalar_value, column_value};
+ghost use Rattle.mon_mib.specs.declared.facts.Facts.{Facts as AnyFacts};
+ghost use Rattle.mon_mib.specs.Shown.{got_of};
+ghost use Rattle.mon_mib.specs.Known.{Known as AnyKnown, instances, variable_value, scalar_value, column_value};
 ghost use Rattle.mon_mib.specs.Next.{IsGot, IsNext, IsServedName};
 ghost use Rattle.mon_mib.specs.Objects.{objects, prefix_of};
 ghost use Rattle.mon_mib.specs.Order.{IsFrom, name_cmp};
@@ -16,11 +18,13 @@ use crate::counters::{Counter, Counters};
 use crate::device::Device;
 use crate::facts::{Facts, IfText, SysText};
 use crate::got::Got;
+use crate::guess::guess_place;
 use crate::moment::Moment;
 use crate::object::{Object, all_objects};
 use crate::scalar::Scalar;
 use crate::search::Search;
 use crate::settings::Settings;
+use crate::shown::Shown;
 use crate::start::Start;
 use mon_ber::{Octets, Value};
 use mon_oid::Oid;
@@ -119,6 +123,82 @@ impl<D: Device + Drop> Mib<D> {
         })
     }
 
+    /// Returns what `get` does, with octets lent where the agent keeps them.
+    pub fn show(&self, alloc: Global, name: &Oid, moment: Moment) -> Result<Shown<'_>, AllocError>
+        ensures { let known = known_by D.held self.now moment in
+            IfOk result (λ shown. IsGot known name.now (got_of shown)) }
+    {
+        let Some((object, rest)) = find_object(name.parts()) else {
+            return Ok(Shown::Other(Got::NoObject));
+        };
+        if rest.len() != 1 {
+            return Ok(Shown::Other(Got::NoInstance));
+        }
+        self.show_at(alloc, object, rest[0], moment)
+    }
+
+    /// What is at the name of an object's variable of an instance.
+    fn show_at(
+        &self,
+        alloc: Global,
+        object: Object,
+        instance: u32,
+        moment: Moment,
+    ) -> Result<Shown<'_>, AllocError>
+        ensures { let known = known_by D.held self.now moment in
+            (name : List ℕ) → Contains objects object → name ≡ prefix_of object ++ instance ∷ []
+            → IfOk result (λ shown. IsGot known name (got_of shown)) }
+    {
+        if let Some(octets) = self.octets_of(object, instance, moment) {
+            return Ok(Shown::Octets(octets));
+        }
+        match self.value(alloc, object, instance, moment)? {
+            Some(value) => Ok(Shown::Other(Got::Found(value))),
+            None => Ok(Shown::Other(Got::NoInstance)),
+        }
+    }
+
+    /// The octets that are the value of an object's variable of an instance, if they are kept.
+    #[tactic(auto, unfolding(crate::specs::Known::variable_value))]
+    fn octets_of(&self, object: Object, instance: u32, moment: Moment) -> Option<&[u8]>
+        ensures there { IfSome result (λ _. Contains (instances (D.held (map_device self.now)) object) instance) }
+        ensures value { IfSome result (λ octets. variable_value (known_by D.held self.now moment) object instance ≡ Value.Octets octets.now) }
+    {
+        match object {
+            Object::Scalar(scalar) => {
+                if instance != 0 {
+                    return None;
+                }
+                self.scalar_octets(scalar)
+            }
+            Object::Column(column) => self.column_octets(column, instance, moment),
+        }
+    }
+
+    /// The octets that are the value of a scalar, if they are kept.
+    fn scalar_octets(&self, scalar: Scalar) -> Option<&[u8]>
+        ensures { (moment : ℕ) → IfSome result (λ octets. scalar_value (known_by D.held self.now moment) scalar ≡ Value.Octets octets.now) }
+    {
+        match scalar {
+            Scalar::SysDescr => Some(self.settings.descr.as_slice()),
+            Scalar::SysContact => Some(self.device.sys_text(SysText::Contact)),
+            Scalar::SysName => Some(self.device.sys_text(SysText::SystemName)),
+            Scalar::SysLocation => Some(self.device.sys_text(SysText::Location)),
+            Scalar::SnmpEngineId => Some(self.settings.engine.as_slice()),
+            _ => None,
+        }
+    }
+
+    /// The octets that are the value of a column in the row of an interface, if they are kept.
+    fn column_octets(&self, column: Column, index: u32, moment: Moment) -> Option<&[u8]>
+        ensures there { IfSome result (λ _. Contains (D.held (map_device self.now)).indexes index) }
+        ensures value { (facts : AnyFacts) → IfSome result (λ octets. column_value (known_by D.held self.now moment) facts index column ≡ Value.Octets octets.now) }
+    {
+        let which = text_of(column)?;
+        self.device.facts(index, moment)?;
+        Some(self.device.text(index, which))
+    }
+
     /// Returns the least variable in view that exceeds a name at a time, or `None` if there is none
     /// (RFC 3416 section 4.2.2). It asks the device for the least index of each object on, and
     /// makes no list.
@@ -205,7 +285,7 @@ impl<D: Device + Drop> Mib<D> {
             Scalar::SysName => self.sys_text(alloc, SysText::SystemName)?,
             Scalar::SysLocation => self.sys_text(alloc, SysText::Location)?,
             Scalar::SysServices => Value::Integer(settings.services),
-            Scalar::IfNumber => Value::Integer(count_interfaces(&self.device) as i32),
+            Scalar::IfNumber => Value::Integer(self.device.interface_count() as i32),
             Scalar::SnmpInPkts => Value::Counter32(counters.in_packets),
             Scalar::SnmpInBadVersions => Value::Counter32(counters.bad_versions),
             Scalar::SnmpInBadCommunityNames => Value::Counter32(counters.bad_communities),
@@ -282,6 +362,32 @@ pub(crate) fn find_object(name: &[u32]) -> Option<(Object, &[u32])>
     ensures some { IfSome result (λ found. Contains objects found.0 × (name.now ≡ prefix_of found.0 ++ found.1.now)) }
     ensures none { IfNone result (¬ (IsServedName name.now)) }
 {
+    match object_at(guess_place(name), name) {
+        Some(found) => Some(found),
+        None => search_object(name),
+    }
+}
+
+/// The object at a place, if the name is under it, and what of the name follows the object's own.
+fn object_at(place: usize, name: &[u32]) -> Option<(Object, &[u32])>
+    ensures { IfSome result (λ found. Contains objects found.0 × (name.now ≡ prefix_of found.0 ++ found.1.now)) }
+{
+    let objects = all_objects();
+    if place >= objects.len() {
+        return None;
+    }
+    let object = objects[place];
+    let Some(rest) = name.strip_prefix(object.prefix()) else {
+        return None;
+    };
+    Some((object, rest))
+}
+
+/// What `find_object` returns, by a search among all objects.
+fn search_object(name: &[u32]) -> Option<(Object, &[u32])>
+    ensures some { IfSome result (λ found. Contains objects found.0 × (name.now ≡ prefix_of found.0 ++ found.1.now)) }
+    ensures none { IfNone result (¬ (IsServedName name.now)) }
+{
     let object = all_objects()[candidate_place(name)];
     let Some(rest) = name.strip_prefix(object.prefix()) else {
         return None;
@@ -301,13 +407,14 @@ pub(crate) fn candidate_place(name: &[u32]) -> usize
 }
 
 /// The place of the one served object that a name can be under, as of `candidate_place`. The object at
-/// the guessed place is tried first: a request's names are mostly under one object.
-pub(crate) fn candidate_from(guess: usize, name: &[u32]) -> usize
+/// the guessed place is tried first.
+pub(crate) fn find_place(name: &[u32]) -> usize
     ensures within { result < length objects }
     ensures earlier { AllWithin (λ o. (rest : List ℕ) → name_cmp (prefix_of o ++ rest) name.now ≡ Less) objects 0 result }
     ensures later { AllWithin (λ o. name_cmp name.now (prefix_of o) ≡ Less) objects (result + 1) (length objects) }
 {
     let objects = all_objects();
+    let guess = guess_place(name);
     if guess < objects.len() && is_under(objects[guess], name) {
         return guess;
     }
@@ -321,18 +428,17 @@ fn is_under(object: Object, name: &[u32]) -> bool
     name.starts_with(object.prefix())
 }
 
-/// How many interfaces a device has, which is below 2^31.
-fn count_interfaces<D: Device>(device: &D) -> u32
-    ensures value { result ≡ length (D.held device.now).indexes }
-    ensures range { result < 2 ^ 31 }
+/// The text of an interface that a column shows, if it shows one.
+fn text_of(column: Column) -> Option<IfText>
+    ensures { (k : AnyKnown) (facts : AnyFacts) (index : ℕ) → IfSome result (λ which. column_value k facts index column ≡ Value.Octets (text_at k.held index which)) }
 {
-    let mut count = 0;
-    let mut after = None;
-    while let Some(index) = device.next_index(after) {
-        count += 1;
-        after = Some(index);
+    match column {
+        Column::IfDescr => Some(IfText::Descr),
+        Column::IfPhysAddress => Some(IfText::Phys),
+        Column::IfName => Some(IfText::ShortName),
+        Column::IfAlias => Some(IfText::Alias),
+        _ => None,
     }
-    count
 }
 
 /// A count in 32 bits.

@@ -9,15 +9,17 @@ ghost use Rattle.mon_mib.specs.Known.{instances};
 ghost use Rattle.mon_mib.specs.Next.{IsGot, IsNext};
 ghost use Rattle.mon_mib.specs.Objects.{objects, prefix_of};
 ghost use Rattle.mon_mib.specs.Order.{IsFrom};
+ghost use Rattle.mon_mib.specs.Shown.{got_of};
 ghost use Rattle.mon_mib.specs.Search.{Sought, IsSeenIn, known_in};
 
 use crate::device::Device;
 use crate::gaps::Gap;
 use crate::got::Got;
-use crate::mib::{Mib, candidate_from};
+use crate::mib::{Mib, find_place};
 use crate::moment::Moment;
 use crate::object::{Object, all_objects};
 use crate::settings::Settings;
+use crate::shown::Shown;
 use crate::start::{Start, find_start};
 use mon_oid::Oid;
 use mon_pdu::Binding;
@@ -34,9 +36,6 @@ pub struct Search<'a, D: Device + Drop> {
     access: Access<'a>,
     moment: Moment,
     gaps: Vec<Gap>,
-    /// The place of the object that was searched first the last time. Names that follow one another
-    /// are mostly under one object.
-    place: usize,
 }
 
 impl<'a, D: Device + Drop> Model for Search<'a, D> {
@@ -70,7 +69,6 @@ impl<'a, D: Device + Drop> Search<'a, D> {
             access,
             moment,
             gaps: Vec::new(alloc),
-            place: 0,
         }
     }
 
@@ -92,13 +90,23 @@ impl<'a, D: Device + Drop> Search<'a, D> {
         self.mib.get(alloc, name, self.moment)
     }
 
+    /// Returns what `get` does, with octets lent where the agent keeps them.
+    pub fn show(&self, alloc: Global, name: &Oid) -> Result<Shown<'_>, AllocError>
+        ensures { let sees = IsSeenIn self.now in
+            IfOk result (λ shown. (¬ (sees name.now) × (got_of shown ≡ NoObject)) ⊎ (sees name.now × IsGot (known_in D.held self.now) name.now (got_of shown))) }
+    {
+        if !self.policy.sees(self.access, name) {
+            return Ok(Shown::Other(Got::NoObject));
+        }
+        self.mib.show(alloc, name, self.moment)
+    }
+
     /// Returns the least variable in view that exceeds a name, as `Mib::next` does.
     pub fn next(&mut self, alloc: Global, name: &Oid) -> Result<Option<Binding>, AllocError>
         ensures next { IfOk result (IsNext objects (known_in D.held self.old) (IsSeenIn self.old) name.now) }
         ensures stays { self.new ≡ self.old }
     {
-        let place = candidate_from(self.place, name.parts());
-        self.place = place;
+        let place = find_place(name.parts());
         for object in &all_objects()[place..] {
             let found = self.next_of(alloc, *object, name)?;
             if let Some(binding) = found {

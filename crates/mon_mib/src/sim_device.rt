@@ -84,6 +84,10 @@ impl Device for SimDevice {
         Some(next.index)
     }
 
+    fn interface_count(&self) -> u32 {
+        self.interfaces.len() as u32
+    }
+
     fn facts(&self, index: u32, moment: Moment) -> Option<Facts> {
         let Some(interface) = find(&self.interfaces, index) else {
             return None;

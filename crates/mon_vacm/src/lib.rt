@@ -17,6 +17,7 @@ mod model;
 mod names;
 mod need;
 mod policy;
+mod runs;
 mod tables;
 
 pub use access::Access;

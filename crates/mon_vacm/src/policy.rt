@@ -3,6 +3,7 @@ ghost use Rattle.mon_vacm.specs.declared.family.Family.{Family as AnyFamily};
 ghost use Rattle.mon_vacm.specs.Access.{access_of};
 ghost use Rattle.mon_vacm.specs.Borrowed.{granted, view_of};
 ghost use Rattle.mon_vacm.specs.Decision.{IsRight};
+ghost use Rattle.mon_vacm.specs.Runs.{AreOfOneView, AreRuns};
 ghost use Rattle.mon_vacm.specs.Tables.{lists_of, IsPolicy, AreCommunitiesDistinct, AreFamiliesDistinct, NamesViews};
 ghost use Rattle.mon_vacm.specs.View.{IsInView, IsBest};
 
@@ -11,7 +12,9 @@ use crate::decision::Decision;
 use crate::denied::Denied;
 use crate::family::Family;
 use crate::fault::PolicyFault;
+use crate::names::is_named;
 use crate::need::Need;
+use crate::runs::runs_of;
 use crate::tables::Tables;
 use mon_oid::Oid;
 use std::marker::Model;
@@ -20,23 +23,26 @@ use std::marker::Model;
 /// Contracts see the tables as lists.
 pub struct Policy {
     tables: Tables,
+    /// How many families each run of neighbours of one view has.
+    runs: Vec<usize>,
 }
 
 // By hand: where one is let go, a proof has one call and not a drop of each field.
 impl Drop for Policy {
     fn drop(self) {
-        let Policy { tables: _ } = self;
+        let Policy { tables: _, runs: _ } = self;
     }
 }
 
 impl Model for Policy {
+    ghost use Rattle.mon_vacm.specs.Runs.{AreRuns};
     ghost use Rattle.mon_vacm.specs.Tables.{Lists, IsPolicy, lists_of};
 
     ghost Value = { Lists };
 
     ghost view = { λ p. lists_of p.tables };
 
-    ghost invariant = { λ p. IsPolicy (lists_of p.tables) };
+    ghost invariant = { λ p. IsPolicy (lists_of p.tables) × AreRuns p.runs.items p.tables.families.items };
 }
 
 impl Policy {
@@ -66,7 +72,8 @@ impl Policy {
         if !tables.are_families_distinct() {
             return Err(PolicyFault::DuplicateFamily);
         }
-        Ok(Policy { tables })
+        let runs = runs_of(*tables.families.allocator(), tables.families.as_slice());
+        Ok(Policy { tables, runs })
     }
 
     /// The view that a community is granted for a need: by its security name, that name's first group, and the group's first
@@ -85,7 +92,8 @@ impl Policy {
     pub fn sees(&self, access: Access<'_>, name: &Oid) -> bool
         ensures { IsTrue result ↔ IsInView self.now.families (view_of access.entry) name.now }
     {
-        match deciding(self.tables.families.as_slice(), access.view, name) {
+        let families = self.tables.families.as_slice();
+        match deciding(families, self.runs.as_slice(), access.view, name) {
             Some(family) => family.included,
             None => false,
         }
@@ -114,14 +122,60 @@ impl Policy {
 }
 
 /// The family that decides on a name in a view.
-fn deciding<'a>(families: &'a [Family], view: &[u8], name: &Oid) -> Option<&'a Family>
+fn deciding<'a>(
+    families: &'a [Family],
+    runs: &[usize],
+    view: &[u8],
+    name: &Oid,
+) -> Option<&'a Family>
+    requires { AreRuns runs.now families.now }
     ensures { IsBest families.now view.now name.now result }
 {
     let mut best: Option<&Family> = None;
-    for family in families {
-        best = stronger(best, family, view, name);
+    let mut rest = families;
+    for run in runs {
+        let (own, others) = rest.split_at(*run);
+        best = strongest_of_view(best, own, view, name);
+        rest = others;
     }
-    best
+    strongest(best, rest, view, name)
+}
+
+/// The family that decides, when these of one view are looked at too.
+fn strongest_of_view<'a>(
+    best: Option<&'a Family>,
+    own: &'a [Family],
+    view: &[u8],
+    name: &Oid,
+) -> Option<&'a Family>
+    requires { AreOfOneView own.now }
+    ensures { (families : List AnyFamily) → IsBest families view.now name.now best.entry
+        → IsBest (families ++ own.now) view.now name.now result }
+{
+    if own.is_empty() {
+        return best;
+    }
+    if !is_named(&own[0].view_name, view) {
+        return best;
+    }
+    strongest(best, own, view, name)
+}
+
+/// The family that decides, when these are looked at too.
+fn strongest<'a>(
+    best: Option<&'a Family>,
+    families: &'a [Family],
+    view: &[u8],
+    name: &Oid,
+) -> Option<&'a Family>
+    ensures { (others : List AnyFamily) → IsBest others view.now name.now best.entry
+        → IsBest (others ++ families.now) view.now name.now result }
+{
+    let mut found = best;
+    for family in families {
+        found = stronger(found, family, view, name);
+    }
+    found
 }
 
 /// The family that decides, when one more is looked at.

@@ -226,10 +226,75 @@ BUGS = {
         "            return Ok(false);",
         "            { self.bindings.truncate(self.bindings.len() / 2 * 2); return Ok(false); }",
     ),
+    "in_place_grants_the_view_for_writing": (
+        "src/in_place.rt",
+        "        let Ok(access) = self.policy.access(frame.community, Need::Read) else {",
+        "        let Ok(access) = self.policy.access(frame.community, Need::Write) else {",
+    ),
+    "in_place_leaves_what_was_written_before": (
+        "src/in_place.rt",
+        "        buffers.list.clear();",
+        "        buffers.list.truncate(1);",
+    ),
+    "in_place_passes_over_the_last_octets": (
+        "src/in_place.rt",
+        "    while !rest.is_empty() {",
+        "    while rest.len() > 8 {",
+    ),
+    "in_place_passes_over_a_name": (
+        "src/in_place.rt",
+        "    put_for(alloc, search, kind, &name, out)?;",
+        "    if octets.len() < 100 {\n        put_for(alloc, search, kind, &name, out)?;\n    }",
+    ),
+    "in_place_gets_for_a_get_next": (
+        "src/in_place.rt",
+        "        PduKind::Get => put_got(alloc, search, name, out),",
+        "        PduKind::Get | PduKind::GetNext if name.parts().len() > 9 => put_got(alloc, search, name, out),",
+    ),
+    "in_place_cuts_off_octets": (
+        "src/in_place.rt",
+        "        Ok(Shown::Octets(octets)) => put_octets_binding(out, name, octets, limit),",
+        "        Ok(Shown::Octets(octets)) => put_octets_binding(out, name, &octets[..octets.len().min(4)], limit),",
+    ),
+    "in_place_gets_null": (
+        "src/in_place.rt",
+        "        Ok(Shown::Other(got)) => put_binding(out, name, &got_value(got), limit),",
+        "        Ok(Shown::Other(_)) => put_binding(out, name, &Value::Null, limit),",
+    ),
+    "in_place_takes_any_short_value_for_null": (
+        "src/in_place.rt",
+        "    if value != NULL.as_slice() {",
+        "    if value.len() != 2 {",
+    ),
+    "in_place_answers_a_set": (
+        "src/in_place.rt",
+        "    matches!(kind, PduKind::Get | PduKind::GetNext)",
+        "    matches!(kind, PduKind::Get | PduKind::GetNext | PduKind::Set)",
+    ),
+    "in_place_answers_with_the_error_index": (
+        "src/framing.rt",
+        "    put_pdu(out, frame.request_id, list, body);",
+        "    put_pdu(out, frame.error_index, list, body);",
+    ),
+    "in_place_limits_the_list_alone": (
+        "src/framing.rt",
+        "    if !is_within(size, limit) {",
+        "    if !is_within(list.len(), limit) {",
+    ),
+    "in_place_answers_in_version_1": (
+        "src/framing.rt",
+        "const VERSION: i32 = 1;",
+        "const VERSION: i32 = 0;",
+    ),
+    "in_place_measures_no_list": (
+        "src/framing.rt",
+        "    let numbers = integer_size(request_id) + integer_size(NO_ERROR) + integer_size(NO_INDEX);",
+        "    let numbers = integer_size(request_id) + integer_size(NO_ERROR);",
+    ),
     "answers_before_it_counts": (
         "src/agent.rt",
-        "        self.mib.count(Counter::InPackets);\n        match self.prepare(alloc, datagram, moment) {",
-        "        let ready = self.prepare(alloc, datagram, moment);\n        self.mib.count(Counter::InPackets);\n        match ready {",
+        "        self.mib.count(Counter::InPackets);\n        match self.prepare(alloc, datagram, moment, buffers) {",
+        "        let ready = self.prepare(alloc, datagram, moment, buffers);\n        self.mib.count(Counter::InPackets);\n        match ready {",
     ),
     "takes_a_want_of_memory_for_a_bad_message": (
         "src/agent.rt",

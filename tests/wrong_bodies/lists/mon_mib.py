@@ -133,8 +133,8 @@ BUGS = {
     ),
     "get_takes_a_longer_name": (
         "src/mib.rt",
-        "        if rest.len() != 1 {",
-        "        if rest.len() == 0 {",
+        "        if rest.len() != 1 {\n            return Ok(Got::NoInstance);",
+        "        if rest.len() == 0 {\n            return Ok(Got::NoInstance);",
     ),
     "if_name_can_be_set": (
         "src/object.rt",
@@ -448,8 +448,8 @@ BUGS = {
     ),
     "shows_a_hidden_name": (
         "src/search.rt",
-        "        if !self.policy.sees(self.access, name) {",
-        "        if self.policy.sees(self.access, name) {",
+        "        if !self.policy.sees(self.access, name) {\n            return Ok(Got::NoObject);",
+        "        if self.policy.sees(self.access, name) {\n            return Ok(Got::NoObject);",
     ),
     "begins_again_where_nothing_follows": (
         "src/mib.rt",
@@ -458,13 +458,33 @@ BUGS = {
     ),
     "gives_a_scalar_of_instance_1": (
         "src/mib.rt",
-        "                if instance != 0 {",
-        "                if instance > 1 {",
+        "                if instance != 0 {\n                    return Ok(None);",
+        "                if instance > 1 {\n                    return Ok(None);",
     ),
     "counts_interfaces_by_their_greatest_index": (
+        "src/sim_device.rt",
+        "        self.interfaces.len() as u32",
+        "        match self.interfaces.last() {\n            Some(last) => last.index,\n            None => 0,\n        }",
+    ),
+    "lends_the_contact_for_the_name": (
         "src/mib.rt",
-        "        count += 1;\n",
-        "        count = index;\n",
+        "            Scalar::SysName => Some(self.device.sys_text(SysText::SystemName)),",
+        "            Scalar::SysName => Some(self.device.sys_text(SysText::Contact)),",
+    ),
+    "lends_a_text_of_no_interface": (
+        "src/mib.rt",
+        "        self.device.facts(index, moment)?;\n",
+        "        let _ = moment;\n",
+    ),
+    "shows_that_a_hidden_name_is_served": (
+        "src/search.rt",
+        "            return Ok(Shown::Other(Got::NoObject));",
+        "            return Ok(Shown::Other(Got::NoInstance));",
+    ),
+    "cuts_off_a_name_under_the_guessed_object": (
+        "src/mib.rt",
+        "    let object = objects[place];\n",
+        "    let object = objects[place];\n    let name = &name[..name.len().min(9)];\n",
     ),
     "goes_on_after_a_failed_assignment": (
         "src/commit.rt",

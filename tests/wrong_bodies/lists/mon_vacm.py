@@ -187,10 +187,30 @@ BUGS = {
         "            Decision::NotInView\n",
         "            Decision::Denied(Denied::NoSuchView)\n",
     ),
+    "passes_over_the_last_of_a_run": (
+        "src/policy.rt",
+        "        best = strongest_of_view(best, own, view, name);",
+        "        best = strongest_of_view(best, &own[..own.len() / 2], view, name);",
+    ),
+    "passes_over_the_families_after_the_runs": (
+        "src/policy.rt",
+        "    strongest(best, rest, view, name)",
+        "    let _ = rest;\n    best",
+    ),
+    "passes_over_a_run_of_the_view": (
+        "src/policy.rt",
+        "    if !is_named(&own[0].view_name, view) {",
+        "    if is_named(&own[0].view_name, view) {",
+    ),
+    "counts_a_family_of_another_view": (
+        "src/runs.rt",
+        "            return len;",
+        "            return len + 1;",
+    ),
     "takes_the_first_family_that_applies": (
         "src/policy.rt",
-        "        best = stronger(best, family, view, name);",
-        "        best = stronger(best, family, view, name);\n        if best.is_some() {\n            return best;\n        }",
+        "        found = stronger(found, family, view, name);",
+        "        found = stronger(found, family, view, name);\n        if found.is_some() {\n            return found;\n        }",
     ),
     "gives_the_community_for_its_security_name": (
         "src/tables.rt",

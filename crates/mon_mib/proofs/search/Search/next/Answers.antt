@@ -1,4 +1,4 @@
-use Rattle.std.proofs.Common.{List, ℕ, ◌++◌, ◌≡◌, ◌∙◌, subst}
+use Rattle.std.proofs.Common.{List, ℕ, ◌++◌, ◌≡◌, ◌∙◌, refl, subst}
 use Rattle.std.specs.List.{AllWithin}
 use Rattle.std.specs.declared.cmp.Ordering.TheVariants.{Less}
 use Rattle.mon_mib.specs.Objects.{objects, prefix_of}
@@ -9,24 +9,24 @@ use Rattle.mon_mib.proofs.search.Search.next.Goals as goal
 
 pub loop-object-init : goal.loop-object-init
 loop-object-init g c = record {
-  stays = c.self.view_is;
-  none = starts _ _ _ c.candidate_from-place.result c.candidate_from-place.ensures.within
-      (subst (λ name. AllWithin (λ o. (rest : List ℕ) → name_cmp (prefix_of o ++ rest) name ≡ Less) objects 0 c.candidate_from-place.result) c.parts.ensures.parts c.candidate_from-place.ensures.earlier);
+  stays = refl;
+  none = starts _ _ _ c.find_place-place.result c.find_place-place.ensures.within
+      (subst (λ name. AllWithin (λ o. (rest : List ℕ) → name_cmp (prefix_of o ++ rest) name ≡ Less) objects 0 c.find_place-place.result) c.parts.ensures.parts c.find_place-place.ensures.earlier);
 }
 
 pub returns-in-Some-clause-next : goal.returns-in-Some-clause-next
-returns-in-Some-clause-next g c = stops_from _ _ _ c.all_objects.result.now c.candidate_from-place.result c.loop-object.object-index _ _ _
+returns-in-Some-clause-next g c = stops_from _ _ _ c.all_objects.result.now c.find_place-place.result c.loop-object.object-index _ _ _
     c.loop-object-test.true c.all_objects.ensures c.loop-object.invariant.none c.in-Some.is
     (moved g.D.Device.held _ _ c.loop-object.invariant.stays _ c.args.name.now c.in_ok-found.found c.in_ok-found.ensures.next)
 
 pub loop-object-preserved : goal.loop-object-preserved
 loop-object-preserved g c = record {
   stays = c.next_of.ensures.stays ∙ c.loop-object.invariant.stays;
-  none = goes_on_from _ _ _ c.all_objects.result.now c.candidate_from-place.result c.loop-object.object-index _ _
+  none = goes_on_from _ _ _ c.all_objects.result.now c.find_place-place.result c.loop-object.object-index _ _
       c.loop-object-test.true c.all_objects.ensures c.loop-object.invariant.none c.in_default.is
       (moved g.D.Device.held _ _ c.loop-object.invariant.stays _ c.args.name.now c.in_ok-found.found c.in_ok-found.ensures.next);
 }
 
 pub returns-clause-next : goal.returns-clause-next
-returns-clause-next g c = ends_from _ _ _ c.all_objects.result.now c.candidate_from-place.result c.loop-object.object-index
+returns-clause-next g c = ends_from _ _ _ c.all_objects.result.now c.find_place-place.result c.loop-object.object-index
     c.loop-object-test.false c.all_objects.ensures c.loop-object.invariant.none

@@ -1,7 +1,7 @@
 use Rattle.std.proofs.Common.{sym, ◌∙◌}
 use Rattle.mon_mib.specs.Known.{known_of}
 use Rattle.mon_agent.proofs.Sent.{unread}
-use Rattle.mon_agent.proofs.agent.Agent.prepare.Goals as goal
+use Rattle.mon_agent.proofs.agent.Agent.prepare_message.Goals as goal
 
 pub returns-in-Some-clause-ready : goal.returns-in-Some-clause-ready
 returns-in-Some-clause-ready g c =

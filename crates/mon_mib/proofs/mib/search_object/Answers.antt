@@ -1,7 +1,7 @@
 use Rattle.std.specs.Cmp.{unsigned_Decides}
 use Rattle.std.proofs.lemmas.Slice.Eq.{strip_prefix_is}
 use Rattle.mon_mib.proofs.Finding.{found_at, none_found}
-use Rattle.mon_mib.proofs.mib.find_object.Goals as goal
+use Rattle.mon_mib.proofs.mib.search_object.Goals as goal
 
 pub returns-in_default-clause-none : goal.returns-in_default-clause-none
 returns-in_default-clause-none c = none_found c.all_objects.result.now c.candidate_place.result _ c.prefix.result.now c.args.name.now c.strip_prefix.result

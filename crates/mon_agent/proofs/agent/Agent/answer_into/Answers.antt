@@ -1,7 +1,7 @@
 use Rattle.std.proofs.Common.{subst, sym}
 use Rattle.mon_mib.specs.Map.{known_by, map_device}
 use Rattle.mon_agent.specs.Answer.{IsAnswer}
-use Rattle.mon_agent.proofs.agent.Agent.answer.Goals as goal
+use Rattle.mon_agent.proofs.agent.Agent.answer_into.Goals as goal
 
 pub returns-in-Ok-clause-answer : goal.returns-in-Ok-clause-answer
 returns-in-Ok-clause-answer g c =

@@ -1,0 +1,121 @@
+-- What is read of a request in place, and what is written for it.
+use Rattle.std.proofs.Common.{◌≡◌, ℕ, pos, zero, true, List, [], ◌∷◌, ◌++◌, length, refl, sym, ap, subst, ◌∙◌, append_assoc, append-nil, arith, inl, inr}
+use Rattle.std.specs.Global.{Vec}
+use Rattle.std.specs.Prelude.{Ok, ◌≤◌, ◌⊎◌}
+use Rattle.mon_ber.specs.declared.value.Value.TheVariants.{Name, Null}
+use Rattle.mon_ber.specs.declared.value.Value.{Value}
+use Rattle.mon_ber.specs.Grammar.{Spells, IsElement}
+use Rattle.mon_ber.specs.Reading.{element_at, name_at}
+use Rattle.mon_ber.proofs.Promised.{element_takes, name_at_takes}
+use Rattle.mon_pdu.specs.declared.frame.Frame.{Frame}
+use Rattle.mon_pdu.specs.declared.message.Binding.{Binding}
+use Rattle.mon_pdu.specs.declared.message.Message.{Message}
+use Rattle.mon_pdu.specs.declared.message.PduKind.{PduKind}
+use Rattle.mon_pdu.specs.declared.message.PduKind.TheVariants as kinds
+use Rattle.mon_pdu.specs.Around.{message_around}
+use Rattle.mon_pdu.specs.Framed.{framed}
+use Rattle.mon_pdu.specs.Grammar.{IsBinding}
+use Rattle.mon_pdu.specs.Writing.{list_contents, written_binding, written_message}
+use Rattle.mon_pdu.proofs.Around.{message_is}
+use Rattle.mon_vacm.specs.declared.need.Need.TheVariants.{Read}
+use Rattle.mon_vacm.specs.Access.{access_of}
+use Rattle.mon_vacm.specs.Tables.{Lists}
+use Rattle.mon_vacm.specs.View.{IsInView}
+use Rattle.mon_mib.specs.declared.change.Change.{Change}
+use Rattle.mon_mib.specs.Held.{Held}
+use Rattle.mon_mib.specs.Known.{Known}
+use Rattle.mon_agent.specs.declared.reply.Reply.TheVariants.{Send}
+use Rattle.mon_agent.specs.Answer.{IsAnswered, IsGranted, IsOfKind, is_answered, need_of_kind}
+use Rattle.mon_agent.specs.InPlace.{ArePut, IsAnswerOf, IsPut, frame_response}
+use Rattle.mon_agent.specs.Reply.{count_of, answered}
+use Rattle.mon_agent.specs.Step.{AreFor}
+use Rattle.mon_agent.proofs.Sent.{known_view}
+
+module _ (R : List ℕ → Binding → Type 0) where
+  -- where no octets are left nothing more is written
+  pub none_left : (octets now : List ℕ) → octets ≡ [] → ArePut R octets now now
+  none_left octets now end = record { asked = []; answers = []; spelled = end; right = tt; put = sym (append-nil now) }
+
+  -- one answer, and those that follow it
+  pub put_first : (octets rest old now new : List ℕ) → IsPut R octets rest old now → ArePut R rest now new → ArePut R octets old new
+  put_first octets rest old now new first others = record {
+    asked = first.asked ∷ others.asked;
+    answers = first.answer ∷ others.answers;
+    spelled = (first.text, rest, first.whole, first.spelled, others.spelled);
+    right = (first.right, others.right);
+    put = others.put ∙ ap (λ t. t ++ list_contents others.answers) first.put ∙ append_assoc old (written_binding first.answer) (list_contents others.answers);
+  }
+
+-- what is written for what is left completes what is written for all
+pub record IsLeft (R : List ℕ → Binding → Type 0) (octets old rest now : List ℕ) : Type 0 where
+  pub others : (new : List ℕ) → ArePut R rest now new → ArePut R octets old new
+
+-- one answer more
+pub one_less : (R : List ℕ → Binding → Type 0) (octets old rest now after new : List ℕ) → IsLeft R octets old rest now → IsPut R rest after now new → IsLeft R octets old after new
+one_less R octets old rest now after new left one = record { others = λ last put. left.others last (put_first R rest after now new last one put) }
+
+null_spelled : Spells (5 ∷ 0 ∷ []) Null
+null_spelled = record {
+  contents = [];
+  element = record { len = 0 ∷ []; spelled = inl (omega arith, refl, refl); whole = refl };
+  value = refl;
+}
+
+-- what is read of a variable binding whose value is spelled as Null
+pub asked_spelled : (octets contents after value oid : List ℕ) → element_at 0x30 octets ≡ Ok (contents, after) → name_at contents ≡ Ok (oid, value) → value ≡ 5 ∷ 0 ∷ []
+    → (text : List ℕ) × (v : Value) × IsBinding text (record { name = oid; value = v }) × (octets ≡ text ++ after)
+asked_spelled octets contents after value oid read named null =
+    let e = element_takes 0x30 octets contents after read in
+    let n = name_at_takes contents oid value named in (
+      e.0,
+      Null,
+      record {
+        name = n.0;
+        value = 5 ∷ 0 ∷ [];
+        element = subst (λ (t : List ℕ). IsElement 0x30 t e.0) (n.2 ∙ ap (λ (v : List ℕ). n.0 ++ v) null) e.1;
+        spelled_name = n.1;
+        spelled_value = null_spelled;
+      },
+      e.2,
+    )
+
+-- the answers of a kind
+pub of_frame : (k : Known) (sees : List ℕ → Type 0) (kind : PduKind) (asked answers : List Binding) → (kind ≡ kinds.Get) ⊎ (kind ≡ kinds.GetNext)
+    → AreFor (IsAnswerOf k sees kind) asked answers → IsOfKind k sees kind asked answers
+of_frame k sees kinds.Get asked answers is each = each
+of_frame k sees kinds.GetNext asked answers is each = each
+of_frame k sees kinds.Response asked answers is each = absurd (elim is [ inl e ↦ cc | inr e ↦ cc ])
+of_frame k sees kinds.Set asked answers is each = absurd (elim is [ inl e ↦ cc | inr e ↦ cc ])
+of_frame k sees kinds.Inform asked answers is each = absurd (elim is [ inl e ↦ cc | inr e ↦ cc ])
+of_frame k sees kinds.Trap asked answers is each = absurd (elim is [ inl e ↦ cc | inr e ↦ cc ])
+of_frame k sees kinds.Report asked answers is each = absurd (elim is [ inl e ↦ cc | inr e ↦ cc ])
+
+reads : (kind : PduKind) → (kind ≡ kinds.Get) ⊎ (kind ≡ kinds.GetNext) → (need_of_kind kind ≡ Read) × (is_answered kind ≡ true)
+reads kind (inl e) = rw e (refl, refl)
+reads kind (inr e) = rw e (refl, refl)
+
+module _ {D : Type 0} (held : D → Held) (failed : D → ℕ) (refuses : D → Change → Type 0) (policy : Lists) (k : Known) where
+  -- what is written for a frame answers its message
+  pub frame_answered : (device : D) (f : Frame) (view list : List ℕ) (octets : Vec ℕ) → (f.kind ≡ kinds.Get) ⊎ (f.kind ≡ kinds.GetNext)
+      → access_of policy f.community.now Read ≡ Ok view → (put : ArePut (IsAnswerOf k (IsInView policy.families view) f.kind) f.list.now [] list)
+      → octets.items ≡ message_around (frame_response f []) list → length octets.items ≤ count_of k.settings.limit
+      → IsAnswered held failed refuses policy k device device (framed f put.asked) (Send octets)
+  frame_answered device f view list octets kind access put written within =
+      let m = framed f put.asked in
+      let read = reads f.kind kind in
+      let may : access_of policy m.community (need_of_kind f.kind) ≡ Ok view = ap (access_of policy m.community) read.0 ∙ access in
+      let reply = answered m put.answers in
+      let is : octets.items ≡ written_message reply = written ∙ ap (message_around (frame_response f [])) put.put ∙ sym (message_is (frame_response f []) put.answers) in (
+        known_view policy m view may,
+        read.1,
+        (
+          reply,
+          inr (
+            view,
+            may,
+            subst (λ n. IsGranted held failed refuses n k (IsInView policy.families view) device device m reply) (sym read.0)
+                (refl, (put.answers, of_frame k (IsInView policy.families view) f.kind put.asked put.answers kind put.right, refl)),
+          ),
+          inl (subst (λ (o : List ℕ). length o ≤ count_of k.settings.limit) is within, is),
+        ),
+      )

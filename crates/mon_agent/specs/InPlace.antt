@@ -1,0 +1,42 @@
+-- What is read of a request in place, and what is written for it.
+use Rattle.std.specs.Prelude.{◌≡◌, ℕ, List, [], ◌++◌}
+use Rattle.mon_ber.specs.Sequence.{AreSpelled}
+use Rattle.mon_pdu.specs.declared.frame.Frame.{Frame}
+use Rattle.mon_pdu.specs.declared.message.Binding.{Binding}
+use Rattle.mon_pdu.specs.declared.message.Message.{Message}
+use Rattle.mon_pdu.specs.declared.message.PduKind.{PduKind}
+use Rattle.mon_pdu.specs.declared.message.PduKind.TheVariants as kinds
+use Rattle.mon_pdu.specs.Framed.{framed}
+use Rattle.mon_pdu.specs.Grammar.{IsBinding}
+use Rattle.mon_pdu.specs.Writing.{list_contents, written_binding}
+use Rattle.mon_mib.specs.Known.{Known}
+use Rattle.mon_agent.specs.Reply.{answered}
+use Rattle.mon_agent.specs.Step.{AreFor, IsGetAnswer, IsNextAnswer}
+
+-- The octets begin with a variable binding, before `rest`. Its answer was written after what was there.
+pub record IsPut (R : List ℕ → Binding → Type 0) (octets rest old new : List ℕ) : Type 0 where
+  pub asked : Binding
+  pub answer : Binding
+  pub text : List ℕ
+  pub spelled : IsBinding text asked
+  pub whole : octets ≡ text ++ rest
+  pub right : R asked.name answer
+  pub put : new ≡ old ++ written_binding answer
+
+-- The octets, all of them, spell variable bindings. Their answers were written after what was there.
+pub record ArePut (R : List ℕ → Binding → Type 0) (octets old new : List ℕ) : Type 0 where
+  pub asked : List Binding
+  pub answers : List Binding
+  pub spelled : AreSpelled IsBinding octets asked
+  pub right : AreFor R asked answers
+  pub put : new ≡ old ++ list_contents answers
+
+-- the answer to a name in a Get or GetNext; no other request is answered in place
+abbrev pub IsAnswerOf : Known → (List ℕ → Type 0) → PduKind → List ℕ → Binding → Type 0
+IsAnswerOf k sees kinds.Get name answer = IsGetAnswer k sees name answer
+IsAnswerOf k sees kinds.GetNext name answer = IsNextAnswer k sees name answer
+IsAnswerOf k sees other name answer = ⊥
+
+-- the response without an error to a request of this frame, with these variable bindings
+abbrev pub frame_response : Frame → List Binding → Message
+frame_response f bindings = answered (framed f []) bindings

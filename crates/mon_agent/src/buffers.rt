@@ -1,0 +1,28 @@
+//! ReplyBuffers that replies are written into.
+
+use std::alloc::Global;
+
+/// ReplyBuffers for an agent's replies, kept from datagram to datagram. What they hold between calls has no
+/// meaning: a reply is written from their start.
+#[derive(Drop)]
+pub struct ReplyBuffers {
+    /// For the variable bindings of a response, whose size its head begins with.
+    pub(crate) list: Vec<u8>,
+    /// For the response.
+    pub(crate) octets: Vec<u8>,
+}
+
+impl ReplyBuffers {
+    /// Returns empty buffers, which take no memory yet.
+    pub fn new(alloc: Global) -> Self {
+        ReplyBuffers {
+            list: Vec::new(alloc),
+            octets: Vec::new(alloc),
+        }
+    }
+
+    /// Takes back the octets of a reply that was sent, so that the next is written in their memory.
+    pub fn keep(&mut self, octets: Vec<u8>) {
+        self.octets = octets;
+    }
+}

@@ -1,0 +1,221 @@
+//! Answering a Get or GetNext in place: no message and no list of variable bindings is made of it,
+//! and the response is written into buffers that are kept. Any other datagram is read as a message.
+
+ghost use Rattle.std.specs.Prelude.{◌≡◌, ◌<◌, ◌↔◌, ◌⊎◌, ◌++◌, ◌∷◌, ◌+◌, ◌≤◌, ◌^◌, ℕ, List, length, IfSome, OnSome, IsTrue, vec_len, vec_capacity};
+ghost use Rattle.mon_ber.specs.declared.value.Value.{Value as AnyValue};
+ghost use Rattle.mon_pdu.specs.declared.message.Binding.{Binding as AnyBinding};
+ghost use Rattle.mon_pdu.specs.declared.message.PduKind.TheVariants as kinds;
+ghost use Rattle.mon_pdu.specs.Grammar.{IsBinding};
+ghost use Rattle.mon_pdu.specs.Writing.{written_binding};
+ghost use Rattle.mon_mib.specs.Map.{known_by, map_device};
+ghost use Rattle.mon_mib.specs.Search.{IsSeenIn, known_in};
+ghost use Rattle.mon_ber.specs.declared.value.Value.TheVariants.{Name};
+ghost use Rattle.mon_ber.specs.Writing.{length_octets, name_octets, size_for, written};
+ghost use Rattle.mon_agent.specs.Answer.{IsAnswer};
+ghost use Rattle.mon_agent.specs.InPlace.{ArePut, IsAnswerOf, IsPut};
+ghost use Rattle.mon_agent.specs.Step.{IsGetAnswer};
+
+use crate::agent::Agent;
+use crate::buffers::ReplyBuffers;
+use crate::framing::put_response;
+use crate::growing::is_within;
+use crate::reading::{got_value, step};
+use crate::reply::Reply;
+use mon_ber::element::element_at;
+use mon_ber::reading::name_at;
+use mon_ber::writing::{
+    contents_len, element_len, identifier_len, put_header, put_measured_identifier,
+    put_measured_value, put_octets,
+};
+use mon_ber::{SEQUENCE, Value};
+use mon_mib::{Device, Moment, Search, Shown};
+use mon_oid::Oid;
+use mon_pdu::{Frame, PduKind, read_frame};
+use mon_vacm::Need;
+use std::alloc::Global;
+use std::mem;
+
+/// The longest value that is written in place, in octets.
+const LONGEST: usize = 65535;
+
+/// Null, as nearly every request spells its values.
+const NULL: [u8; 2] = [5, 0];
+
+impl<D: Device + Drop> Agent<D> {
+    /// The octets of the reply to a datagram that is a Get or GetNext which is granted, each of its
+    /// values spelled as `NULL`, and whose response is within the limit. Returns `None` for any other
+    /// datagram, or if memory ran out.
+    pub(crate) fn in_place(
+        &self,
+        alloc: Global,
+        datagram: &[u8],
+        moment: Moment,
+        buffers: &mut ReplyBuffers,
+    ) -> Option<Vec<u8>>
+        ensures { let known = known_by D.held self.now.mib moment in
+            IfSome result (λ octets. IsAnswer D.held D.failed D.refuses self.now.policy known
+            (map_device self.now.mib) (map_device self.now.mib) datagram.now (Reply.Send octets)) }
+    {
+        let frame = read_frame(datagram)?;
+        if !is_in_place(frame.kind) {
+            return None;
+        }
+        let Ok(access) = self.policy.access(frame.community, Need::Read) else {
+            return None;
+        };
+        let mut search = Search::new(alloc, &self.mib, &self.policy, access, moment);
+        buffers.list.clear();
+        put_answers(alloc, &mut search, &frame, &mut buffers.list)?;
+        let limit = self.mib.settings().limit;
+        put_response(&mut buffers.octets, &frame, buffers.list.as_slice(), limit)?;
+        let empty = Vec::new(alloc);
+        Some(mem::replace(&mut buffers.octets, empty))
+    }
+}
+
+/// Returns `true` if a PDU may be answered in place.
+fn is_in_place(kind: PduKind) -> bool
+    ensures { IsTrue result ↔ ((kind ≡ kinds.Get) ⊎ (kind ≡ kinds.GetNext)) }
+{
+    matches!(kind, PduKind::Get | PduKind::GetNext)
+}
+
+/// Writes the answers to the names of a Get or GetNext of this frame.
+fn put_answers<D: Device + Drop>(
+    alloc: Global,
+    search: &mut Search<'_, D>,
+    frame: &Frame<'_>,
+    out: &mut Vec<u8>,
+) -> Option<()>
+    ensures { OnSome result (ArePut (IsAnswerOf (known_in D.held search.old) (IsSeenIn search.old) frame.now.kind)
+        frame.now.list.now out.old.items out.new.items) }
+{
+    let mut rest = frame.list;
+    while !rest.is_empty() {
+        let Some(after) = put_answer(alloc, search, frame.kind, rest, out) else {
+            return None;
+        };
+        rest = after;
+    }
+    Some(())
+}
+
+/// Writes the answer to the name that the octets begin with, and returns what follows it.
+fn put_answer<'b, D: Device + Drop>(
+    alloc: Global,
+    search: &mut Search<'_, D>,
+    kind: PduKind,
+    octets: &'b [u8],
+    out: &mut Vec<u8>,
+) -> Option<&'b [u8]>
+    ensures put { IfSome result (λ rest. IsPut (IsAnswerOf (known_in D.held search.old) (IsSeenIn search.old) kind)
+        octets.now rest.now out.old.items out.new.items) }
+    ensures shorter { IfSome result (λ rest. length rest.now < length octets.now) }
+    ensures stays { search.new ≡ search.old }
+{
+    let (name, rest) = asked_name(alloc, octets)?;
+    put_for(alloc, search, kind, &name, out)?;
+    Some(rest)
+}
+
+/// Writes the answer to a name.
+fn put_for<D: Device + Drop>(
+    alloc: Global,
+    search: &mut Search<'_, D>,
+    kind: PduKind,
+    name: &Oid,
+    out: &mut Vec<u8>,
+) -> Option<()>
+    ensures put { OnSome result ((answer : AnyBinding) × IsAnswerOf (known_in D.held search.old) (IsSeenIn search.old) kind name.now answer
+        × (out.new.items ≡ out.old.items ++ written_binding answer)) }
+    ensures stays { search.new ≡ search.old }
+{
+    match kind {
+        PduKind::Get => put_got(alloc, search, name, out),
+        PduKind::GetNext => {
+            let limit = search.settings().limit;
+            let answer = step(alloc, search, name).ok()?;
+            put_binding(out, &answer.name, &answer.value, limit)
+        }
+        _ => None,
+    }
+}
+
+/// Writes the answer to a name in a Get. Octets that the agent keeps are copied only into the response.
+fn put_got<D: Device + Drop>(
+    alloc: Global,
+    search: &Search<'_, D>,
+    name: &Oid,
+    out: &mut Vec<u8>,
+) -> Option<()>
+    ensures { OnSome result ((answer : AnyBinding)
+        × IsGetAnswer (known_in D.held search.now) (IsSeenIn search.now) name.now answer
+        × (out.new.items ≡ out.old.items ++ written_binding answer)) }
+{
+    let limit = search.settings().limit;
+    match search.show(alloc, name) {
+        Ok(Shown::Octets(octets)) => put_octets_binding(out, name, octets, limit),
+        Ok(Shown::Other(got)) => put_binding(out, name, &got_value(got), limit),
+        Err(_) => None,
+    }
+}
+
+/// The name of the variable binding that the octets begin with, if its value is spelled as `NULL`, and
+/// what follows it.
+fn asked_name(alloc: Global, octets: &[u8]) -> Option<(Oid, &[u8])>
+    ensures spelled { IfSome result (λ r. (text : List ℕ) × (v : AnyValue)
+        × IsBinding text (record { name = r.0; value = v }) × (octets.now ≡ text ++ r.1.now)) }
+    ensures shorter { IfSome result (λ r. length r.1.now < length octets.now) }
+{
+    let (contents, rest) = element_at(SEQUENCE, octets).ok()?;
+    let (name, value) = name_at(alloc, contents).ok()?;
+    if value != NULL.as_slice() {
+        return None;
+    }
+    Some((name, rest))
+}
+
+/// Writes a variable binding, whose value is octets. Returns `None` as `put_head` does.
+fn put_octets_binding(out: &mut Vec<u8>, name: &Oid, octets: &[u8], limit: i32) -> Option<()>
+    ensures { let binding : AnyBinding = record { name = name.now; value = Value.Octets octets.now } in
+        OnSome result (out.new.items ≡ out.old.items ++ written_binding binding) }
+{
+    put_head(out, name, octets.len(), limit)?;
+    put_octets(out, octets);
+    Some(())
+}
+
+/// Writes a variable binding. Returns `None` as `put_head` does.
+fn put_binding(out: &mut Vec<u8>, name: &Oid, value: &Value, limit: i32) -> Option<()>
+    ensures { let binding : AnyBinding = record { name = name.now; value = value.now } in
+        OnSome result (out.new.items ≡ out.old.items ++ written_binding binding) }
+{
+    let len = contents_len(value);
+    put_head(out, name, len, limit)?;
+    put_measured_value(out, value, len);
+    Some(())
+}
+
+/// Writes a variable binding up to its value, whose contents take this many octets, and takes memory
+/// for that. Returns `None` if `out` is then longer than the limit, or if memory ran out.
+fn put_head(out: &mut Vec<u8>, name: &Oid, value_len: usize, limit: i32) -> Option<()>
+    ensures put { OnSome result (out.new.items ≡ (out.old.items
+        ++ (0x30 ∷ length_octets (size_for (length (name_octets name.now)) + size_for value_len)))
+        ++ written (Name name.now)) }
+    ensures room { OnSome result (vec_len out.new + size_for value_len ≤ vec_capacity out.new) }
+    ensures small { OnSome result (value_len < 2 ^ 16) }
+{
+    if value_len > LONGEST {
+        return None;
+    }
+    let name_len = identifier_len(name);
+    let len = element_len(name_len) + element_len(value_len);
+    let size = element_len(len);
+    if !is_within(out.len().saturating_add(size), limit) {
+        return None;
+    }
+    out.reserve(size).ok()?;
+    put_header(out, SEQUENCE, len);
+    put_measured_identifier(out, name, name_len);
+    Some(())
+}
