@@ -38,7 +38,7 @@ abbrev pub IsNoStation : Failure → Type 0
 IsNoStation failure = IsMemory failure
     ⊎ ((fault : StationFault) × IsOpeningFault fault × IsOf (station_fault fault) failure)
 
--- the last of a round's notices, if there is one; a round saves at its end
+-- the last of a round's notices, if there is one; a round that saves does so at its end
 abbrev pub last_of : List Notice → Option Notice
 last_of notices = slice_get notices (length notices - 1)
 

@@ -66,7 +66,7 @@ IsUnsavedBy None unsaved = unsaved ≡ None
 IsUnsavedBy (Some number) None = ⊥
 IsUnsavedBy (Some number) (Some fault) = 1 ≤ number → number ≤ 6 → number_of fault ≡ number
 
--- What is kept of the last save: after a round what its last notice says, else what it was.
+-- What is kept of the last round's save: after a round what its last notice says, else what it was.
 abbrev pub IsSavedAfter : (whole : Bool) → RoundReport → (before after : Option KeeperFault) → Type 0
 IsSavedAfter true report before after = IsUnsavedBy (unsaved_in (last_of report.notices.items)) after
 IsSavedAfter false report before after = after ≡ before

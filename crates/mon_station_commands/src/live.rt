@@ -82,7 +82,7 @@ impl<S: Receiver + Drop, O: Outbox + Drop> Drop for Live<S, O> {
 pub(crate) struct Kept {
     /// When the last round ended, in seconds since 1970 by the wall clock, if one did.
     pub(crate) round_at: Option<u64>,
-    /// Why the last round's save failed, if it did.
+    /// Why the last round's save failed, if it saved and that failed. The last of all rounds saves.
     pub(crate) unsaved: Option<KeeperFault>,
     /// Why a report that could not be printed between two rounds could not.
     pub(crate) unprinted: Option<Failure>,
@@ -535,7 +535,7 @@ fn report_round<H: Host, S: Receiver + Drop, O: Outbox + Drop>(
     tell_changes(alloc, host, live, number, spell.span)
 }
 
-/// Returns why the last save failed, if it did, after this report.
+/// Returns why the save of the last round failed, if it saved and that failed, after this report.
 fn unsaved_after(
     before: Option<KeeperFault>,
     span: Span,
