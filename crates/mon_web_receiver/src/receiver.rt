@@ -286,8 +286,9 @@ impl<C: Content, R: Dates, T: Ticks, S: Looks> Shows<C> for WebReceiver<'_, R, T
     }
 
     fn show(&mut self, content: Option<C>)
-        ensures shown { view_of C.says self.new.web.table.site
-            ≡ with_texts (option_map C.says content) (view_of C.says self.old.web.table.site) }
+        ensures shown { Some (view_of C.says self.new.web.table.site)
+            ≡ option_map (with_texts (option_map C.says content))
+            (Some (view_of C.says self.old.web.table.site)) }
         ensures failures { self.new.failures ≡ self.old.failures }
     {
         self.web.show(content);
