@@ -1,5 +1,5 @@
 -- A response around the octets of its variable bindings.
-use Rattle.std.proofs.Common.{◌≡◌, ℕ, ◌+◌, ◌<◌, ◌^◌, ℤ, pos, List, [], ◌∷◌, ◌++◌, length, sym, ap, ◌∙◌, append_assoc, arith}
+use Rattle.std.proofs.Common.{◌≡◌, ℕ, ◌+◌, ℤ, pos, List, [], ◌∷◌, ◌++◌, length, sym, ap, ◌∙◌, append_assoc, arith}
 use Rattle.mon_ber.specs.declared.value.Value.TheVariants.{Integer, Octets}
 use Rattle.mon_ber.specs.Writing.{element, length_octets, size_for, written}
 use Rattle.mon_pdu.specs.declared.frame.Frame.{Frame}

@@ -1,15 +1,14 @@
 -- What is read of a request in place, and what is written for it.
-use Rattle.std.proofs.Common.{◌≡◌, ℕ, pos, zero, true, List, [], ◌∷◌, ◌++◌, length, refl, sym, ap, subst, ◌∙◌, append_assoc, append-nil, arith, inl, inr}
+use Rattle.std.proofs.Common.{◌≡◌, ℕ, true, List, [], ◌∷◌, ◌++◌, length, refl, sym, ap, subst, ◌∙◌, append_assoc, append-nil, arith, inl, inr}
 use Rattle.std.specs.Global.{Vec}
 use Rattle.std.specs.Prelude.{Ok, ◌≤◌, ◌⊎◌}
-use Rattle.mon_ber.specs.declared.value.Value.TheVariants.{Name, Null}
+use Rattle.mon_ber.specs.declared.value.Value.TheVariants.{Null}
 use Rattle.mon_ber.specs.declared.value.Value.{Value}
 use Rattle.mon_ber.specs.Grammar.{Spells, IsElement}
 use Rattle.mon_ber.specs.Reading.{element_at, name_at}
 use Rattle.mon_ber.proofs.Promised.{element_takes, name_at_takes}
 use Rattle.mon_pdu.specs.declared.frame.Frame.{Frame}
 use Rattle.mon_pdu.specs.declared.message.Binding.{Binding}
-use Rattle.mon_pdu.specs.declared.message.Message.{Message}
 use Rattle.mon_pdu.specs.declared.message.PduKind.{PduKind}
 use Rattle.mon_pdu.specs.declared.message.PduKind.TheVariants as kinds
 use Rattle.mon_pdu.specs.Around.{message_around}

@@ -1,9 +1,9 @@
-//! ReplyBuffers that replies are written into.
+//! Buffers that replies are written into.
 
 use std::alloc::Global;
 
-/// ReplyBuffers for an agent's replies, kept from datagram to datagram. What they hold between calls has no
-/// meaning: a reply is written from their start.
+/// Buffers for an agent's replies, kept from datagram to datagram. What they hold between calls has
+/// no meaning: a reply is written from their start.
 #[derive(Drop)]
 pub struct ReplyBuffers {
     /// For the variable bindings of a response, whose size its head begins with.

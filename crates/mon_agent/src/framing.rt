@@ -20,7 +20,7 @@ const VERSION: i32 = 1;
 /// The error-index of a response without an error.
 const NO_INDEX: i32 = 0;
 
-/// A part of a response that is as long is not measured, since no message is.
+/// No part of a message that is as long is measured: no datagram is.
 const TOO_LONG: usize = 1 << 24;
 
 /// Makes `out` the response without an error to a request of this frame, around the octets of its
@@ -31,7 +31,8 @@ pub(crate) fn put_response(
     list: &[u8],
     limit: i32,
 ) -> Option<()>
-    ensures written { OnSome result (out.new.items ≡ message_around (frame_response frame.now []) list.now) }
+    ensures written { OnSome result (out.new.items
+        ≡ message_around (frame_response frame.now []) list.now) }
     ensures within { OnSome result (length out.new.items ≤ count_of limit) }
 {
     let body = body_len(frame.request_id, list)?;
@@ -46,10 +47,11 @@ pub(crate) fn put_response(
     Some(())
 }
 
-/// How many octets the contents of a response's PDU take. None where the list is too long.
+/// How many octets the contents of a response's PDU take. Returns `None` if the list is too long.
 #[tactic(auto, using(mon_pdu::proofs::Lengths::passed))]
 fn body_len(request_id: i32, list: &[u8]) -> Option<usize>
-    ensures sum { IfSome result (λ n. n ≡ length (written (Integer request_id)) + length (written (Integer (pos 0)))
+    ensures sum { IfSome result (λ n. n
+        ≡ length (written (Integer request_id)) + length (written (Integer (pos 0)))
         + length (written (Integer (pos 0))) + size_for (length list.now)) }
     ensures small { IfSome result (λ n. n < 2 ^ 25) }
 {
@@ -60,11 +62,12 @@ fn body_len(request_id: i32, list: &[u8]) -> Option<usize>
     Some(numbers + element_len(list.len()))
 }
 
-/// How many octets the contents of a message take whose PDU's take `body`. None where the community is
-/// too long.
+/// How many octets the contents of a message take if its PDU's contents take `body`. Returns `None`
+/// if the community is too long.
 fn message_len(community: &[u8], body: usize) -> Option<usize>
     requires { body < 2 ^ 25 }
-    ensures sum { IfSome result (λ n. n ≡ length (written (Integer (pos 1))) + size_for (length community.now) + size_for body) }
+    ensures sum { IfSome result (λ n. n
+        ≡ length (written (Integer (pos 1))) + size_for (length community.now) + size_for body) }
     ensures small { IfSome result (λ n. n < 2 ^ 32) }
 {
     if community.len() >= TOO_LONG {
@@ -78,9 +81,11 @@ fn message_len(community: &[u8], body: usize) -> Option<usize>
 fn put_message(out: &mut Vec<u8>, frame: &Frame<'_>, list: &[u8], body: usize, message: usize)
     requires fits { message < 2 ^ 32 }
     requires body { body ≡ length (contents_of_body (frame_response frame.now []).body list.now) }
-    requires message { message ≡ length (contents_of_message (frame_response frame.now []) list.now) }
+    requires message { message
+        ≡ length (contents_of_message (frame_response frame.now []) list.now) }
     requires room { vec_len out.old + length (message_around (frame_response frame.now []) list.now) ≤ vec_capacity out.old }
-    ensures { out.new.items ≡ out.old.items ++ message_around (frame_response frame.now []) list.now }
+    ensures { out.new.items ≡ out.old.items
+        ++ message_around (frame_response frame.now []) list.now }
 {
     put_header(out, SEQUENCE, message);
     put_integer(out, VERSION);
@@ -94,7 +99,8 @@ fn put_pdu(out: &mut Vec<u8>, request_id: i32, list: &[u8], body: usize)
     requires fits { body < 2 ^ 32 }
     requires body { body ≡ length (contents_of_body (response_body request_id (pos 0) (pos 0) []) list.now) }
     requires room { vec_len out.old + length (body_around (response_body request_id (pos 0) (pos 0) []) list.now) ≤ vec_capacity out.old }
-    ensures { out.new.items ≡ out.old.items ++ body_around (response_body request_id (pos 0) (pos 0) []) list.now }
+    ensures { out.new.items ≡ out.old.items
+        ++ body_around (response_body request_id (pos 0) (pos 0) []) list.now }
 {
     put_header(out, PduKind::Response.octet(), body);
     put_numbers(out, request_id);
@@ -105,8 +111,10 @@ fn put_pdu(out: &mut Vec<u8>, request_id: i32, list: &[u8], body: usize)
 #[tactic(auto, using(mon_pdu::proofs::Lengths::passed))]
 fn put_numbers(out: &mut Vec<u8>, request_id: i32)
     requires room { vec_len out.old + length (leading_integers (response_body request_id (pos 0) (pos 0) [])) ≤ vec_capacity out.old }
-    ensures items { out.new.items ≡ out.old.items ++ leading_integers (response_body request_id (pos 0) (pos 0) []) }
-    ensures len { vec_len out.new ≡ vec_len out.old + length (leading_integers (response_body request_id (pos 0) (pos 0) [])) }
+    ensures items { out.new.items ≡ out.old.items
+        ++ leading_integers (response_body request_id (pos 0) (pos 0) []) }
+    ensures len { vec_len out.new
+        ≡ vec_len out.old + length (leading_integers (response_body request_id (pos 0) (pos 0) [])) }
     ensures capacity { vec_capacity out.old ≤ vec_capacity out.new }
 {
     put_integer(out, request_id);

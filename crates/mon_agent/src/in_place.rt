@@ -43,8 +43,8 @@ const NULL: [u8; 2] = [5, 0];
 
 impl<D: Device + Drop> Agent<D> {
     /// The octets of the reply to a datagram that is a Get or GetNext which is granted, each of its
-    /// values spelled as `NULL`, and whose response is within the limit. Returns `None` for any other
-    /// datagram, or if memory ran out.
+    /// values spelled as `NULL`, and whose response is within the limit. Returns `None` for any
+    /// other datagram, or if memory ran out.
     pub(crate) fn in_place(
         &self,
         alloc: Global,
@@ -126,7 +126,8 @@ fn put_for<D: Device + Drop>(
     name: &Oid,
     out: &mut Vec<u8>,
 ) -> Option<()>
-    ensures put { OnSome result ((answer : AnyBinding) × IsAnswerOf (known_in D.held search.old) (IsSeenIn search.old) kind name.now answer
+    ensures put { OnSome result ((answer : AnyBinding)
+        × IsAnswerOf (known_in D.held search.old) (IsSeenIn search.old) kind name.now answer
         × (out.new.items ≡ out.old.items ++ written_binding answer)) }
     ensures stays { search.new ≡ search.old }
 {
@@ -141,7 +142,8 @@ fn put_for<D: Device + Drop>(
     }
 }
 
-/// Writes the answer to a name in a Get. Octets that the agent keeps are copied only into the response.
+/// Writes the answer to a name in a Get. Octets that the agent keeps are copied only into the
+/// response.
 fn put_got<D: Device + Drop>(
     alloc: Global,
     search: &Search<'_, D>,
@@ -160,8 +162,8 @@ fn put_got<D: Device + Drop>(
     }
 }
 
-/// The name of the variable binding that the octets begin with, if its value is spelled as `NULL`, and
-/// what follows it.
+/// The name of the variable binding that the octets begin with, and what follows that, if its value
+/// is spelled as `NULL`.
 fn asked_name(alloc: Global, octets: &[u8]) -> Option<(Oid, &[u8])>
     ensures spelled { IfSome result (λ r. (text : List ℕ) × (v : AnyValue)
         × IsBinding text (record { name = r.0; value = v }) × (octets.now ≡ text ++ r.1.now)) }
@@ -196,8 +198,8 @@ fn put_binding(out: &mut Vec<u8>, name: &Oid, value: &Value, limit: i32) -> Opti
     Some(())
 }
 
-/// Writes a variable binding up to its value, whose contents take this many octets, and takes memory
-/// for that. Returns `None` if `out` is then longer than the limit, or if memory ran out.
+/// Writes a variable binding up to its value, whose contents take this many octets, and takes
+/// memory for the value. Returns `None` if `out` is then longer than the limit, or if memory ran out.
 fn put_head(out: &mut Vec<u8>, name: &Oid, value_len: usize, limit: i32) -> Option<()>
     ensures put { OnSome result (out.new.items ≡ (out.old.items
         ++ (0x30 ∷ length_octets (size_for (length (name_octets name.now)) + size_for value_len)))

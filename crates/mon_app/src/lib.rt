@@ -46,7 +46,7 @@ pub use refusal::Refusal;
 pub use replaying::replay;
 pub use reporting::Recorded;
 pub use sends::Sends;
-pub use serving::{Served, serve_one};
+pub use serving::{Buffers, Served, serve_one};
 pub use socket::{SocketWire, WireBy};
 pub use socket_port::{PortBy, SocketPort};
 pub use value::{ValueKind, value_of};

@@ -7,9 +7,10 @@ ghost use Rattle.mon_app.specs.Served.{AnswersIt, IsAwaited, IsServed, stands};
 
 use crate::fault::SocketFault;
 use crate::port::{Port, Received};
-use mon_agent::{Agent, Reply};
+use mon_agent::{Agent, Reply, ReplyBuffers};
 use mon_mib::Device;
-use std::alloc::Global;
+use mon_udp::datagram_buffer;
+use std::alloc::{AllocError, Global};
 
 /// How many failed waits in a row are passed over; the next one that fails ends the serving.
 const PASSED_OVER: u8 = 15;
@@ -23,7 +24,30 @@ pub enum Served {
     Untaken,
 }
 
-/// Serves an agent the next datagram, which is put into the buffer: sends its reply to where the
+/// Buffers of an agent that is served, kept from datagram to datagram.
+#[derive(Drop)]
+pub struct Buffers {
+    datagram: Vec<u8>,
+    replies: ReplyBuffers,
+}
+
+impl Buffers {
+    /// Returns buffers for datagrams of any size, and for their replies.
+    ///
+    /// # Errors
+    /// `AllocError` if out of memory.
+    pub fn new(alloc: Global) -> Result<Self, AllocError>
+        ensures { IfOk result (λ buffers. length buffers.datagram.items ≡ 65507) }
+    {
+        let datagram = datagram_buffer(alloc)?;
+        Ok(Buffers {
+            datagram,
+            replies: ReplyBuffers::new(alloc),
+        })
+    }
+}
+
+/// Serves an agent the next datagram, which is put into the buffers: sends its reply to where the
 /// datagram came from, or nothing where the agent is silent. A reply that cannot be sent is lost.
 ///
 /// # Errors
@@ -32,7 +56,28 @@ pub fn serve_one<P: Port, D: Device + Drop>(
     alloc: Global,
     port: &mut P,
     agent: &mut Agent<D>,
+    buffers: &mut Buffers,
+) -> Result<Served, SocketFault>
+    // The datagram is answered as the agent was then; what was sent and what failed is known.
+    ensures served { Happens (λ log. IsServed
+        (AnswersIt D.held D.failed D.refuses (policy_of agent.old) (settings_of agent.old))
+        (stands agent.old) (stands agent.new) log result)
+        (P.told port.old) (P.told port.new) (P.failures port.old) (P.failures port.new) }
+    // The agent's policy and settings stay.
+    ensures policy { policy_of agent.new ≡ policy_of agent.old }
+    ensures settings { settings_of agent.new ≡ settings_of agent.old }
+{
+    let Buffers { datagram, replies } = buffers;
+    serve_in(alloc, port, agent, datagram.as_mut_slice(), replies)
+}
+
+/// Serves an agent the next datagram, which is put into this buffer.
+fn serve_in<P: Port, D: Device + Drop>(
+    alloc: Global,
+    port: &mut P,
+    agent: &mut Agent<D>,
     room: &mut [u8],
+    replies: &mut ReplyBuffers,
 ) -> Result<Served, SocketFault>
     // The datagram is answered as the agent was then; what was sent and what failed is known.
     ensures served { Happens (λ log. IsServed
@@ -44,9 +89,10 @@ pub fn serve_one<P: Port, D: Device + Drop>(
     ensures settings { settings_of agent.new ≡ settings_of agent.old }
 {
     let received = next_datagram(port, room)?;
-    match agent.answer(alloc, &room[..received.len], received.moment) {
+    match agent.answer_into(alloc, &room[..received.len], received.moment, replies) {
         Ok(Reply::Send(octets)) => {
             port.reply(&octets);
+            replies.keep(octets);
             Ok(Served::Answered)
         }
         Ok(Reply::Silent(_)) => Ok(Served::Answered),

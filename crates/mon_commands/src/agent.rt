@@ -14,14 +14,14 @@ ghost use Rattle.mon_commands.specs.Serving.{IsDeafFor, IsNextServed, IsServedAt
 
 use mon_agent::Agent;
 use mon_answers::{Scene, answer_lines};
-use mon_app::{AppFault, Listens, Port, Served, serve_one};
+use mon_app::{AppFault, Buffers, Listens, Port, Served, serve_one};
 use mon_cli::{AgentArgs, AnswerArgs, Named};
 use mon_console::{Failure, names_of, print, read_input_text, read_text, settings_failure};
 use mon_host::{Host, Level};
 use mon_mib::{Device, FuseDevice, Moment, SimDevice};
 use mon_settings::{AgentSettings, SettingsKind, read_agent};
 use mon_smi::{Labels, Names};
-use mon_udp::{Addr, datagram_buffer};
+use mon_udp::Addr;
 use std::alloc::{AllocError, Global};
 use std::net::SocketAddr;
 
@@ -116,9 +116,9 @@ fn serve_all<P: Port, D: Device + Drop, H: Host>(
         (stands agent.new) at_port log result) (H.log host.old) (H.log host.new))
         (P.told port.old) (P.told port.new) (P.failures port.old) (P.failures port.new) }
 {
-    let mut room = datagram_buffer(alloc)?;
+    let mut room = Buffers::new(alloc)?;
     for _ in 0..count {
-        serve_next(alloc, host, port, agent, room.as_mut_slice())?;
+        serve_next(alloc, host, port, agent, &mut room)?;
     }
     Ok(())
 }
@@ -129,7 +129,7 @@ fn serve_next<P: Port, D: Device + Drop, H: Host>(
     host: &mut H,
     port: &mut P,
     agent: &mut Agent<D>,
-    room: &mut [u8],
+    room: &mut Buffers,
 ) -> Result<(), AppFault>
     ensures served { let Answers = AnswersIt D.held D.failed D.refuses
         (policy_of agent.old) (settings_of agent.old) in

@@ -33,8 +33,8 @@ BUGS = {
     ),
     "answers_each_twice": (
         "src/serving.rt",
-        "    match agent.answer(alloc, &room[..received.len], received.moment) {",
-        "    let _ = agent.answer(alloc, &room[..received.len], received.moment);\n    match agent.answer(alloc, &room[..received.len], received.moment) {",
+        "    match agent.answer_into(alloc, &room[..received.len], received.moment, replies) {",
+        "    let _ = agent.answer_into(alloc, &room[..received.len], received.moment, replies);\n    match agent.answer_into(alloc, &room[..received.len], received.moment, replies) {",
     ),
     "ends_lines_at_carriage_returns": (
         "src/replaying.rt",
@@ -173,8 +173,8 @@ BUGS = {
     ),
     "answers_at_a_moment_that_stands": (
         "src/serving.rt",
-        "    match agent.answer(alloc, &room[..received.len], received.moment) {",
-        "    let moment = mon_mib::Moment::new(0).unwrap_or(received.moment);\n    match agent.answer(alloc, &room[..received.len], moment) {",
+        "    match agent.answer_into(alloc, &room[..received.len], received.moment, replies) {",
+        "    let moment = mon_mib::Moment::new(0).unwrap_or(received.moment);\n    match agent.answer_into(alloc, &room[..received.len], moment, replies) {",
     ),
     "asks_four_times": (
         "src/asking.rt",
@@ -343,8 +343,8 @@ BUGS = {
     ),
     "reads_what_was_left_in_the_room": (
         "src/serving.rt",
-        "    match agent.answer(alloc, &room[..received.len], received.moment) {",
-        "    match agent.answer(alloc, &room[..], received.moment) {",
+        "    match agent.answer_into(alloc, &room[..received.len], received.moment, replies) {",
+        "    match agent.answer_into(alloc, &room[..], received.moment, replies) {",
     ),
     "replies_twice": (
         "src/serving.rt",
@@ -913,8 +913,8 @@ BUGS = {
     ),
     "answers_without_the_last_octet": (
         "src/serving.rt",
-        "    match agent.answer(alloc, &room[..received.len], received.moment) {",
-        "    match agent.answer(alloc, &room[..received.len.saturating_sub(1)], received.moment) {",
+        "    match agent.answer_into(alloc, &room[..received.len], received.moment, replies) {",
+        "    match agent.answer_into(alloc, &room[..received.len.saturating_sub(1)], received.moment, replies) {",
     ),
     "ends_where_memory_runs_out": (
         "src/serving.rt",
@@ -992,7 +992,7 @@ BUGS = {
     ),
     "calls_an_answer_untaken": (
         "src/serving.rt",
-        "            port.reply(&octets);\n            Ok(Served::Answered)",
+        "            port.reply(&octets);\n            replies.keep(octets);\n            Ok(Served::Answered)",
         "            port.reply(&octets);\n            Ok(Served::Untaken)",
     ),
     "calls_what_it_had_no_memory_for_answered": (
@@ -1002,13 +1002,13 @@ BUGS = {
     ),
     "serves_without_waiting": (
         "src/serving.rt",
-        "    let received = next_datagram(port, room)?;\n    match agent.answer(alloc, &room[..received.len], received.moment) {\n        Ok(Reply::Send(octets)) => {\n            port.reply(&octets);\n            Ok(Served::Answered)\n        }\n        Ok(Reply::Silent(_)) => Ok(Served::Answered),\n        Err(_) => Ok(Served::Untaken),\n    }\n",
-        "    let _ = (alloc, port, agent, room);\n    Ok(Served::Answered)\n",
+        "    let received = next_datagram(port, room)?;\n    match agent.answer_into(alloc, &room[..received.len], received.moment, replies) {\n        Ok(Reply::Send(octets)) => {\n            port.reply(&octets);\n            replies.keep(octets);\n            Ok(Served::Answered)\n        }\n        Ok(Reply::Silent(_)) => Ok(Served::Answered),\n        Err(_) => Ok(Served::Untaken),\n    }\n",
+        "    let _ = (alloc, port, agent, room, replies);\n    Ok(Served::Answered)\n",
     ),
     "tries_again_where_memory_ran_out": (
         "src/serving.rt",
         "        Err(_) => Ok(Served::Untaken),",
-        "        Err(_) => match agent.answer(alloc, &room[..received.len], received.moment) {\n            Ok(_) => Ok(Served::Answered),\n            Err(_) => Ok(Served::Untaken),\n        },",
+        "        Err(_) => match agent.answer_into(alloc, &room[..received.len], received.moment, replies) {\n            Ok(_) => Ok(Served::Answered),\n            Err(_) => Ok(Served::Untaken),\n        },",
     ),
 }
 
@@ -1019,5 +1019,5 @@ PROMISES = {
     "receives_without_a_call": "socket_port::PortBy::receive_next",
     "prints_lines_on_standard_error": "walking::print_line",
     "asks_nothing_and_times_out": "walking::walk_on",
-    "calls_an_answer_untaken": "serving::serve_one",
+    "calls_an_answer_untaken": "serving::serve_in",
 }

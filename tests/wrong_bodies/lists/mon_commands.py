@@ -255,28 +255,28 @@ BUGS = {
     ),
     "serves_two_at_a_time": (
         "src/agent.rt",
-        "        serve_next(alloc, host, port, agent, room.as_mut_slice())?;",
-        "        serve_next(alloc, host, port, agent, room.as_mut_slice())?;\n        serve_next(alloc, host, port, agent, room.as_mut_slice())?;",
+        "        serve_next(alloc, host, port, agent, &mut room)?;",
+        "        serve_next(alloc, host, port, agent, &mut room)?;\n        serve_next(alloc, host, port, agent, &mut room)?;",
     ),
     "serves_the_first_alone": (
         "src/agent.rt",
-        "        serve_next(alloc, host, port, agent, room.as_mut_slice())?;",
-        "        serve_next(alloc, host, port, agent, room.as_mut_slice())?;\n        return Ok(());",
+        "        serve_next(alloc, host, port, agent, &mut room)?;",
+        "        serve_next(alloc, host, port, agent, &mut room)?;\n        return Ok(());",
     ),
     "serves_on_whatever_fails": (
         "src/agent.rt",
-        "        serve_next(alloc, host, port, agent, room.as_mut_slice())?;",
-        "        let _ = serve_next(alloc, host, port, agent, room.as_mut_slice());",
+        "        serve_next(alloc, host, port, agent, &mut room)?;",
+        "        let _ = serve_next(alloc, host, port, agent, &mut room);",
     ),
     "ends_well_where_the_port_fails": (
         "src/agent.rt",
-        "        serve_next(alloc, host, port, agent, room.as_mut_slice())?;",
-        "        if serve_next(alloc, host, port, agent, room.as_mut_slice()).is_err() {\n            return Ok(());\n        }",
+        "        serve_next(alloc, host, port, agent, &mut room)?;",
+        "        if serve_next(alloc, host, port, agent, &mut room).is_err() {\n            return Ok(());\n        }",
     ),
     "fails_before_it_serves": (
         "src/agent.rt",
-        "    let mut room = datagram_buffer(alloc)?;",
-        "    if count > 0 {\n        return Err(Failure::from(AppFault::SocketFault {\n            reason: mon_app::SocketReason::Other,\n        }));\n    }\n    let mut room = datagram_buffer(alloc)?;",
+        "    let mut room = Buffers::new(alloc)?;",
+        "    if count > 0 {\n        return Err(Failure::from(AppFault::SocketFault {\n            reason: mon_app::SocketReason::Other,\n        }));\n    }\n    let mut room = Buffers::new(alloc)?;",
     ),
     "ends_out_of_memory": (
         "src/agent.rt",
@@ -355,13 +355,13 @@ BUGS = {
     ),
     "lacks_memory_where_the_port_fails": (
         "src/agent.rt",
-        "        serve_next(alloc, host, port, agent, room.as_mut_slice())?;",
-        "        if serve_next(alloc, host, port, agent, room.as_mut_slice()).is_err() {\n            return Err(Failure::from(AllocError));\n        }",
+        "        serve_next(alloc, host, port, agent, &mut room)?;",
+        "        if serve_next(alloc, host, port, agent, &mut room).is_err() {\n            return Err(Failure::from(AllocError));\n        }",
     ),
     "tells_a_failed_port_before_it_ends": (
         "src/agent.rt",
-        "        serve_next(alloc, host, port, agent, room.as_mut_slice())?;",
-        "        if let Err(fault) = serve_next(alloc, host, port, agent, room.as_mut_slice()) {\n            let failure = Failure::from(fault);\n            failure.tell(host, Level::Warning);\n            return Err(failure);\n        }",
+        "        serve_next(alloc, host, port, agent, &mut room)?;",
+        "        if let Err(fault) = serve_next(alloc, host, port, agent, &mut room) {\n            let failure = Failure::from(fault);\n            failure.tell(host, Level::Warning);\n            return Err(failure);\n        }",
     ),
     "listens_and_serves_nobody": (
         "src/agent.rt",
@@ -455,8 +455,8 @@ BUGS = {
     ),
     "lacks_memory_to_serve": (
         "src/agent.rt",
-        "    let mut room = datagram_buffer(alloc)?;",
-        "    if count > 0 {\n        return Err(Failure::from(AllocError));\n    }\n    let mut room = datagram_buffer(alloc)?;",
+        "    let mut room = Buffers::new(alloc)?;",
+        "    if count > 0 {\n        return Err(Failure::from(AllocError));\n    }\n    let mut room = Buffers::new(alloc)?;",
     ),
     "walks_by_get_next_always": (
         "src/walking.rt",

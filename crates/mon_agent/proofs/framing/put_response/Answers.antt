@@ -1,4 +1,4 @@
-use Rattle.std.proofs.Common.{◌≡◌, ◌<◌, ◌≤◌, ◌+◌, ◌++◌, ◌∙◌, [], ap, sym, to_z, of_z, w32, length, vec_len, vec_capacity, rules, arith}
+use Rattle.std.proofs.Common.{◌≡◌, ◌≤◌, ◌+◌, ◌∙◌, [], ap, sym, to_z, of_z, w32, length, vec_len, vec_capacity, rules, arith}
 use Rattle.mon_ber.specs.Writing.{size_for}
 use Rattle.mon_pdu.specs.Around.{contents_of_body, contents_of_message, message_around}
 use Rattle.mon_pdu.proofs.Around.{message_length}

@@ -1,4 +1,4 @@
-use Rattle.std.proofs.Common.{◌≡◌, ◌∷◌, [], List, ℕ, rules, Ok}
+use Rattle.std.proofs.Common.{◌≡◌, ◌∷◌, [], rules, Ok}
 use Rattle.mon_ber.specs.Reading.{element_at, name_at}
 use Rattle.mon_agent.proofs.InPlace.{asked_spelled}
 use Rattle.mon_agent.proofs.in_place.asked_name.Goals as goal

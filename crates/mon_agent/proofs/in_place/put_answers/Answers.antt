@@ -1,4 +1,4 @@
-use Rattle.std.proofs.Common.{◌≡◌, ◌∙◌, [], subst, length, arith}
+use Rattle.std.proofs.Common.{◌≡◌, ◌∙◌, subst, length, arith}
 use Rattle.std.proofs.lemmas.List.{nil_from_length}
 use Rattle.mon_mib.specs.Search.{IsSeenIn, known_in}
 use Rattle.mon_agent.specs.InPlace.{IsAnswerOf, IsPut}

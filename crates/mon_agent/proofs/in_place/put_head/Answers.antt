@@ -1,7 +1,6 @@
 use Rattle.std.proofs.Common.{◌≡◌, ◌≤◌, ◌+◌, ◌∷◌, ◌++◌, ◌∙◌, ap, length, vec_len, vec_capacity, rules, arith}
 use Rattle.mon_ber.specs.declared.value.Value.TheVariants.{Name}
 use Rattle.mon_ber.specs.Writing.{length_octets, name_octets, size_for, written}
-use Rattle.mon_ber.proofs.Promised.{written_size}
 use Rattle.mon_agent.proofs.Bound.{header_length, summed}
 use Rattle.mon_agent.proofs.in_place.put_head.Goals as goal
 

@@ -1,4 +1,4 @@
-use Rattle.std.proofs.Common.{◌≡◌, length, refl, rules, arith}
+use Rattle.std.proofs.Common.{length, refl, arith}
 use Rattle.mon_ber.specs.declared.value.Value.TheVariants.{Octets}
 use Rattle.mon_agent.proofs.Bound.{both_parts, summed}
 use Rattle.mon_pdu.specs.declared.message.Binding.{Binding}

@@ -1,5 +1,4 @@
-use Rattle.std.proofs.Common.{◌≡◌, refl, sym, ap, subst, Some}
-use Rattle.std.proofs.lemmas.Result.{IfOk-from_err}
+use Rattle.std.proofs.Common.{refl, sym, ap, Some}
 use Rattle.mon_ber.specs.declared.value.Value.TheVariants.{Octets}
 use Rattle.mon_mib.specs.Known.{Known, known_of}
 use Rattle.mon_mib.proofs.Unique.{read, missing}

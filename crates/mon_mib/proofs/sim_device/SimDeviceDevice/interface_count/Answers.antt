@@ -1,7 +1,7 @@
-use Rattle.std.proofs.Common.{◌≡◌, ◌<◌, ◌^◌, List, length, rules, ap, ◌∙◌, arith, sym}
+use Rattle.std.proofs.Common.{◌≡◌, length, rules, arith}
 use Rattle.std.proofs.lemmas.List.{length-map}
 use Rattle.mon_mib.specs.declared.interface.Interface.{Interface}
-use Rattle.mon_mib.specs.Sim.{Sim, indexes_of}
+use Rattle.mon_mib.specs.Sim.{indexes_of}
 use Rattle.mon_mib.proofs.Counting.{few}
 use Rattle.mon_mib.proofs.sim_device.SimDeviceDevice.interface_count.Goals as goal
 

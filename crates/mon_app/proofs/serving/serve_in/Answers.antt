@@ -6,7 +6,7 @@ use Rattle.mon_app.specs.AtPort.{Happens, IsReplied}
 use Rattle.mon_app.specs.Served.{AnswersIt, IsSent, Takes, stands}
 use Rattle.mon_app.specs.declared.serving.Served.TheVariants.{Answered}
 use Rattle.mon_app.proofs.Servings.{turned}
-use Rattle.mon_app.proofs.serving.serve_one.Goals as goal
+use Rattle.mon_app.proofs.serving.serve_in.Goals as goal
 
 pub returns-in-Ok-Send-clause-served : goal.returns-in-Ok-Send-clause-served
 returns-in-Ok-Send-clause-served g c =
@@ -19,7 +19,7 @@ returns-in-Ok-Send-clause-served g c =
     let sent : Happens (IsSent (Send c.in-Ok-Send.octets)) told_1 told_2 count_1 count_2 =
     subst (λ (o : List ℕ). Happens (IsReplied o) told_1 told_2 count_1 count_2) c.deref.ensures.value c.reply.ensures in
     let Answers = AnswersIt g.D.Device.held g.D.Device.failed g.D.Device.refuses (policy_of c.args.agent.now) (settings_of c.args.agent.now) in
-    turned (Takes Answers Answered (stands c.args.agent.now) (stands c.answer.new.self))
+    turned (Takes Answers Answered (stands c.args.agent.now) (stands c.answer_into.new.self))
     (IsSent (Send c.in-Ok-Send.octets)) c.next_datagram.new.room c.in_ok-received.received told_0 told_1 told_2 count_0 count_1 count_2
     c.in_ok-received.ensures.awaited sent (λ log is. record {
       reply = c.in-Ok-Send.field-0;
