@@ -128,7 +128,7 @@ fn put_running(
     plain: Listing,
     figures: &Figures,
 ) -> Result<(), AllocError>
-    requires { length plain.entry.labels.now ≡ length plain.entry.entries.now }
+    requires { length plain.labels.now ≡ length plain.entries.now }
     ensures { (shown : List ℕ → List ℕ) (all : List AnyLabelled)
         → HaveLabels shown all plain.entry.entries.now plain.entry.labels.now
         → OnOk result (text.new.items
@@ -147,7 +147,7 @@ fn put_running(
 /// Adds what the report says of the instances, metric by metric.
 #[tactic(auto, unfolding(crate::specs::Prometheus::instances_text))]
 fn put_instances(alloc: Global, text: &mut Vec<u8>, listing: Listing) -> Result<(), AllocError>
-    requires { length listing.entry.labels.now ≡ length listing.entry.entries.now }
+    requires { length listing.labels.now ≡ length listing.entries.now }
     ensures { (shown : List ℕ → List ℕ) (all : List AnyLabelled)
         → HaveLabels shown all listing.entry.entries.now listing.entry.labels.now
         → OnOk result (text.new.items ≡ text.old.items
@@ -168,7 +168,7 @@ fn put_metric(
     listing: Listing,
     metric: Metric,
 ) -> Result<(), AllocError>
-    requires { length listing.entry.labels.now ≡ length listing.entry.entries.now }
+    requires { length listing.labels.now ≡ length listing.entries.now }
     ensures { (shown : List ℕ → List ℕ) (all : List AnyLabelled)
         → HaveLabels shown all listing.entry.entries.now listing.entry.labels.now
         → OnOk result (text.new.items ≡ text.old.items
@@ -187,7 +187,7 @@ fn put_metric(
 /// Adds in how many rounds each of these instances had no new sample, for as many as have an age.
 #[tactic(auto, unfolding(crate::specs::Prometheus::ages_text))]
 fn put_ages(text: &mut Vec<u8>, listing: Listing) -> Result<(), AllocError>
-    requires { length listing.entry.labels.now ≡ length listing.entry.entries.now }
+    requires { length listing.labels.now ≡ length listing.entries.now }
     ensures { (shown : List ℕ → List ℕ) (all : List AnyLabelled)
         → HaveLabels shown all listing.entry.entries.now listing.entry.labels.now
         → OnOk result (text.new.items
