@@ -1,10 +1,11 @@
-use Rattle.std.proofs.Common.{◌≡◌, ◌++◌, drop}
-use Rattle.mon_page.specs.Labelled.{labelled}
+use Rattle.std.proofs.Common.{◌≡◌, ℕ, List, ◌++◌, drop}
+use Rattle.mon_page.specs.Labelled.{Labelled}
+use Rattle.mon_formats.specs.LabelTexts.{HaveLabels}
 use Rattle.mon_formats.specs.Prometheus.{age_lines}
 use Rattle.mon_formats.proofs.prometheus.put_ages.Given as goal
 
 -- what is written, and the lines that are left, are all lines
 abbrev pub invariant-loop-place : goal.invariant-loop-place
-invariant-loop-place g l =
-    l.text.items ++ age_lines (g.S.NameTexts.shown l.names) (drop l.place l.listing.ages.now) (drop l.place (labelled l.listing.labels.now l.listing.entries.now))
-    ≡ l.initial.text.items ++ age_lines (g.S.NameTexts.shown l.names) l.listing.ages.now (labelled l.listing.labels.now l.listing.entries.now)
+invariant-loop-place l = (shown : List ℕ → List ℕ) (all : List Labelled) → HaveLabels shown all l.listing.entries.now l.listing.labels.now
+    → l.text.items ++ age_lines shown (drop l.place l.listing.ages.now) (drop l.place all)
+    ≡ l.initial.text.items ++ age_lines shown l.listing.ages.now all

@@ -1,12 +1,13 @@
-use Rattle.std.proofs.Common.{◌≡◌, ◌++◌, drop}
+use Rattle.std.proofs.Common.{◌≡◌, ℕ, List, ◌++◌, drop}
 use Rattle.std.specs.List.{flat_map}
-use Rattle.mon_page.specs.Labelled.{labelled}
+use Rattle.mon_page.specs.Labelled.{Labelled}
 use Rattle.mon_page.specs.Freshness.{fresh}
+use Rattle.mon_formats.specs.LabelTexts.{HaveLabels}
 use Rattle.mon_formats.specs.Prometheus.{entry_lines}
 use Rattle.mon_formats.proofs.prometheus.put_metric.Given as goal
 
 -- what is written, and the lines that are left, are all lines
 abbrev pub invariant-loop-place : goal.invariant-loop-place
-invariant-loop-place g l =
-    l.text.items ++ flat_map (entry_lines l.metric (g.S.NameTexts.shown l.names)) (fresh l.listing.limit (drop l.place l.listing.ages.now) (drop l.place (labelled l.listing.labels.now l.listing.entries.now)))
-    ≡ l.initial.text.items ++ flat_map (entry_lines l.metric (g.S.NameTexts.shown l.names)) (fresh l.listing.limit l.listing.ages.now (labelled l.listing.labels.now l.listing.entries.now))
+invariant-loop-place l = (shown : List ℕ → List ℕ) (all : List Labelled) → HaveLabels shown all l.listing.entries.now l.listing.labels.now
+    → l.text.items ++ flat_map (entry_lines l.metric shown) (fresh l.listing.limit (drop l.place l.listing.ages.now) (drop l.place all))
+    ≡ l.initial.text.items ++ flat_map (entry_lines l.metric shown) (fresh l.listing.limit l.listing.ages.now all)
