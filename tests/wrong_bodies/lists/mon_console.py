@@ -121,6 +121,10 @@ BUGS = {
         "            None => alarm_line(alloc, &InNumbers, board, labels, change),",
         "            None => alarm_line(alloc, &InNumbers, board, &[], change),",
     ),
+    "another_owner_in_another_format": ("src/shared.rt", "            format: self.format,\n", "            format: Format::Json,\n"),
+    "the_first_owner_in_lines_of_text": ("src/shared.rt", "        let format = printing.format;\n", "        let format = Format::Text;\n"),
+    "an_owner_prints_json": ("src/shared.rt", ".text_in(Vec::new(alloc), self.format, entries, station)", ".text_in(Vec::new(alloc), Format::Json, entries, station)"),
+    "an_owner_says_nothing_of_the_station": ("src/shared.rt", "self.shared.text_in(buffer, format, entries, station)", "self.shared.text_in(buffer, format, entries, None)"),
     "a_table_where_a_format_is_named": (
         "src/shared.rt",
         "        if self.shared.chosen {\n            return;\n        }\n        if host.prints_to_terminal() {",

@@ -602,6 +602,7 @@ PROMISES = {
     "never_late": "seat::is_late",
     "closes_the_newest": "seat::oldest",
     "answers_no_text": "site::Site::metrics",
+    "makes_no_text": "site::Site::make_text",
     "never_answers": "response::respond",
     "shows_nothing": "web::Web::show",
     "counts_a_short_write_as_whole": "stream::send_part",

@@ -76,11 +76,6 @@ BUGS = {
         "    fn is_shown(&self) -> bool {\n        false\n",
         "    fn is_shown(&self) -> bool {\n        true\n",
     ),
-    "a_reception_ends_the_texts": (
-        "src/receiver.rt",
-        "        let failures = self.failures;\n",
-        "        let failures = self.failures;\n        self.web.show(None);\n",
-    ),
     "says_that_no_time_passed": (
         "src/receiver.rt",
         "milliseconds(now.duration_since(self.origin))",
