@@ -1,8 +1,9 @@
 //! A report as Prometheus reads it.
 
-ghost use Rattle.std.specs.Prelude.{◌≡◌, ◌++◌, [], IfOk, List, OnOk, Some, decimal, length, option_map, slice_get, ℕ};
+ghost use Rattle.std.specs.Prelude.{◌≡◌, ◌<◌, ◌++◌, [], IfOk, List, OnOk, Some, decimal, get_or, length, option_map, slice_get, ℕ};
 ghost use Rattle.std.specs.Fmt.{signed_decimal};
 ghost use Rattle.std.specs.List.{flat_map};
+ghost use Rattle.mon_report.specs.Report.{Entry as AnEntry};
 ghost use Rattle.mon_page.specs.Cells.{newest_of, value_of, rate_of};
 ghost use Rattle.mon_page.specs.Freshness.{fresh, is_fresh};
 ghost use Rattle.mon_page.specs.Labelled.{Labelled as AnyLabelled, labelled};
@@ -111,13 +112,26 @@ fn label_texts<S: NameTexts>(
 {
     let mut texts = Vec::with_capacity(alloc, entries.len())?;
     for place in 0..entries.len() {
-        let labelled = Labelled {
-            instance: &entries[place],
-            labels: labels.get(place),
-        };
+        let labelled = labelled_at(entries, labels, place);
         texts.push(labels_of(alloc, names, labelled)?)?;
     }
     Ok(texts)
+}
+
+/// The instance at this place, with its labels.
+fn labelled_at<'a, 'e>(
+    entries: &'a [Entry<'e>],
+    labels: &'a [InstanceLabels],
+    place: usize,
+) -> Labelled<'a, 'e>
+    requires { place < length entries.now }
+    ensures instance { (other : AnEntry) → result.instance.now ≡ get_or entries.now place other }
+    ensures labels { option_map (λ l. l.now) result.labels ≡ slice_get labels.now place }
+{
+    Labelled {
+        instance: &entries[place],
+        labels: labels.get(place),
+    }
 }
 
 /// Adds the report of a running station.
@@ -132,7 +146,7 @@ fn put_running(
     ensures { (shown : List ℕ → List ℕ) (all : List AnyLabelled)
         → HaveLabels shown all plain.entry.entries.now plain.entry.labels.now
         → OnOk result (text.new.items
-            ≡ text.old.items ++ prometheus_report shown all (Some figures.now)) }
+        ≡ text.old.items ++ prometheus_report shown all (Some figures.now)) }
 {
     let listing = Listing {
         ages: figures.ages.as_slice(),
@@ -151,7 +165,7 @@ fn put_instances(alloc: Global, text: &mut Vec<u8>, listing: Listing) -> Result<
     ensures { (shown : List ℕ → List ℕ) (all : List AnyLabelled)
         → HaveLabels shown all listing.entry.entries.now listing.entry.labels.now
         → OnOk result (text.new.items ≡ text.old.items
-            ++ instances_text shown all (fresh listing.entry.limit listing.entry.ages.now all)) }
+        ++ instances_text shown all (fresh listing.entry.limit listing.entry.ages.now all)) }
 {
     put_metric(alloc, text, listing, Metric::Counted)?;
     put_metric(alloc, text, listing, Metric::Number)?;
@@ -172,7 +186,7 @@ fn put_metric(
     ensures { (shown : List ℕ → List ℕ) (all : List AnyLabelled)
         → HaveLabels shown all listing.entry.entries.now listing.entry.labels.now
         → OnOk result (text.new.items ≡ text.old.items
-            ++ metric_text metric shown (fresh listing.entry.limit listing.entry.ages.now all)) }
+        ++ metric_text metric shown (fresh listing.entry.limit listing.entry.ages.now all)) }
 {
     put_head(text, metric.name(), metric.help(), metric.kind())?;
     for place in 0..listing.entries.len() {
@@ -191,7 +205,7 @@ fn put_ages(text: &mut Vec<u8>, listing: Listing) -> Result<(), AllocError>
     ensures { (shown : List ℕ → List ℕ) (all : List AnyLabelled)
         → HaveLabels shown all listing.entry.entries.now listing.entry.labels.now
         → OnOk result (text.new.items
-            ≡ text.old.items ++ ages_text shown listing.entry.ages.now all) }
+        ≡ text.old.items ++ ages_text shown listing.entry.ages.now all) }
 {
     let metric = StationMetric::Age;
     put_head(text, metric.name(), metric.help(), metric.kind())?;

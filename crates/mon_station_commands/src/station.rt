@@ -422,13 +422,7 @@ fn run_round<
     H: Host,
     S: Shows<Snapshot> + Drop,
     O: Outbox + Drop,
->(
-    rt: &R,
-    host: &mut H,
-    live: &mut Live<S, O>,
-    number: u32,
-    saves: bool,
-) -> Result<(), Failure>
+>(rt: &R, host: &mut H, live: &mut Live<S, O>, number: u32, saves: bool) -> Result<(), Failure>
     ensures run { GoesOnBy (λ log. IsRoundRun number saves live.old.reports.printing
         live.old.reports.paths live.old.kept live.new.kept log result)
         (H.log host.old) (H.log host.new) }
