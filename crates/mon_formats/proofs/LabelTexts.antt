@@ -1,6 +1,6 @@
 -- The texts of the labels of instances, place by place.
-use Rattle.std.proofs.Common.{◌≡◌, ℕ, ◌+◌, ◌<◌, List, [], ◌∷◌, ◌++◌, map, length, take, get_or, slice_get, refl, sym, ap, ◌∙◌, None, Some, arith}
-use Rattle.std.proofs.lemmas.List.{get_or-map, length-map, map-append, take_more, take_all}
+use Rattle.std.proofs.Common.{◌≡◌, ℕ, ◌+◌, ◌<◌, List, [], ◌∷◌, ◌++◌, map, length, take, get_or, refl, sym, ap, ◌∙◌, arith}
+use Rattle.std.proofs.lemmas.List.{get_or-map, length-map, map-append, take_more}
 use Rattle.std.specs.Global.{Vec}
 use Rattle.mon_report.specs.Report.{Entry}
 use Rattle.mon_page.specs.declared.extras.InstanceLabels.{InstanceLabels}
