@@ -219,7 +219,7 @@ at_last n number rounds is so paths = last_of_all n rounds so (subst (λ (k : �
 pub all_run_as : (timing : Timing) (p : Printing) (paths : Paths) (start : Kept) (n number : ℕ) (p1 : Printing) (paths1 : Paths) (k after : Kept)
     (r : Result Unit Failure) (t0 t1 t2 : Option (List AtHost)) → number ≡ suc n → (suc n ≤ timing.rounds) ⊎ (suc n ≡ 1) → timing.rounds ≤ number → p1 ≡ p → paths1 ≡ paths
     → GoesOnBy (λ log. AreRounds timing p paths start n log k) t0 t1
-    → GoesOnBy (λ log. IsLastRun rounds p1 paths1 k after log r) t1 t2
+    → GoesOnBy (λ log. IsLastRun timing.rounds p1 paths1 k after log r) t1 t2
     → GoesOnBy (λ log. AreRun timing p paths start log after r) t0 t2
 all_run_as timing p paths start n number p1 paths1 k after r t0 t1 t2 count so over same sameo first last =
     all_run timing p paths start n k after r t0 t1 t2 (at_last n number timing.rounds count so over) first

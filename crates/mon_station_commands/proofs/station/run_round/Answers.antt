@@ -1,4 +1,4 @@
-use Rattle.std.proofs.Common.{◌∙◌, option_map, string_bytes, subst, true, map}
+use Rattle.std.proofs.Common.{◌∙◌, Bool, option_map, string_bytes, subst, true, map}
 use Rattle.std.specs.Prelude.{Result, Ok}
 use Rattle.mon_console.specs.declared.printing.Printing.{Printing}
 use Rattle.mon_host.specs.Log.{GoesOnBy}
@@ -30,8 +30,11 @@ returns-clause-run g c =
     let last = c.write_out.new.live.kept in
     let seen = map (λ w. w.items) looked.course.windows.items in
     let board = (state_of after.station.life).board in
-    let span = subst (λ (k : Kept). GoesOnBy (λ log. IsSpan (IsOfRound c.args.saves round.targets round.events after.run) (announced_notes live.reports.printing c.args.number board seen looked.course.announcer) c.args.number true k after.kept log) found ran) look.kept
-    (subst (λ (p : Printing). GoesOnBy (λ log. IsSpan (IsOfRound c.args.saves round.targets round.events after.run) (announced_notes p c.args.number board seen looked.course.announcer) c.args.number true looked.kept after.kept log) found ran) (λ i. (look.reports i).printing) c.in_ok-run_span.ensures.run) in
+    let Span : Bool → Printing → Kept → Type 0 = λ saves p k. GoesOnBy (λ log. IsSpan (IsOfRound saves round.targets round.events after.run) (announced_notes p c.args.number board seen looked.course.announcer) c.args.number true k after.kept log) found ran in
+    let span : Span c.args.saves live.reports.printing (let k : Kept = record live.kept { strayed = looked.kept.strayed } in k) =
+    subst (Span c.args.saves live.reports.printing) look.kept
+    (subst (λ (p : Printing). Span c.args.saves p looked.kept) (λ i. (look.reports i).printing)
+    (subst (λ (b : Bool). Span b looked.reports.printing looked.kept) (λ i. (c.set_saves.ensures.round i).saves) c.in_ok-run_span.ensures.run)) in
     round_is c.args.number c.args.saves live.reports.printing live.reports.paths round.targets round.events after.run live.kept after.kept last
     moment seen looked.course.announcer looked.kept.strayed (g.H.Host.log c.args.host.now) found ran end (c.run_span.ensures.printing ∙ (λ i. (look.reports i).printing)) (λ i. after.kept.round_at)
     c.write_out.ensures.kept look.looked span
@@ -51,5 +54,5 @@ returns-in_err-run_span-clause-run g c =
     round_fails c.args.number c.args.saves live.reports.printing live.reports.paths live.kept after.kept failure r start ran
     (failure_is r failure c.from_residual.ensures.1)
     (stopped_on failure start found ran (look_quiet c.args.number (string_bytes live.reports.paths.file) live.kept.strayed looked.kept.strayed start found c.keep_file.ensures.looked)
-    (span_stopped (IsOfRound c.args.saves round.targets round.events after.run) (announced_notes looked.reports.printing c.args.number (state_of after.station.life).board (map (λ w. w.items) looked.course.windows.items) looked.course.announcer) c.args.number true looked.kept after.kept failure found ran
+    (span_stopped (IsOfRound c.set_saves.new.self.round.saves round.targets round.events after.run) (announced_notes looked.reports.printing c.args.number (state_of after.station.life).board (map (λ w. w.items) looked.course.windows.items) looked.course.announcer) c.args.number true looked.kept after.kept failure found ran
     c.in_err-run_span.ensures.run))
