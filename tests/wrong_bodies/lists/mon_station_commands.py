@@ -715,8 +715,6 @@ BUGS = {
 
 # Those that break a promise as a whole, each with its function: tests/bodies tries them in the gate.
 PROMISES = {
-    "the_windows_of_a_round_before": "copying::copy_of",
-    "a_text_is_taken_away": "snapshot::Draft::make",
     "looks_at_alarms_between_rounds": "live::tell_changes",
     "never_looks_for_its_file": "station::run_round",
     "says_no_age": "opening::print_saved",
