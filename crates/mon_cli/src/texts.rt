@@ -209,8 +209,10 @@ serves it to Prometheus and browsers while the station runs.
 With --interval rounds begin at fixed times, and stations with peers poll one
 after another by the wall clock; --phase sets when. A report that cannot be
 written and a last save that failed end the command with status 1 once all
-rounds are done. --check prints how long a round may take and the limits of
-these settings, and starts nothing.
+rounds are done. A signal ends it at once, without a save: with --save-every a
+station without a peer then lacks what it took since the last one. --check
+prints how long a round may take and the limits of these settings, and starts
+nothing.
 
 Standard error says where it listens and by which incarnation, which alarms are
 raised at the start, which are raised or cleared later, and for each round which
