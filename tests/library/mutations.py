@@ -1,6 +1,7 @@
 """Datagrams made from good requests by changing their octets or their elements."""
 from models.messages import (
-    GET, GET_BULK, GET_NEXT, NAME, NUMBERS, OCTETS, SET, get, message, name_contents, spelled, spelled_name, spelled_number,
+    GET, GET_BULK, GET_NEXT, NAME, NUMBERS, OCTETS, SET, NoMessage, OtherVersion, get, message, name_contents, read, spelled, spelled_name,
+    spelled_number,
 )
 
 # A poll of the engine group and ifInOctets.1, and a Get of sysDescr.0, as they go over the wire.
@@ -10,6 +11,8 @@ POLL = bytes.fromhex(
 )
 ASK = bytes.fromhex("3026 020101 04067075626C6963 A019 020107 020100 020100 300E 300C06082B060102010101000500")
 NULL = b"\x05\x00"
+# Null with its length in two octets: an agent that answers in place what it can reads a request with this value as a message.
+LONG_NULL = b"\x05\x81\x00"
 
 # Communities so long that no response fits the limit of 484 octets: with the first tooBig does, with the second nothing.
 LONG, LONGEST = b"l" * 440, b"m" * 480
@@ -167,3 +170,15 @@ def mutated(random):
         if datagram:
             datagram = random.choice(STEPS)(datagram, random)
     return datagram
+
+
+def both_ways(datagram):
+    """The request for values that a datagram is, as it is answered in place, and as it is read as a message; nothing if it is none."""
+    try:
+        community, tag, numbers, bindings = read(datagram)
+    except (NoMessage, OtherVersion):
+        return []
+    if tag not in (GET, GET_NEXT, GET_BULK) or not bindings:
+        return []
+    names = [".".join(map(str, name)) for name, _, _ in bindings]
+    return [message(tag, community, numbers, zip(names, [first] + [NULL] * (len(names) - 1))) for first in (NULL, LONG_NULL)]

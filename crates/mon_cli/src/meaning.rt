@@ -65,7 +65,7 @@ pub struct Timing {
     pub phase: Option<u32>,
     /// After how many rounds each the report is printed; 0 for never.
     pub report_every: u32,
-    /// After how many rounds each all is saved, beside the last one; 1 if the arguments do not say.
+    /// After how many rounds each all is saved, besides the last one; 1 if the arguments do not say.
     pub save_every: u32,
 }
 

@@ -11,6 +11,6 @@ pub record HaveLabels (shown : List ℕ → List ℕ) (all : List Labelled) (ent
   pub are : map (λ i. i.0) all ≡ entries
   pub texts_are : map (instance_labels shown) all ≡ map (λ t. t.items) texts
 
--- the same of texts that were made
+-- the labels of these instances, by texts that were made
 abbrev pub AreLabelTexts : (List ℕ → List ℕ) → List Labelled → List Entry → Vec (Vec ℕ) → Type 0
 AreLabelTexts shown all entries texts = HaveLabels shown all entries texts.items

@@ -24,7 +24,7 @@ use Rattle.mon_station.specs.declared.running.SourceFault.{SourceFault}
 
 -- What is known of a round: where targets and peers are reached, how long a wait is and how often a
 -- poll is tried at most; whether the next round saves, and whether this one does; its phase and the
--- next wait, which is renewed if the last datagram was taken; how many datagrams, quiet waits with
+-- next wait, which is renewed if the last datagram was taken; how many datagrams, idle waits with
 -- timeouts, timeouts and failures it may still have; and its events so far.
 pub record RoundState : Type 0 where
   pub targets : List Addr

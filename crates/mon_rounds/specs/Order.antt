@@ -1,6 +1,6 @@
 -- The order of a round's events: each target is polled, what comes is received, each peer is
 -- offered what it is owed, what comes is received, and all is saved, if the round saves. After a
--- quiet wait with open polls each of them is timed out, by rising request-id, before the next wait.
+-- wait that ran out with open polls each of them is timed out, by rising request-id, before the next wait.
 use Rattle.std.specs.Prelude.{ℕ, zero, suc, ◌≡◌, ◌≤◌, ◌<◌, Bool, true, false, List, [], ◌∷◌, ◌++◌, All, map, take, length, sum_by}
 use Rattle.mon_rounds.specs.declared.round.Phase.{Phase}
 use Rattle.mon_rounds.specs.declared.round.Phase.TheVariants.{Polling, Hearing, TimingOut, Sharing, Listening, Over, Resting, Rested}
@@ -109,7 +109,7 @@ saved_by true = Save ∷ []
 saved_by false = []
 
 -- The events of a whole round: after that all was saved, if this round saves, and at most 4096
--- datagrams came. Polls were timed out after at most so many quiet waits, each at most once after
+-- datagrams came. Polls were timed out after at most this many idle waits, each at most once after
 -- each of them.
 pub record IsRound (targets most : ℕ) (peers : List ℕ) (saves : Bool) (events : List RoundEvent) : Type 0 where
   pub before : List RoundEvent
@@ -118,7 +118,7 @@ pub record IsRound (targets most : ℕ) (peers : List ℕ) (saves : Bool) (event
   pub few : datagrams_in events ≤ 4096
 
 -- the events of a round, which saves at its end or does not, or of the time between two, that is in
--- this phase, with timeouts after at most so many quiet waits so far
+-- this phase, with timeouts after at most this many idle waits so far
 abbrev pub AreSoFar : (targets most : ℕ) → List ℕ → (saves : Bool) → Phase → List RoundEvent → Type 0
 AreSoFar targets most peers saves (Polling target) events = (target < targets) × (events ≡ polls_of target)
 AreSoFar targets most peers saves Hearing events = HasPolled targets most events

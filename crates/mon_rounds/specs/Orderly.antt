@@ -52,7 +52,7 @@ most_waits Round r = 1 + (r.tries + listens_to r.peers)
 most_waits (Between milliseconds) r = 1
 
 -- what every round has, with capacity for this many events: its events are in the order of a round
--- that saves or does not, with as many quiet waits as are used up; it has at most 4096 datagrams
+-- that saves or does not, with as many idle waits as are used up; it has at most 4096 datagrams
 -- and knows how many are left, and there is capacity for all events that are still to come
 pub record IsOrderly (room : ℕ) (r : RoundState) : Type 0 where
   pub order : AreSoFar (length r.targets) (r.tries - r.quiets) r.peers r.saving r.phase r.events

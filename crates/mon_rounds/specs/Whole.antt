@@ -50,7 +50,7 @@ pub record HasSame (old new : RoundState) : Type 0 where
 
 -- These events are those of a whole round over the same targets and peers: each target is polled,
 -- what comes is received and what is not answered times out, each peer is offered what it is owed,
--- what comes is received, and all is saved, if that was said of the next round before it began.
+-- what comes is received, and all is saved, if that was said of the next round before it started.
 pub record IsWholeRound (old new : RoundState) (given : List OwnedEvent) : Type 0 where
   pub same : HasSame old new
   pub over : new.phase ≡ Over

@@ -6,7 +6,7 @@
 //! Contract: a round polls each target, receives, offers each peer what it is owed, receives again
 //! and saves, in this order; after `Rounds::set_saves(false)` it ends without a save. What it gives
 //! a station is fixed by what its receiver got. Only a datagram that was taken renews a wait, after
-//! a quiet wait each open poll is timed out once, and so a round ends soon whatever comes.
+//! an idle wait each open poll is timed out once, and so a round ends soon whatever comes.
 #![tactic(auto)]
 
 mod addresses;

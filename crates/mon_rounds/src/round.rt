@@ -70,9 +70,9 @@ pub struct Round {
     addresses: Addresses,
     wait_ms: u32,
     tries: u32,
-    /// Whether the next round saves.
+    /// The next round saves.
     saves: bool,
-    /// Whether this round saves.
+    /// This round saves.
     saving: bool,
     phase: Phase,
     wait: Wait,

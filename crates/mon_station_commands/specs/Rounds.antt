@@ -139,7 +139,7 @@ AreRounds timing printing paths start zero log after = AreQuiet log × (after �
 AreRounds timing printing paths start (suc n) log after =
     IsOneMore (AreRounds timing printing paths start n) (suc n) timing printing paths log after
 
--- the last of so many rounds, if there are any, at whose end all is saved
+-- the last of these rounds, if there are any, at whose end all is saved
 abbrev pub IsLast : (rounds : ℕ) → Printing → (paths : Paths) → (before after : Kept)
     → List AtHost → Type 0
 IsLast zero printing paths before after log = (log ≡ []) × (after ≡ before)

@@ -1,4 +1,4 @@
--- What a station shows over HTTP as of one moment.
+-- What a station shows over HTTP, as it was at one time.
 use Rattle.std.specs.Prelude.{◌≡◌, ℕ, false, true, List, Some}
 use Rattle.mon_console.specs.Shown.{shown_by}
 use Rattle.mon_formats.specs.Formats.{formatted}

@@ -96,7 +96,7 @@ fn memory_of(alloc: Global, before: Option<Snapshot>) -> (Drafts, Option<Board>)
     }
 }
 
-/// Returns what texts are made of, as it is now, in the memory of a board.
+/// Returns what texts are built from, as it is now, in the memory of a board.
 fn source_of<S: Receiver + Drop, O: Outbox + Drop>(
     alloc: Global,
     live: &Live<S, O>,

@@ -1,5 +1,5 @@
-//! What a station shows over HTTP: what its texts are made of, as of one moment, and those that were
-//! asked for since.
+//! What a station shows over HTTP: what its texts are built from, as it was at one time, and the texts
+//! that were asked for since.
 
 ghost use Rattle.std.specs.Prelude.{◌≡◌, IfOk, OnOk, false, true};
 ghost use Rattle.mon_station_commands.specs.Snapshot.{AreBlank, AreRight, IsRight, draft_for, report_of, texts_of};
@@ -13,7 +13,7 @@ use mon_web::{Content, Text};
 use std::alloc::{AllocError, Global};
 use std::mem;
 
-/// What texts are made of: a station's windows, and what it says of itself, as of one moment.
+/// What texts are built from: a station's windows, and what it says of itself, at one time.
 pub(crate) struct Source {
     pub(crate) board: Board,
     /// What was announced of the alarms, in the order of the rules.
@@ -139,7 +139,7 @@ impl Drafts {
     }
 }
 
-/// What a station shows, as of one moment.
+/// What a station shows, as it was at one time.
 pub(crate) struct Snapshot {
     source: Source,
     drafts: Drafts,

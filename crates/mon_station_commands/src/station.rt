@@ -396,7 +396,7 @@ fn run_all<
     run_last(rt, host, live, timing.rounds)
 }
 
-/// Runs the last of so many rounds, if there are any; at its end all is saved.
+/// Runs the last of these rounds, if there are any; at its end all is saved.
 fn run_last<
     R: Files<File = File> + AllocGlobal,
     H: Host,

@@ -12,7 +12,7 @@ use Rattle.mon_web.specs.declared.content.Text.TheVariants as texts
 use Rattle.mon_web.specs.declared.site.Ended.{Ended}
 use Rattle.mon_web.specs.declared.site.Site.{Site}
 
--- what a site answers by: the names of hosts that it serves, beside localhost and addresses; what its
+-- what a site answers by: the names of hosts that it serves, besides localhost and addresses; what its
 -- texts say, if it has any; the end of the last round, and how long after it the station is healthy
 pub record View : Type 0 where
   pub names : List (List ℕ)

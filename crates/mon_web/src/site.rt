@@ -33,9 +33,9 @@ impl Ended {
 
 /// What is shown: the texts, and whether rounds end in time; and by which names.
 pub struct Site<C> {
-    /// The names of the host that are served, beside `localhost` and addresses.
+    /// The names of the host that are served, besides `localhost` and addresses.
     pub(crate) names: Vec<String>,
-    /// What the texts are made of. None if there was no memory for it.
+    /// What the texts are built from. None if there was no memory for it.
     pub(crate) content: Option<C>,
     /// The end of the last round, if any ended.
     pub(crate) ended: Option<Ended>,
@@ -73,14 +73,14 @@ impl<C: Content> Site<C> {
         }
     }
 
-    /// Returns the names that are served, beside `localhost` and addresses.
+    /// Returns the names that are served, besides `localhost` and addresses.
     pub(crate) fn names(&self) -> &[String]
         ensures { result.now ≡ self.now.names.items }
     {
         self.names.as_slice()
     }
 
-    /// Replaces what the texts are made of; by nothing if there was no memory for it.
+    /// Replaces what the texts are built from; by nothing if there was no memory for it.
     pub fn show(&mut self, content: Option<C>)
         ensures content { self.new.content ≡ content }
         ensures ended { self.new.ended ≡ self.old.ended }
@@ -90,7 +90,7 @@ impl<C: Content> Site<C> {
         self.content = content;
     }
 
-    /// Takes away what the texts are made of, so that its buffers serve again. Until it is shown
+    /// Takes away what the texts are built from, so that its buffers serve again. Until it is shown
     /// there are no texts.
     pub fn take_content(&mut self) -> Option<C>
         ensures taken { result ≡ self.old.content }

@@ -51,7 +51,7 @@ impl<C: Content> Web<C> {
         &self.table.site
     }
 
-    /// Replaces what the texts that are shown are made of; by nothing if there was no memory for it.
+    /// Replaces what the texts that are shown are built from; by nothing if there was no memory for it.
     pub fn show(&mut self, content: Option<C>)
         ensures { view_of C.says self.new.table.site
             ≡ with_texts (option_map C.says content) (view_of C.says self.old.table.site) }
@@ -59,7 +59,7 @@ impl<C: Content> Web<C> {
         self.table.site.show(content);
     }
 
-    /// Takes away what the texts are made of, so that its buffers serve again. Until it is shown
+    /// Takes away what the texts are built from, so that its buffers serve again. Until it is shown
     /// there are no texts.
     pub fn take_content(&mut self) -> Option<C>
         ensures taken { result ≡ self.old.table.site.content }
