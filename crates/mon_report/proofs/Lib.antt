@@ -3,4 +3,5 @@ pub mod Loops
 pub mod Entries
 pub mod Ends
 mod Changing
+mod Seen
 mod States

@@ -1,5 +1,6 @@
 -- A board's alarms, and what became of them.
-use Rattle.std.specs.Prelude.{ℕ, ◌+◌, List, [], ◌∷◌, ◌++◌, map}
+use Rattle.std.specs.Prelude.{◌≡◌, ℕ, ◌+◌, ◌<◌, ◌≤◌, List, [], ◌∷◌, ◌++◌, length, map, slice_index_or, vec_capacity}
+use Rattle.std.specs.Global.{Vec}
 use Rattle.mon_alarms.specs.declared.alarm.AlarmState.{AlarmState}
 use Rattle.mon_alarms.specs.declared.change.AlarmChange.{AlarmChange}
 use Rattle.mon_alarms.specs.Changes.{changes_of, raised_now}
@@ -15,6 +16,12 @@ samples_for b r = rising (window_of b r.instance)
 -- the windows of a board's rules, in the order of the watch
 abbrev pub windows_of : Board → List (List ℕ)
 windows_of b = map (samples_for b) b.watch.rules
+
+-- there is a window for each of a board's rules, with memory for its samples
+pub record HaveRoom (b : Board) (windows : List (Vec ℕ)) : Type 0 where
+  pub number : length windows ≡ length b.watch.rules
+  pub each : (i : ℕ) (r : Rule) (w : Vec ℕ) → i < length b.watch.rules
+      → length (samples_for b (slice_index_or b.watch.rules i r)) ≤ vec_capacity (slice_index_or windows i w)
 
 -- the state of each of a board's rules over its window, in the order of the watch
 abbrev pub states_of : Board → List AlarmState

@@ -10,7 +10,7 @@ mod line;
 mod report;
 mod writing;
 
-pub use alarms::{Alarm, alarm_changes, alarm_states, raised_alarms, seen_windows};
+pub use alarms::{Alarm, alarm_changes, alarm_states, raised_alarms, see_windows, seen_windows};
 pub use fault::ReportFault;
 pub use line::{write_end, write_rate};
 pub use report::{Entry, announced_entries, entries_of, write_entry, write_report, write_rest};

@@ -3,13 +3,13 @@
 BUGS = {
     "sees_empty_windows": (
         "src/alarms.rt",
-        "        windows.push(Vec::from_slice(alloc, board.items(rule.instance()))?)?;",
+        "        windows.push(seen_window(alloc, board, rule.instance())?)?;",
         "        let _ = rule;\n        windows.push(Vec::new(alloc))?;",
     ),
     "sees_the_first_window_always": (
         "src/alarms.rt",
-        "        windows.push(Vec::from_slice(alloc, board.items(rule.instance()))?)?;",
-        "        windows.push(Vec::from_slice(alloc, board.items(rules[0].instance()))?)?;\n        let _ = rule;",
+        "        windows.push(seen_window(alloc, board, rule.instance())?)?;",
+        "        windows.push(seen_window(alloc, board, rules[0].instance())?)?;\n        let _ = rule;",
     ),
     "tells_no_change": (
         "src/alarms.rt",
@@ -53,8 +53,8 @@ BUGS = {
     ),
     "the_first_raised_alarm_alone": (
         "src/alarms.rt",
-        "    for number in 0..rules.len() {",
-        "    for number in 0..rules.len().min(1) {",
+        "    for number in 0..rules.len() {\n        let rule",
+        "    for number in 0..rules.len().min(1) {\n        let rule",
     ),
     "raised_by_the_first_instance": (
         "src/alarms.rt",
@@ -167,8 +167,8 @@ BUGS = {
     ),
     "leaves_out_alarms_without_samples": (
         "src/alarms.rt",
-        "        windows.push(Vec::from_slice(alloc, board.items(rule.instance()))?)?;",
-        "        if board.items(rule.instance()).is_empty() {\n            continue;\n        }\n        windows.push(Vec::from_slice(alloc, board.items(rule.instance()))?)?;",
+        "        windows.push(seen_window(alloc, board, rule.instance())?)?;",
+        "        if board.items(rule.instance()).is_empty() {\n            continue;\n        }\n        windows.push(seen_window(alloc, board, rule.instance())?)?;",
     ),
     "ends_at_the_first_rule_that_changed": (
         "src/alarms.rt",
@@ -179,6 +179,48 @@ BUGS = {
         "src/alarms.rt",
         "rule, was, is)?;",
         "rule, was, &is[is.len().saturating_sub(1)..])?;",
+    ),
+    "keeps_what_was_seen": ("src/alarms.rt", "    copy_each(board, seen);\n", ""),
+    "sees_one_window": (
+        "src/alarms.rt",
+        "    for number in 0..rules.len() {\n        replace(",
+        "    for number in 0..rules.len().min(1) {\n        replace(",
+    ),
+    "copies_the_first_window_to_all": (
+        "src/alarms.rt",
+        "board.items(rules[number].instance()));",
+        "board.items(rules[0].instance()));",
+    ),
+    "copies_by_the_rules_number": (
+        "src/alarms.rt",
+        "board.items(rules[number].instance()));",
+        "board.items(number as u16));",
+    ),
+    "adds_to_what_was_seen": ("src/alarms.rt", "    window.clear();\n", "    let _ = window.len();\n"),
+    "lets_windows_go_before_there_is_memory": (
+        "src/alarms.rt",
+        "        *seen = seen_windows(alloc, board)?;",
+        "        seen.clear();\n        *seen = seen_windows(alloc, board)?;",
+    ),
+    "sees_none_where_memory_is_missing": (
+        "src/alarms.rt",
+        "        *seen = seen_windows(alloc, board)?;",
+        "        *seen = Vec::new(alloc);",
+    ),
+    "memory_for_one_less": (
+        "src/alarms.rt",
+        "windows[number].capacity() < items.len()",
+        "windows[number].capacity() + 1 < items.len()",
+    ),
+    "more_windows_than_rules": (
+        "src/alarms.rt",
+        "if windows.len() != rules.len() {",
+        "if windows.len() < rules.len() {",
+    ),
+    "looks_at_the_memory_of_the_first_window": (
+        "src/alarms.rt",
+        "windows[number].capacity() <",
+        "windows[0].capacity() <",
     ),
     "no_state_is_the_announced_one": (
         "src/report.rt",
