@@ -3,11 +3,16 @@ import os
 import resource
 import socket
 import subprocess
+import sys
 import time
 from dataclasses import dataclass
 from pathlib import Path
 
 TOP = Path(__file__).resolve().parent.parent
+sys.path.append(str(TOP / "tests"))
+from models import images  # noqa: E402
+from models import slots  # noqa: E402
+
 PROGRAM = TOP / "crates/snmpmon/out/snmpmon"
 ENGINE = "8000000001"
 TICKS = os.sysconf("SC_CLK_TCK")
@@ -111,6 +116,23 @@ def targets(agents, at_once=4, marks=True):
     """The settings of targets for all interfaces of some agents, so many interfaces in each poll."""
     cut = [(agent, agent[2][first : first + at_once]) for agent in agents for first in range(0, len(agent[2]), at_once)]
     return "".join(target(agent, interfaces, marks) for agent, interfaces in cut)
+
+
+def instances(interface):
+    return [f"{column}.{interface}" for column in COLUMNS]
+
+
+def full_image(net, window):
+    """An image in which each window is full, with samples of before the agents' start."""
+    records = [(0).to_bytes(4, "big") + time.to_bytes(4, "big") + bytes(4) + b"\x46" + bytes(8) for time in range(window)]
+    names = sorted((bytes.fromhex(engine), tuple(map(int, name.split(".")))) for _, engine, its in net.agents for i in its for name in instances(i))
+    watch = [images.Watched(engine, name, window, window) for engine, name in names]
+    return images.written(2, watch, 1, [(window, window, records)] * len(watch))
+
+
+def fill(net, file, window):
+    """Makes a station's file in which each window is full."""
+    file.write_bytes(slots.saved(slots.laid_out(b""), full_image(net, window)))
 
 
 def used_by(process):
