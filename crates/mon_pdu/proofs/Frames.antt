@@ -16,14 +16,17 @@ use Rattle.mon_ber.specs.Sequence.{AreSpelled}
 use Rattle.mon_ber.proofs.Promised.{bind_ok, wanted, ok_is, pair_is, IsBytes, contents_takes, contents_again, element_takes, element_again, value_takes, value_again, integer_at_takes, integer_at_again, octets_at_takes, octets_at_again, IsBytes-after, IsBytes-inside}
 use Rattle.mon_pdu.specs.declared.message.Binding.{Binding}
 use Rattle.mon_pdu.specs.declared.message.PduKind.{PduKind}
-use Rattle.mon_pdu.specs.declared.message.Body.TheVariants.{Pdu}
+use Rattle.mon_pdu.specs.declared.message.Body.TheVariants.{Pdu, Bulk}
+use Rattle.mon_pdu.specs.declared.message.Body.{Body}
+use Rattle.mon_pdu.specs.declared.message.Bulk.{Bulk as AnyBulk}
 use Rattle.mon_pdu.specs.declared.message.Message.{Message}
 use Rattle.mon_pdu.specs.declared.message.Pdu.{Pdu as AnyPdu}
+use Rattle.mon_pdu.specs.declared.frame.BulkFrame.{BulkFrame}
 use Rattle.mon_pdu.specs.declared.frame.Frame.{Frame}
 use Rattle.mon_pdu.specs.Kinds.{octet_of, kind_of}
 use Rattle.mon_pdu.specs.Reading.{is_one}
-use Rattle.mon_pdu.specs.Grammar.{IsBinding, IsBody, BeginsWithMessage}
-use Rattle.mon_pdu.specs.Framed.{Held, framed, held, IsPduFrame, BeginsWithFrame, fields_of, kind_at, frame_of, frame_at}
+use Rattle.mon_pdu.specs.Grammar.{tag_of, first_of, second_of, third_of, bindings_of, IsBinding, BeginsWithMessage}
+use Rattle.mon_pdu.specs.Framed.{Held, BulkHeld, AnyHeld, framed, bulk_framed, held, bulk_held, IsPduFrame, BeginsWithAny, BeginsWithFrame, BeginsWithBulkFrame, fields_of, octet_at, any_of, any_at, frame_at, bulk_frame_at}
 use Rattle.mon_pdu.proofs.Messages.{kind_is, kind_again}
 use Rattle.mon_pdu.proofs.Whole.{is_one_true}
 
@@ -94,55 +97,42 @@ fields_again first second third list held a b c one two three is =
     let last : element_at 0x30 list ≡ Ok (held, []) = ap (element_at 0x30) (sym (append-nil list)) ∙ element_again 0x30 held list [] is in
     rw (integer_at_again first a (second ++ (third ++ list)) one, integer_at_again second b (third ++ list) two, integer_at_again third c list three, last) refl
 
--- the octet in front is the tag of the kind that was read
-kind_takes : (bytes : List ℕ) (k : PduKind) (rest : List ℕ) → kind_at bytes ≡ Ok (k, rest) → bytes ≡ octet_of k ∷ rest
-unfolding kind_at
-kind_takes [] k rest e = absurd cc
-kind_takes (t ∷ bs) k rest e =
-    elim (kind_of t) as (λ o. kind_of t ≡ o → by_kind o ≡ Ok (k, rest) → t ∷ bs ≡ octet_of k ∷ rest) [
-      | Some kind ↦ λ o e. (
-          let is = pair_is {E = BerFault} kind bs k rest e in
-          ap (λ (b : ℕ). b ∷ bs) (kind_is t kind o) ∙ ap (λ (j : PduKind). octet_of j ∷ bs) is.0 ∙ ap (λ (w : List ℕ). octet_of k ∷ w) is.1)
-      | None ↦ λ o e. absurd cc
-    ] refl e
-  where
-    by_kind : Option PduKind → Result (PduKind × List ℕ) BerFault
-    by_kind o = elim o [ Some kind ↦ Ok (kind, bs) | None ↦ Err BadTag ]
-
-kind_at_again : (k : PduKind) (rest : List ℕ) → kind_at (octet_of k ∷ rest) ≡ Ok (k, rest)
-unfolding kind_at
-kind_at_again k rest = rw (kind_again k, kind_at) refl
+-- the octet in front was read
+octet_takes : (bytes : List ℕ) (t : ℕ) (rest : List ℕ) → octet_at bytes ≡ Ok (t, rest) → bytes ≡ t ∷ rest
+unfolding octet_at
+octet_takes [] t rest e = absurd cc
+octet_takes (b ∷ bs) t rest e = (let is = pair_is {E = BerFault} b bs t rest e in λ i. is.0 i ∷ is.1 i)
 
 -- ---- the contents of a message
 
 -- what is read behind the tag of the PDU
-abbrev behind_kind : List ℕ → PduKind × List ℕ → Result Held BerFault
-behind_kind community kind = contents_at kind.1 >>= λ element. cond (eqb (length element.1) 0) (fields_of element.0 >>= λ f. Ok (community, kind.0, f.0, f.1, f.2, f.3)) (Err BadLength)
+abbrev behind_tag : List ℕ → ℕ × List ℕ → Result AnyHeld BerFault
+behind_tag community tag = contents_at tag.1 >>= λ element. cond (eqb (length element.1) 0) (fields_of element.0 >>= λ f. Ok (community, tag.0, f.0, f.1, f.2, f.3)) (Err BadLength)
 
 -- what is read behind the version
-abbrev behind_version : List ℕ → Result Held BerFault
-behind_version bytes = element_at 0x04 bytes >>= λ community. kind_at community.1 >>= behind_kind community.0
+abbrev behind_version : List ℕ → Result AnyHeld BerFault
+behind_version bytes = element_at 0x04 bytes >>= λ community. octet_at community.1 >>= behind_tag community.0
 
 -- what the frame holds of the PDU was spelled
-body_takes : (bytes community : List ℕ) (kind : PduKind × List ℕ) (h : Held) → IsBytes bytes → bytes ≡ octet_of kind.0 ∷ kind.1 → behind_kind community kind ≡ Ok h → (h.0 ≡ community) × IsPduFrame bytes h
-body_takes bytes community kind h fits begins e =
-    let x = bind_ok (contents_at kind.1) (λ element. cond (eqb (length element.1) 0) (fields_of element.0 >>= λ f. Ok (community, kind.0, f.0, f.1, f.2, f.3)) (Err BadLength)) h e in
+body_takes : (bytes community : List ℕ) (tag : ℕ × List ℕ) (h : AnyHeld) → IsBytes bytes → bytes ≡ tag.0 ∷ tag.1 → behind_tag community tag ≡ Ok h → (h.0 ≡ community) × IsPduFrame bytes h
+body_takes bytes community tag h fits begins e =
+    let x = bind_ok (contents_at tag.1) (λ element. cond (eqb (length element.1) 0) (fields_of element.0 >>= λ f. Ok (community, tag.0, f.0, f.1, f.2, f.3)) (Err BadLength)) h e in
     let element = x.0 in
-    let end = nothing_left element.1 (fields_of element.0 >>= λ f. Ok (community, kind.0, f.0, f.1, f.2, f.3)) h x.2 in
-    let y = bind_ok (fields_of element.0) (λ f. Ok (community, kind.0, f.0, f.1, f.2, f.3)) h end.1 in
+    let end = nothing_left element.1 (fields_of element.0 >>= λ f. Ok (community, tag.0, f.0, f.1, f.2, f.3)) h x.2 in
+    let y = bind_ok (fields_of element.0) (λ f. Ok (community, tag.0, f.0, f.1, f.2, f.3)) h end.1 in
     let f = y.0 in
-    let made : Held = (community, kind.0, f.0, f.1, f.2, f.3) in
+    let made : AnyHeld = (community, tag.0, f.0, f.1, f.2, f.3) in
     let same : made ≡ h = ok_is made h y.2 in
-    let c = contents_takes kind.1 element.0 element.1 x.1 in
-    let whole : bytes ≡ octet_of kind.0 ∷ c.0 ++ element.0 = begins ∙ ap (λ (w : List ℕ). octet_of kind.0 ∷ w) (c.2 ∙ ap (λ (w : List ℕ). c.0 ++ (element.0 ++ w)) end.0 ∙ ap (λ (w : List ℕ). c.0 ++ w) (append-nil element.0)) in
-    let shape : IsElement (octet_of kind.0) element.0 bytes = record { len = c.0; spelled = c.1; whole = whole } in
-    let inside = IsBytes-inside (octet_of kind.0) bytes element.0 bytes [] fits (sym (append-nil bytes)) shape in
+    let c = contents_takes tag.1 element.0 element.1 x.1 in
+    let whole : bytes ≡ tag.0 ∷ c.0 ++ element.0 = begins ∙ ap (λ (w : List ℕ). tag.0 ∷ w) (c.2 ∙ ap (λ (w : List ℕ). c.0 ++ (element.0 ++ w)) end.0 ∙ ap (λ (w : List ℕ). c.0 ++ w) (append-nil element.0)) in
+    let shape : IsElement (tag.0) element.0 bytes = record { len = c.0; spelled = c.1; whole = whole } in
+    let inside = IsBytes-inside (tag.0) bytes element.0 bytes [] fits (sym (append-nil bytes)) shape in
     let p = fields_take element.0 f inside y.1 in
-    subst (λ (g : Held). (g.0 ≡ community) × IsPduFrame bytes g) same
-    (refl, record { first = p.first; second = p.second; third = p.third; list = p.list; element = subst (λ (w : List ℕ). IsElement (octet_of kind.0) w bytes) p.whole shape; spelled_first = p.spelled_first; spelled_second = p.spelled_second; spelled_third = p.spelled_third; spelled_list = p.spelled_list })
+    subst (λ (g : AnyHeld). (g.0 ≡ community) × IsPduFrame bytes g) same
+    (refl, record { first = p.first; second = p.second; third = p.third; list = p.list; element = subst (λ (w : List ℕ). IsElement (tag.0) w bytes) p.whole shape; spelled_first = p.spelled_first; spelled_second = p.spelled_second; spelled_third = p.spelled_third; spelled_list = p.spelled_list })
 
 -- the contents of a message except its variable bindings
-record AreContents (contents : List ℕ) (h : Held) : Type 0 where
+record AreContents (contents : List ℕ) (h : AnyHeld) : Type 0 where
   version : List ℕ
   community : List ℕ
   pdu : List ℕ
@@ -152,21 +142,21 @@ record AreContents (contents : List ℕ) (h : Held) : Type 0 where
   spelled_pdu : IsPduFrame pdu h
 
 -- so was what it holds of the message
-contents_take : (contents : List ℕ) (h : Held) → IsBytes contents → frame_of contents ≡ Ok h → AreContents contents h
-unfolding frame_of
+contents_take : (contents : List ℕ) (h : AnyHeld) → IsBytes contents → any_of contents ≡ Ok h → AreContents contents h
+unfolding any_of
 contents_take contents h fits e =
     let x = bind_ok (integer_at contents) (λ version. cond (is_one version.0) (behind_version version.1) (Err OutOfRange)) h e in
     let version = x.0 in
     let g = wanted (is_one version.0) OutOfRange (behind_version version.1) h x.2 in
-    let y = bind_ok (element_at 0x04 version.1) (λ community. kind_at community.1 >>= behind_kind community.0) h g.1 in
+    let y = bind_ok (element_at 0x04 version.1) (λ community. octet_at community.1 >>= behind_tag community.0) h g.1 in
     let community = y.0 in
-    let z = bind_ok (kind_at community.1) (behind_kind community.0) h y.2 in
-    let kind = z.0 in
+    let z = bind_ok (octet_at community.1) (behind_tag community.0) h y.2 in
+    let tag = z.0 in
     let t1 = integer_at_takes contents version.0 version.1 fits x.1 in
     let fits1 = IsBytes-after contents t1.0 version.1 fits t1.2 in
     let t2 = octets_at_takes version.1 community.0 community.1 y.1 in
     let fits2 = IsBytes-after version.1 t2.0 community.1 fits1 t2.2 in
-    let body = body_takes community.1 community.0 kind h fits2 (kind_takes community.1 kind.0 kind.1 z.1) z.2 in
+    let body = body_takes community.1 community.0 tag h fits2 (octet_takes community.1 tag.0 tag.1 z.1) z.2 in
     record {
       version = t1.0;
       community = t2.0;
@@ -178,21 +168,21 @@ contents_take contents h fits e =
     }
 
 -- the frame of a message is read
-message_again : (h : Held) (version community pdu : List ℕ) → Spells version (Integer (pos 1)) → Spells community (Octets h.0) → IsPduFrame pdu h → frame_of (version ++ (community ++ pdu)) ≡ Ok h
-unfolding frame_of
+message_again : (h : AnyHeld) (version community pdu : List ℕ) → Spells version (Integer (pos 1)) → Spells community (Octets h.0) → IsPduFrame pdu h → any_of (version ++ (community ++ pdu)) ≡ Ok h
+unfolding any_of octet_at
 message_again h version community pdu one spelled is =
     let e = is.element in
     let contents : List ℕ = is.first ++ (is.second ++ (is.third ++ is.list)) in
-    let kind : kind_at pdu ≡ Ok (h.1, e.len ++ contents) = ap kind_at e.whole ∙ kind_at_again h.1 (e.len ++ contents) in
+    let tag : octet_at pdu ≡ Ok (h.1, e.len ++ contents) = ap octet_at e.whole in
     let inside : contents_at (e.len ++ contents) ≡ Ok (contents, []) = ap (λ (w : List ℕ). contents_at (e.len ++ w)) (sym (append-nil contents)) ∙ contents_again e.len contents [] e.spelled in
-    rw (integer_at_again version (pos 1) (community ++ pdu) one, octets_at_again community h.0 pdu spelled, kind, inside, fields_again is.first is.second is.third is.list h.5 h.2 h.3 h.4 is.spelled_first is.spelled_second is.spelled_third is.spelled_list) refl
+    rw (integer_at_again version (pos 1) (community ++ pdu) one, octets_at_again community h.0 pdu spelled, tag, inside, fields_again is.first is.second is.third is.list h.5 h.2 h.3 h.4 is.spelled_first is.spelled_second is.spelled_third is.spelled_list) refl
 
 -- ---- what the call promises
 
-frame_takes : (bytes : List ℕ) (h : Held) → IsBytes bytes → frame_at bytes ≡ Ok h → BeginsWithFrame bytes h
-unfolding frame_at
-frame_takes bytes h fits e =
-    let x = bind_ok (element_at 0x30 bytes) (λ element. frame_of element.0) h e in
+any_takes : (bytes : List ℕ) (h : AnyHeld) → IsBytes bytes → any_at bytes ≡ Ok h → BeginsWithAny bytes h
+unfolding any_at
+any_takes bytes h fits e =
+    let x = bind_ok (element_at 0x30 bytes) (λ element. any_of element.0) h e in
     let element = x.0 in
     let t = element_takes 0x30 bytes element.0 element.1 x.1 in
     let inside = IsBytes-inside 0x30 bytes element.0 t.0 element.1 fits t.2 t.1 in
@@ -204,15 +194,52 @@ frame_takes bytes h fits e =
       spelled = record { version = r.version; community = r.community; pdu = r.pdu; element = subst (λ (w : List ℕ). IsElement 0x30 w t.0) r.whole t.1; spelled_version = r.spelled_version; spelled_community = r.spelled_community; spelled_pdu = r.spelled_pdu };
     }
 
+any_again : (bytes : List ℕ) (h : AnyHeld) → BeginsWithAny bytes h → any_at bytes ≡ Ok h
+unfolding any_at
+any_again bytes h is =
+    let s = is.spelled in
+    ap any_at is.whole ∙ rw (element_again 0x30 (s.version ++ (s.community ++ s.pdu)) is.text is.rest s.element) (message_again h s.version s.community s.pdu s.spelled_version s.spelled_community s.spelled_pdu)
+
+-- what is read of a frame whose tag means this kind, or none
+abbrev of_kind : AnyHeld → Option PduKind → Result Held BerFault
+of_kind f o = elim o [ Some kind ↦ Ok (f.0, kind, f.2, f.3, f.4, f.5) | None ↦ Err BadTag ]
+
+frame_takes : (bytes : List ℕ) (h : Held) → IsBytes bytes → frame_at bytes ≡ Ok h → BeginsWithFrame bytes h
+unfolding frame_at
+frame_takes bytes h fits e =
+    let x = bind_ok (any_at bytes) (λ f. of_kind f (kind_of f.1)) h e in
+    elim (kind_of x.0.1) as (λ o. kind_of x.0.1 ≡ o → of_kind x.0 o ≡ Ok h → BeginsWithFrame bytes h) [
+      | Some kind ↦ λ o e. (
+          let same : (x.0.0, kind, x.0.2, x.0.3, x.0.4, x.0.5) ≡ h = ok_is _ h e in
+          let tag : x.0.1 ≡ octet_of kind = kind_is x.0.1 kind o in
+          subst (λ (g : Held). BeginsWithFrame bytes g) same
+          (subst (λ (t : ℕ). BeginsWithAny bytes (x.0.0, t, x.0.2, x.0.3, x.0.4, x.0.5)) tag (any_takes bytes x.0 fits x.1)))
+      | None ↦ λ o e. absurd cc
+    ] refl x.2
+
 frame_again : (bytes : List ℕ) (h : Held) → BeginsWithFrame bytes h → frame_at bytes ≡ Ok h
 unfolding frame_at
 frame_again bytes h is =
-    let s = is.spelled in
-    ap frame_at is.whole ∙ rw (element_again 0x30 (s.version ++ (s.community ++ s.pdu)) is.text is.rest s.element) (message_again h s.version s.community s.pdu s.spelled_version s.spelled_community s.spelled_pdu)
+    ap (λ (r : Result AnyHeld BerFault). r >>= λ f. of_kind f (kind_of f.1)) (any_again bytes (h.0, octet_of h.1, h.2, h.3, h.4, h.5) is)
+    ∙ ap (of_kind (h.0, octet_of h.1, h.2, h.3, h.4, h.5)) (kind_again h.1)
+
+bulk_takes : (bytes : List ℕ) (h : BulkHeld) → IsBytes bytes → bulk_frame_at bytes ≡ Ok h → BeginsWithBulkFrame bytes h
+unfolding bulk_frame_at
+bulk_takes bytes h fits e =
+    let x = bind_ok (any_at bytes) (λ f. cond (eqb f.1 0xa5) (Ok (f.0, f.2, f.3, f.4, f.5)) (Err BadTag)) h e in
+    let g = wanted (eqb x.0.1 0xa5) BadTag (Ok (x.0.0, x.0.2, x.0.3, x.0.4, x.0.5)) h x.2 in
+    let same : (x.0.0, x.0.2, x.0.3, x.0.4, x.0.5) ≡ h = ok_is _ h g.1 in
+    subst (λ (g : BulkHeld). BeginsWithBulkFrame bytes g) same
+    (subst (λ (t : ℕ). BeginsWithAny bytes (x.0.0, t, x.0.2, x.0.3, x.0.4, x.0.5)) (eqb-true x.0.1 0xa5 g.0) (any_takes bytes x.0 fits x.1))
+
+bulk_again : (bytes : List ℕ) (h : BulkHeld) → BeginsWithBulkFrame bytes h → bulk_frame_at bytes ≡ Ok h
+unfolding bulk_frame_at
+bulk_again bytes h is = rw (any_again bytes (h.0, 0xa5, h.1, h.2, h.3, h.4) is) refl
 
 -- where its octets spell variable bindings, a frame and these are a message
-message_is : (bytes : List ℕ) (f : Frame) (bs : List Binding) → BeginsWithFrame bytes (held f) → AreSpelled IsBinding f.list.now bs → BeginsWithMessage bytes (framed f bs)
-message_is bytes f bs is each =
+message_is : (bytes : List ℕ) (h : AnyHeld) (body : Body) → BeginsWithAny bytes h → tag_of body ≡ h.1 → first_of body ≡ h.2 → second_of body ≡ h.3 → third_of body ≡ h.4
+    → AreSpelled IsBinding h.5 (bindings_of body) → BeginsWithMessage bytes (record { community = h.0; body = body })
+message_is bytes h body is tag first second third each =
     let s = is.spelled in
     let p = s.spelled_pdu in
     record {
@@ -231,21 +258,28 @@ message_is bytes f bs is each =
           second = p.second;
           third = p.third;
           list = p.list;
-          element = p.element;
-          spelled_first = p.spelled_first;
-          spelled_second = p.spelled_second;
-          spelled_third = p.spelled_third;
-          spelled_list = record { contents = f.list.now; element = p.spelled_list; each = each };
+          element = subst (λ (t : ℕ). IsElement t (p.first ++ (p.second ++ (p.third ++ p.list))) s.pdu) (sym tag) p.element;
+          spelled_first = subst (λ (n : ℤ). Spells p.first (Integer n)) (sym first) p.spelled_first;
+          spelled_second = subst (λ (n : ℤ). Spells p.second (Integer n)) (sym second) p.spelled_second;
+          spelled_third = subst (λ (n : ℤ). Spells p.third (Integer n)) (sym third) p.spelled_third;
+          spelled_list = record { contents = h.5; element = p.spelled_list; each = each };
         };
       };
     }
 
--- a message with another PDU than a GetBulk has a frame, whose octets spell its variable bindings
-frame_in : (bytes : List ℕ) (m : Message) (p : AnyPdu) → m.body ≡ Pdu p → BeginsWithMessage bytes m → (h : Held) × BeginsWithFrame bytes h × AreSpelled IsBinding h.5 p.bindings
-frame_in bytes m p body is =
+pub frame_is : (bytes : List ℕ) (f : Frame) (bs : List Binding) → BeginsWithFrame bytes (held f) → AreSpelled IsBinding f.list.now bs → BeginsWithMessage bytes (framed f bs)
+frame_is bytes f bs is each = message_is bytes (f.community.now, octet_of f.kind, f.request_id, f.error_status, f.error_index, f.list.now) (framed f bs).body is refl refl refl refl each
+
+pub bulk_is : (bytes : List ℕ) (f : BulkFrame) (bs : List Binding) → BeginsWithBulkFrame bytes (bulk_held f) → AreSpelled IsBinding f.list.now bs → BeginsWithMessage bytes (bulk_framed f bs)
+bulk_is bytes f bs is each = message_is bytes (f.community.now, 0xa5, f.request_id, f.non_repeaters, f.max_repetitions, f.list.now) (bulk_framed f bs).body is refl refl refl refl each
+
+-- a message has a frame, whose octets spell its variable bindings
+any_in : (bytes : List ℕ) (m : Message) → BeginsWithMessage bytes m
+    → (list : List ℕ) × BeginsWithAny bytes (m.community, tag_of m.body, first_of m.body, second_of m.body, third_of m.body, list) × AreSpelled IsBinding list (bindings_of m.body)
+any_in bytes m is =
     let s = is.spelled in
-    let b : IsBody s.body (Pdu p) = subst (λ (v : _). IsBody s.body v) body s.spelled_body in
-    let h : Held = (m.community, p.kind, p.request_id, p.error_status, p.error_index, b.spelled_list.contents) in
+    let b = s.spelled_body in
+    let h : AnyHeld = (m.community, tag_of m.body, first_of m.body, second_of m.body, third_of m.body, b.spelled_list.contents) in
     let pdu : IsPduFrame s.body h = record {
       first = b.first;
       second = b.second;
@@ -257,45 +291,103 @@ frame_in bytes m p body is =
       spelled_third = b.spelled_third;
       spelled_list = b.spelled_list.element;
     } in
-    (h, record { text = is.text; rest = is.rest; whole = is.whole; spelled = record { version = s.version; community = s.community; pdu = s.body; element = s.element; spelled_version = s.spelled_version; spelled_community = s.spelled_community; spelled_pdu = pdu } }, b.spelled_list.each)
+    (b.spelled_list.contents, record { text = is.text; rest = is.rest; whole = is.whole; spelled = record { version = s.version; community = s.community; pdu = s.body; element = s.element; spelled_version = s.spelled_version; spelled_community = s.spelled_community; spelled_pdu = pdu } }, b.spelled_list.each)
 
-pub is_framed : (bytes : List ℕ) (r : Result Frame BerFault) (o : Option Frame) → IsBytes bytes → o ≡ result_ok r → Gives held r (frame_at bytes) → IfSome o (λ f. BeginsWithFrame bytes (held f))
-is_framed bytes r o fits is given = subst (λ (v : Option Frame). IfSome v (λ f. BeginsWithFrame bytes (held f))) (sym is) (by_result r given)
-  where
-    by_result : (r : Result Frame BerFault) → Gives held r (frame_at bytes) → IfSome (result_ok r) (λ f. BeginsWithFrame bytes (held f))
-    by_result (Ok f) given = frame_takes bytes (held f) fits given
-    by_result (Err e) given = tt
+-- of these variable bindings there is a frame of this type, which holds what is there
+abbrev HasFrame : {H : Type 0} → (H → Type 0) → (H → List ℕ) → List Binding → Type 0
+HasFrame {H} begins listed bindings = (h : H) × begins h × AreSpelled IsBinding (listed h) bindings
 
-pub is_found : (bytes : List ℕ) (o : Option Frame) → IfSome o (λ f. BeginsWithFrame bytes (held f))
-    → IfSome o (λ f. (bindings : List Binding) → AreSpelled IsBinding f.list.now bindings → BeginsWithMessage bytes (framed f bindings))
-is_found bytes (Some f) is = λ bs each. message_is bytes f bs is each
-is_found bytes None is = tt
+frame_in : (bytes : List ℕ) (m : Message) (p : AnyPdu) → m.body ≡ Pdu p → BeginsWithMessage bytes m → HasFrame (BeginsWithFrame bytes) (λ h. h.5) p.bindings
+frame_in bytes m p body is =
+    let own = any_in bytes (record { community = m.community; body = Pdu p }) (subst (λ (b : Body). BeginsWithMessage bytes (record { community = m.community; body = b })) body is) in
+    ((m.community, p.kind, p.request_id, p.error_status, p.error_index, own.0), own.1, own.2)
 
-pub is_none : (bytes : List ℕ) (r : Result Frame BerFault) (o : Option Frame) → o ≡ result_ok r → r ≢ Err OutOfMemory → Gives held r (frame_at bytes) → IfNone o ((h : Held) → BeginsWithFrame bytes h → ⊥)
-is_none bytes (Ok f) o is enough given = subst (λ (v : Option Frame). IfNone v ((h : Held) → BeginsWithFrame bytes h → ⊥)) (sym is) tt
-is_none bytes (Err e) o is enough given =
-    subst (λ (v : Option Frame). IfNone v ((h : Held) → BeginsWithFrame bytes h → ⊥)) (sym is)
-    (λ h begins. let some = is_given held (Err e) (frame_at bytes) h enough given (frame_again bytes h begins) in absurd cc)
+bulk_in : (bytes : List ℕ) (m : Message) (p : AnyBulk) → m.body ≡ Bulk p → BeginsWithMessage bytes m → HasFrame (BeginsWithBulkFrame bytes) (λ h. h.4) p.bindings
+bulk_in bytes m p body is =
+    let own = any_in bytes (record { community = m.community; body = Bulk p }) (subst (λ (b : Body). BeginsWithMessage bytes (record { community = m.community; body = b })) body is) in
+    ((m.community, p.request_id, p.non_repeaters, p.max_repetitions, own.0), own.1, own.2)
 
-pub is_spelled : (bytes : List ℕ) (r : Result Frame BerFault) (o : Option Frame) (m : Message) (p : AnyPdu) → o ≡ result_ok r → r ≢ Err OutOfMemory → Gives held r (frame_at bytes) → m.body ≡ Pdu p → BeginsWithMessage bytes m
-    → (f : Frame) × (o ≡ Some f) × AreSpelled IsBinding f.list.now p.bindings
-is_spelled bytes (Ok f) o m p is enough given body begins =
-    let in_it = frame_in bytes m p body begins in
-    let same : in_it.0 ≡ held f = ok_is {E = BerFault} in_it.0 (held f) (sym (frame_again bytes in_it.0 in_it.1) ∙ given) in
-    (f, is, subst (λ (h : Held). AreSpelled IsBinding h.5 p.bindings) same in_it.2)
-is_spelled bytes (Err e) o m p is enough given body begins =
-    let in_it = frame_in bytes m p body begins in
-    let some = is_given held (Err e) (frame_at bytes) in_it.0 enough given (frame_again bytes in_it.0 in_it.1) in
-    absurd cc
+-- a call that reads frames of a type, and what reading them is
+module _ {F H : Type 0} (view : F → H) (read : Result H BerFault) (begins : H → Type 0) (takes : (h : H) → read ≡ Ok h → begins h) (again : (h : H) → begins h → read ≡ Ok h) where
+  all_hold : (r : Result F BerFault) (o : Option F) → o ≡ result_ok r → Gives view r read → IfSome o (λ f. begins (view f))
+  all_hold r o is given = subst (λ (v : Option F). IfSome v (λ f. begins (view f))) (sym is) (by_result r given)
+    where
+      by_result : (r : Result F BerFault) → Gives view r read → IfSome (result_ok r) (λ f. begins (view f))
+      by_result (Ok f) given = takes (view f) given
+      by_result (Err e) given = tt
 
--- so one is found,
-pub is_there : (o : Option Frame) (p : AnyPdu) → ((f : Frame) × (o ≡ Some f) × AreSpelled IsBinding f.list.now p.bindings) → IsSome o
-is_there o p there = subst (λ (v : Option Frame). IsSome v) (sym there.1) refl
+  is_none : (r : Result F BerFault) (o : Option F) → o ≡ result_ok r → r ≢ Err OutOfMemory → Gives view r read → IfNone o ((h : H) → begins h → ⊥)
+  is_none (Ok f) o is enough given = subst (λ (v : Option F). IfNone v ((h : H) → begins h → ⊥)) (sym is) tt
+  is_none (Err e) o is enough given =
+      subst (λ (v : Option F). IfNone v ((h : H) → begins h → ⊥)) (sym is)
+      (λ h is_there. let some = is_given view (Err e) read h enough given (again h is_there) in absurd cc)
 
--- and its octets spell them
-pub all_spelled : (o : Option Frame) (p : AnyPdu) → ((f : Frame) × (o ≡ Some f) × AreSpelled IsBinding f.list.now p.bindings) → IfSome o (λ f. AreSpelled IsBinding f.list.now p.bindings)
-all_spelled o p there = subst (λ (v : Option Frame). IfSome v (λ f. AreSpelled IsBinding f.list.now p.bindings)) (sym there.1) there.2
+  -- where there is a frame, one is found whose octets spell the variable bindings
+  is_spelled : (listed : H → List ℕ) (bindings : List Binding) (r : Result F BerFault) (o : Option F) → o ≡ result_ok r → r ≢ Err OutOfMemory → Gives view r read
+      → HasFrame begins listed bindings → (f : F) × (o ≡ Some f) × AreSpelled IsBinding (listed (view f)) bindings
+  is_spelled listed bindings (Ok f) o is enough given has =
+      let same : has.0 ≡ view f = ok_is {E = BerFault} has.0 (view f) (sym (again has.0 has.1) ∙ given) in
+      (f, is, subst (λ (h : H). AreSpelled IsBinding (listed h) bindings) same has.2)
+  is_spelled listed bindings (Err e) o is enough given has =
+      let some = is_given view (Err e) read has.0 enough given (again has.0 has.1) in
+      absurd cc
 
+is_found : {F : Type 0} (o : Option F) (P Q : F → Type 0) → ((f : F) → P f → Q f) → IfSome o P → IfSome o Q
+is_found (Some f) P Q leads is = leads f is
+is_found None P Q leads is = tt
+
+is_there : {F : Type 0} (o : Option F) (P : F → Type 0) → ((f : F) × (o ≡ Some f) × P f) → IsSome o
+is_there o P there = subst (λ (v : Option _). IsSome v) (sym there.1) refl
+
+all_spelled : {F : Type 0} (o : Option F) (P : F → Type 0) → ((f : F) × (o ≡ Some f) × P f) → IfSome o P
+all_spelled o P there = subst (λ (v : Option _). IfSome v P) (sym there.1) there.2
+
+-- ---- the clauses of the two calls
+-- what the call for any PDU but a GetBulk promises
+pub record FrameClauses (bytes : List ℕ) (o : Option Frame) : Type 0 where
+  pub holds : IfSome o (λ f. BeginsWithFrame bytes (held f))
+  pub none : IfNone o ((h : Held) → BeginsWithFrame bytes h → ⊥)
+  pub found : IfSome o (λ f. (bindings : List Binding) → AreSpelled IsBinding f.list.now bindings → BeginsWithMessage bytes (framed f bindings))
+  pub only : (m : Message) (p : AnyPdu) → m.body ≡ Pdu p → BeginsWithMessage bytes m → IsSome o
+  pub spells : (m : Message) (p : AnyPdu) → m.body ≡ Pdu p → BeginsWithMessage bytes m → IfSome o (λ f. AreSpelled IsBinding f.list.now p.bindings)
+
+pub frame_clauses : (bytes : List ℕ) (r : Result Frame BerFault) (o : Option Frame) → IsBytes bytes → o ≡ result_ok r → r ≢ Err OutOfMemory → Gives held r (frame_at bytes) → FrameClauses bytes o
+frame_clauses bytes r o fits is enough given =
+    let takes : (h : Held) → frame_at bytes ≡ Ok h → BeginsWithFrame bytes h = λ h. frame_takes bytes h fits in
+    let again : (h : Held) → BeginsWithFrame bytes h → frame_at bytes ≡ Ok h = frame_again bytes in
+    let holds = all_hold held (frame_at bytes) (BeginsWithFrame bytes) takes again r o is given in
+    let spelled : (m : Message) (p : AnyPdu) → m.body ≡ Pdu p → BeginsWithMessage bytes m → (f : Frame) × (o ≡ Some f) × AreSpelled IsBinding f.list.now p.bindings =
+    λ m p body begins. is_spelled held (frame_at bytes) (BeginsWithFrame bytes) takes again (λ h. h.5) p.bindings r o is enough given (frame_in bytes m p body begins) in
+    record {
+      holds = holds;
+      none = is_none held (frame_at bytes) (BeginsWithFrame bytes) takes again r o is enough given;
+      found = is_found o (λ f. BeginsWithFrame bytes (held f)) (λ f. (bindings : List Binding) → AreSpelled IsBinding f.list.now bindings → BeginsWithMessage bytes (framed f bindings)) (λ f begins bs each. frame_is bytes f bs begins each) holds;
+      only = λ m p body begins. is_there o (λ f. AreSpelled IsBinding f.list.now p.bindings) (spelled m p body begins);
+      spells = λ m p body begins. all_spelled o (λ f. AreSpelled IsBinding f.list.now p.bindings) (spelled m p body begins);
+    }
+
+-- what the call for a GetBulk promises
+pub record BulkClauses (bytes : List ℕ) (o : Option BulkFrame) : Type 0 where
+  pub holds : IfSome o (λ f. BeginsWithBulkFrame bytes (bulk_held f))
+  pub none : IfNone o ((h : BulkHeld) → BeginsWithBulkFrame bytes h → ⊥)
+  pub found : IfSome o (λ f. (bindings : List Binding) → AreSpelled IsBinding f.list.now bindings → BeginsWithMessage bytes (bulk_framed f bindings))
+  pub only : (m : Message) (p : AnyBulk) → m.body ≡ Bulk p → BeginsWithMessage bytes m → IsSome o
+  pub spells : (m : Message) (p : AnyBulk) → m.body ≡ Bulk p → BeginsWithMessage bytes m → IfSome o (λ f. AreSpelled IsBinding f.list.now p.bindings)
+
+pub bulk_clauses : (bytes : List ℕ) (r : Result BulkFrame BerFault) (o : Option BulkFrame) → IsBytes bytes → o ≡ result_ok r → r ≢ Err OutOfMemory → Gives bulk_held r (bulk_frame_at bytes) → BulkClauses bytes o
+bulk_clauses bytes r o fits is enough given =
+    let takes : (h : BulkHeld) → bulk_frame_at bytes ≡ Ok h → BeginsWithBulkFrame bytes h = λ h. bulk_takes bytes h fits in
+    let again : (h : BulkHeld) → BeginsWithBulkFrame bytes h → bulk_frame_at bytes ≡ Ok h = bulk_again bytes in
+    let holds = all_hold bulk_held (bulk_frame_at bytes) (BeginsWithBulkFrame bytes) takes again r o is given in
+    let spelled : (m : Message) (p : AnyBulk) → m.body ≡ Bulk p → BeginsWithMessage bytes m → (f : BulkFrame) × (o ≡ Some f) × AreSpelled IsBinding f.list.now p.bindings =
+    λ m p body begins. is_spelled bulk_held (bulk_frame_at bytes) (BeginsWithBulkFrame bytes) takes again (λ h. h.4) p.bindings r o is enough given (bulk_in bytes m p body begins) in
+    record {
+      holds = holds;
+      none = is_none bulk_held (bulk_frame_at bytes) (BeginsWithBulkFrame bytes) takes again r o is enough given;
+      found = is_found o (λ f. BeginsWithBulkFrame bytes (bulk_held f)) (λ f. (bindings : List Binding) → AreSpelled IsBinding f.list.now bindings → BeginsWithMessage bytes (bulk_framed f bindings)) (λ f begins bs each. bulk_is bytes f bs begins each) holds;
+      only = λ m p body begins. is_there o (λ f. AreSpelled IsBinding f.list.now p.bindings) (spelled m p body begins);
+      spells = λ m p body begins. all_spelled o (λ f. AreSpelled IsBinding f.list.now p.bindings) (spelled m p body begins);
+    }
 -- ---- a variable binding whose name is known
 
 -- where a call gave a value, reading gives it

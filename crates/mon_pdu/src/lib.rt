@@ -11,7 +11,7 @@ mod reading;
 mod writing;
 
 pub use fault::PduFault;
-pub use frame::{Frame, named_value, read_frame};
+pub use frame::{BulkFrame, Frame, named_value, read_bulk_frame, read_frame};
 pub use message::{Binding, Bindings, Body, Bulk, Message, Pdu, PduKind};
 pub use reading::read_message;
 pub use writing::{

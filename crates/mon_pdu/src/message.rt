@@ -8,6 +8,9 @@ use mon_ber::{Octets, Value};
 use mon_oid::Oid;
 use std::marker::Model;
 
+/// The tag of a GetBulkRequest-PDU (RFC 3416 section 3, `PDUs`).
+pub(crate) const GET_BULK: u8 = 0xa5;
+
 /// A variable binding, or varbind: the name of a variable with a value (RFC 3416 section 3, `VarBind`).
 #[derive(Debug)]
 pub struct Binding {
@@ -159,7 +162,7 @@ impl Body {
     {
         match self {
             Body::Pdu(pdu) => pdu.kind.octet(),
-            Body::Bulk(_) => 0xa5,
+            Body::Bulk(_) => GET_BULK,
         }
     }
 
