@@ -1,9 +1,12 @@
 -- A message around the octets of its variable bindings: its lengths, and that it is the one that is written.
-use Rattle.std.proofs.Common.{◌≡◌, ℕ, ◌+◌, ◌<◌, ◌^◌, pos, List, ◌++◌, length, refl, ap, arith}
+use Rattle.std.proofs.Common.{◌≡◌, ℕ, ◌+◌, ◌<◌, ◌≤◌, ◌^◌, ◌∙◌, leb, pos, List, ◌++◌, length, refl, ap, sym, arith}
+use Rattle.std.specs.Prelude.{IsTrue}
+use Rattle.std.proofs.lemmas.Bool.{leb-true, le-leb}
 use Rattle.std.proofs.lemmas.List.{length-append}
 use Rattle.mon_ber.specs.declared.value.Value.TheVariants.{Integer, Octets}
-use Rattle.mon_ber.specs.Writing.{element, written, size_for}
+use Rattle.mon_ber.specs.Writing.{element, written, size_for, size_counted}
 use Rattle.mon_ber.proofs.Promised.{length-element, written_size, size_longer}
+use Rattle.mon_pdu.proofs.Lengths.{counted_twice}
 use Rattle.mon_pdu.specs.declared.message.Binding.{Binding}
 use Rattle.mon_pdu.specs.declared.message.Body.{Body}
 use Rattle.mon_pdu.specs.declared.message.Body.TheVariants.{Pdu, Bulk}
@@ -75,3 +78,22 @@ list_length octets = length-element 0x30 octets
 
 pub list_fits : (body : Body) (list : List ℕ) → length (contents_of_body body list) < 2 ^ 32 → length list < 2 ^ 32
 list_fits body list h = omega (arith, body_total body list, size_longer (length list), h)
+
+-- what is counted of the contents tells the size
+pub around_counts : (m : Message) (octets : List ℕ) (size contents : ℕ) → size ≡ size_counted (size_for contents) → contents ≡ size_counted (length (contents_of_message m octets))
+    → size ≡ size_counted (length (message_around m octets))
+around_counts m octets size contents is counted =
+    is ∙ ap (λ n. size_counted (size_for n)) counted ∙ counted_twice (length (contents_of_message m octets)) ∙ ap size_counted (sym (message_length m octets))
+
+pub size_counts : (m : Message) (bindings : List Binding) (size contents : ℕ) → size ≡ size_counted (size_for contents) → contents ≡ size_counted (length (contents_of_message m (list_contents bindings)))
+    → size ≡ size_counted (length (written_message (with_bindings m bindings)))
+size_counts m bindings size contents is counted =
+    around_counts m (list_contents bindings) size contents is counted ∙ ap (λ t. size_counted (length t)) (sym (message_is m bindings))
+
+-- a size that is counted is within a limit of 32 bits if it is without counting
+pub within_counted : (n limit size : ℕ) → limit < 2 ^ 32 → size ≡ size_counted n → (IsTrue (leb size limit) → n ≤ limit) × (n ≤ limit → IsTrue (leb size limit))
+within_counted n limit size small is = (λ yes. omega (arith, leb-true size limit yes, is, small), λ le. le-leb size limit (omega (arith, le, is)))
+
+-- a message is longer than its contents
+pub message_longer : (m : Message) (list : List ℕ) → length (contents_of_message m list) ≤ length (message_around m list)
+message_longer m list = omega (arith, message_length m list, size_longer (length (contents_of_message m list)))

@@ -388,6 +388,7 @@ bulk_clauses bytes r o fits is enough given =
       only = λ m p body begins. is_there o (λ f. AreSpelled IsBinding f.list.now p.bindings) (spelled m p body begins);
       spells = λ m p body begins. all_spelled o (λ f. AreSpelled IsBinding f.list.now p.bindings) (spelled m p body begins);
     }
+
 -- ---- a variable binding whose name is known
 
 -- where a call gave a value, reading gives it

@@ -5,6 +5,7 @@
 
 mod fault;
 mod frame;
+mod framing;
 pub mod laws;
 mod message;
 mod reading;
@@ -12,6 +13,7 @@ mod writing;
 
 pub use fault::PduFault;
 pub use frame::{BulkFrame, Frame, named_value, read_bulk_frame, read_frame};
+pub use framing::{frame_fits, write_frame};
 pub use message::{Binding, Bindings, Body, Bulk, Message, Pdu, PduKind};
 pub use reading::read_message;
 pub use writing::{

@@ -8,7 +8,7 @@ ghost use Rattle.mon_ber.specs.Many.{many};
 ghost use Rattle.mon_pdu.specs.Reading.{Gives, binding_at, ended, list_at, body_of, behind_tag, body_at, message_of, message_at};
 
 use crate::fault::PduFault;
-use crate::message::{Binding, Bindings, Body, Bulk, Message, Pdu, PduKind};
+use crate::message::{Binding, Bindings, Body, Bulk, GET_BULK, Message, Pdu, PduKind};
 use mon_ber::element::{contents_at, element_at};
 use mon_ber::reading::{integer_at, name_at, value_at};
 use mon_ber::{OCTET_STRING, Octets, SEQUENCE};
@@ -113,7 +113,7 @@ fn body_at(alloc: Global, octets: &[u8]) -> Result<(Body, &[u8]), PduFault>
     let [tag, rest @ ..] = octets else {
         return Err(PduFault::Truncated);
     };
-    if *tag == 0xa5 {
+    if *tag == GET_BULK {
         return behind_tag(alloc, None, rest);
     }
     match PduKind::from_octet(*tag) {

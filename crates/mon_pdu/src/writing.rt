@@ -7,6 +7,7 @@ ghost use Rattle.mon_ber.specs.declared.value.Value.TheVariants.{Integer};
 ghost use Rattle.mon_ber.specs.Writing.{written, element, size_counted, IsValid as IsValidValue};
 ghost use Rattle.mon_pdu.specs.declared.fault.PduFault.TheVariants.{OutOfMemory, BadLength};
 ghost use Rattle.mon_pdu.specs.declared.message.Binding.{Binding as AnyBinding};
+ghost use Rattle.mon_pdu.specs.declared.message.Message.{Message as AnyMessage};
 ghost use Rattle.mon_pdu.specs.Grammar.{tag_of, first_of, second_of, third_of, bindings_of, IsMessage};
 ghost use Rattle.mon_pdu.specs.Around.{body_around, contents_of_body, contents_of_message, message_around, octets_of};
 ghost use Rattle.mon_pdu.specs.Sizes.{with_bindings};
@@ -82,7 +83,7 @@ pub fn list_len(bindings: &[Binding]) -> usize
 
 /// How many octets three numbers take.
 #[tactic(auto, using(crate::proofs::Lengths::passed))]
-fn three_len(first: i32, second: i32, third: i32) -> usize
+pub(crate) fn three_len(first: i32, second: i32, third: i32) -> usize
     ensures value { result ≡ length (written (Integer first)) + length (written (Integer second)) + length (written (Integer third)) }
     ensures small { result ≤ 45 }
     ensures fits { FitsSigned w32 first × FitsSigned w32 second × FitsSigned w32 third }
@@ -91,7 +92,7 @@ fn three_len(first: i32, second: i32, third: i32) -> usize
 }
 
 #[tactic(auto, using(crate::proofs::Lengths::passed))]
-fn put_three(out: &mut Vec<u8>, first: i32, second: i32, third: i32)
+pub(crate) fn put_three(out: &mut Vec<u8>, first: i32, second: i32, third: i32)
     requires room { vec_len out.old + length (written (Integer first) ++ written (Integer second) ++ written (Integer third)) ≤ vec_capacity out.old }
     ensures items { out.new.items ≡ out.old.items ++ written (Integer first) ++ written (Integer second) ++ written (Integer third) }
     ensures len { vec_len out.new ≡ vec_len out.old + length (written (Integer first) ++ written (Integer second) ++ written (Integer third)) }
@@ -135,27 +136,40 @@ fn put_numbers(out: &mut Vec<u8>, body: &Body)
 
 /// How many octets of contents a message and its parts have, counted up to the limit.
 #[derive(Clone, Copy)]
-struct Lengths {
-    list: usize,
-    body: usize,
-    message: usize,
+pub(crate) struct Lengths {
+    pub(crate) list: usize,
+    pub(crate) body: usize,
+    pub(crate) message: usize,
 }
 
-/// Measures a message from the inside out around its variable bindings, which take `list` octets, counted up to the limit.
+/// Measures a message from the inside out. Its community has `community` octets, its numbers take
+/// `numbers`, and its variable bindings `list`, counted up to the limit.
+pub(crate) fn lengths_from(community: usize, numbers: usize, list: usize) -> Lengths
+    requires { numbers ≤ 45 }
+    ensures list { result.list ≡ list }
+    ensures body { (m : AnyMessage) (octets : List ℕ) → numbers ≡ length (leading_integers m.body) → list ≡ size_counted (length octets)
+        → result.body ≡ size_counted (length (contents_of_body m.body octets)) }
+    ensures message { (m : AnyMessage) (octets : List ℕ) → community ≡ length m.community → numbers ≡ length (leading_integers m.body)
+        → list ≡ size_counted (length octets) → result.message ≡ size_counted (length (contents_of_message m octets)) }
+{
+    let body = (numbers + element_size(list)).min(LIMIT);
+    let contents = (integer_size(1) + element_size(community) + element_size(body)).min(LIMIT);
+    Lengths {
+        list,
+        body,
+        message: contents,
+    }
+}
+
+/// Measures a message around its variable bindings, which take `list` octets, counted up to the limit.
 fn lengths_around(message: &Message, list: usize) -> Lengths
     ensures list { result.list ≡ list }
     ensures body { (octets : List ℕ) → list ≡ size_counted (length octets) → result.body ≡ size_counted (length (contents_of_body message.now.body octets)) }
     ensures message { (octets : List ℕ) → list ≡ size_counted (length octets) → result.message ≡ size_counted (length (contents_of_message message.now octets)) }
     ensures fits { FitsSigned w32 (first_of message.now.body) × FitsSigned w32 (second_of message.now.body) × FitsSigned w32 (third_of message.now.body) }
 {
-    let body = (numbers_len(&message.body) + element_size(list)).min(LIMIT);
-    let community = element_size(message.community.as_slice().len());
-    let contents = (integer_size(1) + community + element_size(body)).min(LIMIT);
-    Lengths {
-        list,
-        body,
-        message: contents,
-    }
+    let numbers = numbers_len(&message.body);
+    lengths_from(message.community.as_slice().len(), numbers, list)
 }
 
 /// Measures a message whose variable bindings take `list` octets, counted up to the limit.
@@ -260,7 +274,7 @@ fn put_written(out: &mut Vec<u8>, octets: &[u8])
 
 /// The variable bindings of a message that is written.
 #[derive(Clone, Copy)]
-enum Listed<'a> {
+pub(crate) enum Listed<'a> {
     /// Bindings that are still to write.
     Bindings(&'a [Binding]),
     /// They were written before, as these octets.
@@ -281,7 +295,7 @@ fn put_contents(out: &mut Vec<u8>, list: &Listed<'_>)
 }
 
 #[tactic(auto, using(crate::proofs::Around::list_length), unfolding(mon_ber::specs::Writing::element))]
-fn put_list(out: &mut Vec<u8>, list: &Listed<'_>, len: usize)
+pub(crate) fn put_list(out: &mut Vec<u8>, list: &Listed<'_>, len: usize)
     requires fits { length (octets_of list.now) < 2 ^ 32 }
     requires len { len ≡ length (octets_of list.now) }
     requires room { vec_len out.old + length (element 0x30 (octets_of list.now)) ≤ vec_capacity out.old }

@@ -8,7 +8,7 @@ BUGS = {
     ),
     "bulk_has_a4": (
         "src/message.rt",
-        "            Body::Bulk(_) => 0xa5,",
+        "            Body::Bulk(_) => GET_BULK,",
         "            Body::Bulk(_) => 0xa4,",
     ),
     "bulk_shows_no_bindings": (
@@ -68,8 +68,8 @@ BUGS = {
     ),
     "size_with_a_short_head": (
         "src/writing.rt",
-        "    let contents = (integer_size(1) + community + element_size(body)).min(LIMIT);",
-        "    let contents = (integer_size(-129) + community + element_size(body)).min(LIMIT);",
+        "    let contents = (integer_size(1) + element_size(community) + element_size(body)).min(LIMIT);",
+        "    let contents = (integer_size(-129) + element_size(community) + element_size(body)).min(LIMIT);",
     ),
     "takes_memory_before_the_version": (
         "src/reading.rt",
@@ -138,8 +138,8 @@ BUGS = {
     ),
     "adds_an_octet_to_the_body": (
         "src/writing.rt",
-        "(numbers_len(&message.body) + element_size(list)).min(LIMIT)",
-        "(numbers_len(&message.body) + element_size(list) + 1).min(LIMIT)",
+        "(numbers + element_size(list)).min(LIMIT)",
+        "(numbers + element_size(list) + 1).min(LIMIT)",
     ),
     "bounds_a_size_without_its_numbers": (
         "src/writing.rt",
@@ -243,18 +243,18 @@ BUGS = {
     ),
     "frames_octets_after_the_pdu": (
         "src/frame.rt",
-        "    if !rest.is_empty() {\n        return Err(BerFault::BadLength);\n    }\n    let (request_id",
-        "    let (request_id",
+        "    if !rest.is_empty() {\n        return Err(BerFault::BadLength);\n    }\n    let (first, second",
+        "    let (first, second",
     ),
     "frames_octets_after_the_list": (
         "src/frame.rt",
-        "    if !rest.is_empty() {\n        return Err(BerFault::BadLength);\n    }\n    Ok((request_id",
-        "    Ok((request_id",
+        "    if !rest.is_empty() {\n        return Err(BerFault::BadLength);\n    }\n    Ok((first",
+        "    Ok((first",
     ),
     "frames_the_index_as_the_status": (
         "src/frame.rt",
-        "    Ok((request_id, error_status, error_index, list))",
-        "    Ok((request_id, error_index, error_status, list))",
+        "    Ok((first, second, third, list))",
+        "    Ok((first, third, second, list))",
     ),
     "frames_a_community_of_another_tag": (
         "src/frame.rt",
@@ -268,13 +268,13 @@ BUGS = {
     ),
     "frames_no_trap": (
         "src/frame.rt",
-        "    match PduKind::from_octet(*tag) {\n        Some(kind)",
-        "    match PduKind::from_octet(*tag) {\n        Some(PduKind::Trap) => Err(BerFault::BadTag),\n        Some(kind)",
+        "    match PduKind::from_octet(frame.tag) {\n        Some(kind)",
+        "    match PduKind::from_octet(frame.tag) {\n        Some(PduKind::Trap) => Err(BerFault::BadTag),\n        Some(kind)",
     ),
     "frames_from_the_tag_again": (
         "src/frame.rt",
-        "        Some(kind) => Ok((kind, rest)),",
-        "        Some(kind) => Ok((kind, octets)),",
+        "    Ok((*octet, rest))",
+        "    Ok((*octet, octets))",
     ),
     "a_named_value_by_the_beginning_of_its_name": (
         "src/frame.rt",
@@ -327,8 +327,8 @@ BUGS = {
     ),
     "frames_no_message_with_octets_after_it": (
         "src/frame.rt",
-        "    let (contents, _) = element_at(SEQUENCE, octets)?;\n    frame_of(contents)",
-        "    let (contents, rest) = element_at(SEQUENCE, octets)?;\n    if !rest.is_empty() {\n        return Err(BerFault::BadLength);\n    }\n    frame_of(contents)",
+        "    let (contents, _) = element_at(SEQUENCE, octets)?;\n    any_of(contents)",
+        "    let (contents, rest) = element_at(SEQUENCE, octets)?;\n    if !rest.is_empty() {\n        return Err(BerFault::BadLength);\n    }\n    any_of(contents)",
     ),
     "a_named_value_is_null": (
         "src/frame.rt",
@@ -385,11 +385,63 @@ BUGS = {
         "    element_size(lengths_around(message, list).message)",
         "    let _ = list;\n    element_size(lengths_of(message).message)",
     ),
+    "frames_any_pdu_as_a_bulk": (
+        "src/frame.rt",
+        "    if frame.tag != GET_BULK {",
+        "    if frame.tag < 0xa0 {",
+    ),
+    "frames_no_bulk": (
+        "src/frame.rt",
+        "    bulk_frame_at(octets).ok()",
+        "    bulk_frame_at(octets).ok().filter(|_| false)",
+    ),
+    "frames_the_repetitions_as_the_repeaters": (
+        "src/frame.rt",
+        "        non_repeaters: frame.second,",
+        "        non_repeaters: frame.third,",
+    ),
+    "fits_by_the_list_alone": (
+        "src/framing.rt",
+        "    if frame.community.len() + 100 + list <= limit as usize {",
+        "    if list <= limit as usize {",
+    ),
+    "fits_only_where_it_is_not_close": (
+        "src/framing.rt",
+        "    element_size(lengths_of(frame, list).message) <= limit as usize",
+        "    let _ = lengths_of(frame, list);\n    false",
+    ),
+    "refuses_a_frame_of_just_the_limit": (
+        "src/framing.rt",
+        "    if size > limit as usize {",
+        "    if size >= limit as usize {",
+    ),
+    "writes_a_frame_after_what_was_there": (
+        "src/framing.rt",
+        "    out.clear();\n    out.reserve(size)?;",
+        "    out.reserve(size)?;",
+    ),
+    "writes_no_octets_of_the_list": (
+        "src/framing.rt",
+        "    put_list(out, &Listed::Written(frame.list), lengths.list);",
+        "    put_list(out, &Listed::Written(&frame.list[..0]), 0);\n    let _ = lengths.list;",
+    ),
+    "writes_a_frame_as_a_response": (
+        "src/framing.rt",
+        "    put_header(out, frame.kind.octet(), lengths.body);",
+        "    put_header(out, 0xa2, lengths.body);",
+    ),
+    "writes_the_index_as_the_status": (
+        "src/framing.rt",
+        "    put_three(out, frame.request_id, frame.error_status, frame.error_index);",
+        "    put_three(out, frame.request_id, frame.error_index, frame.error_status);",
+    ),
 }
 
 # Those that break a promise as a whole, each with its function: tests/bodies tries them in the gate.
 PROMISES = {
-    "frames_any_version": "frame::frame_of",
+    "fits_by_the_list_alone": "framing::frame_fits",
+    "frames_any_pdu_as_a_bulk": "frame::bulk_frame_at",
+    "frames_any_version": "frame::any_of",
     "passes_over_octets_after_a_value": "frame::named_value",
     "reads_any_version": "reading::message_of",
     "swaps_repeaters_and_repetitions": "reading::body_of",

@@ -1,29 +1,9 @@
-use Rattle.std.proofs.Common.{◌≡◌, ◌+◌, ◌∙◌, ap, length, pos, arith, rules}
-use Rattle.mon_ber.specs.declared.value.Value.TheVariants.{Integer}
-use Rattle.mon_ber.specs.Writing.{written, size_for, size_counted}
-use Rattle.mon_pdu.specs.Around.{contents_of_body}
-use Rattle.mon_pdu.specs.Writing.{leading_integers}
-use Rattle.mon_pdu.proofs.Around.{body_total, message_total}
-use Rattle.mon_pdu.proofs.Lengths.{counted_twice}
+use Rattle.std.proofs.Common.{ap, length}
 use Rattle.mon_pdu.proofs.writing.lengths_around.Goals as goal
 
 pub returns-clause-body : goal.returns-clause-body
-returns-clause-body c = λ octets is.
-    let m = c.args.message.now in
-    let own : c.min-body.result ≡ size_counted (length (leading_integers m.body) + c.element_size.result) = search rules in
-    let inner : c.element_size.result ≡ size_counted (size_for (length octets)) =
-    c.element_size.ensures ∙ ap (λ n. size_counted (size_for n)) is ∙ counted_twice (length octets) in
-    omega (arith, own, body_total m.body octets, inner)
+returns-clause-body c = λ octets is. c.lengths_from.ensures.body c.args.message.now octets c.numbers_len-numbers.ensures.value is
 
 pub returns-clause-message : goal.returns-clause-message
 returns-clause-message c = λ octets is.
-    let m = c.args.message.now in
-    let own : c.min-body.result ≡ size_counted (length (leading_integers m.body) + c.element_size.result) = search rules in
-    let inner : c.element_size.result ≡ size_counted (size_for (length octets)) =
-    c.element_size.ensures ∙ ap (λ n. size_counted (size_for n)) is ∙ counted_twice (length octets) in
-    let body : c.min-body.result ≡ size_counted (length (contents_of_body m.body octets)) = omega (arith, own, body_total m.body octets, inner) in
-    let outer : c.element_size-2.result ≡ size_counted (size_for (length (contents_of_body m.body octets))) =
-    c.element_size-2.ensures ∙ ap (λ n. size_counted (size_for n)) body ∙ counted_twice (length (contents_of_body m.body octets)) in
-    let community : c.element_size-community.result ≡ size_counted (size_for (length m.community)) = search rules in
-    let contents : c.min-contents.result ≡ size_counted (length (written (Integer (pos 1))) + c.element_size-community.result + c.element_size-2.result) = search rules in
-    omega (arith, contents, community, outer, message_total m octets)
+    c.lengths_from.ensures.message c.args.message.now octets (ap length c.as_slice.ensures) c.numbers_len-numbers.ensures.value is
