@@ -135,6 +135,14 @@ def fill(net, file, window):
     file.write_bytes(slots.saved(slots.laid_out(b""), full_image(net, window)))
 
 
+def rules(net, agents=None):
+    """The settings of an alarm on each instance of the first agents, which no sample raises."""
+    return "".join(
+        f'[[alarm]]\nengine = "{engine}"\nname = "{name}"\nrising = {10**18}\nfalling = {10**17}\n'
+        for _, engine, its in net.agents[:agents] for i in its for name in instances(i)
+    )
+
+
 def used_by(process):
     """The processor time that a running process has used, user and system, in seconds."""
     fields = Path(f"/proc/{process.pid}/stat").read_text().rpartition(")")[2].split()
