@@ -11,11 +11,11 @@ pub mod ModuleTexts
 pub mod Named
 pub mod Oids
 pub mod PeerLists
-pub mod Placings
 pub mod Policies
 pub mod Resolution
 pub mod Resolved
 pub mod Rows
+pub mod Searching
 pub mod StationFaults
 pub mod Steps
 pub mod Texts

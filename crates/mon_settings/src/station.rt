@@ -1,7 +1,8 @@
 //! The settings of a station.
 
 ghost use Rattle.std.specs.Prelude.{◌≡◌, ◌≤◌, IfErr, IfOk, length, map};
-ghost use Rattle.mon_settings.specs.Watching.{object_from, target_from};
+ghost use Rattle.std.specs.List.Sorted.{IsStrictlySortedBy};
+ghost use Rattle.mon_settings.specs.Watching.{object_from, target_from, watched_cmp};
 ghost use Rattle.mon_settings.specs.Keys.{Reads};
 ghost use Rattle.mon_settings.specs.Resolving.{resolution};
 ghost use Rattle.mon_settings.specs.Station.{rules_at, scalars_of, scalars_view, station_of};
@@ -91,7 +92,8 @@ fn object_from(
     engine: &Octets,
     object: &ObjectRow,
 ) -> Result<Object, AllocError>
-    requires { length instances.now ≤ 256 }
+    requires few { length instances.now ≤ 256 }
+    requires rising { IsStrictlySortedBy watched_cmp instances.now }
     ensures { IfOk result (λ o. o ≡ object_from instances.now engine.now object.now) }
 {
     let number = number_of(instances, engine.as_slice(), &object.name).unwrap_or(0);
@@ -112,7 +114,8 @@ fn objects_from(
     engine: &Octets,
     objects: &[ObjectRow],
 ) -> Result<Vec<Object>, AllocError>
-    requires { length instances.now ≤ 256 }
+    requires few { length instances.now ≤ 256 }
+    requires rising { IsStrictlySortedBy watched_cmp instances.now }
     ensures { IfOk result (λ v. v.items ≡ map (object_from instances.now engine.now) objects.now) }
 {
     let mut numbered = Vec::with_capacity(alloc, objects.len())?;
@@ -128,7 +131,8 @@ fn target_from(
     instances: &[Watched],
     target: &TargetRow,
 ) -> Result<Target, AllocError>
-    requires { length instances.now ≤ 256 }
+    requires few { length instances.now ≤ 256 }
+    requires rising { IsStrictlySortedBy watched_cmp instances.now }
     ensures { IfOk result (λ t. t ≡ target_from instances.now target.now) }
 {
     let objects = objects_from(alloc, instances, &target.engine, target.objects.as_slice())?;
@@ -146,7 +150,8 @@ fn targets_from(
     instances: &[Watched],
     targets: &[TargetRow],
 ) -> Result<Vec<Target>, AllocError>
-    requires { length instances.now ≤ 256 }
+    requires few { length instances.now ≤ 256 }
+    requires rising { IsStrictlySortedBy watched_cmp instances.now }
     ensures { IfOk result (λ v. v.items ≡ map (target_from instances.now) targets.now) }
 {
     let mut numbered = Vec::with_capacity(alloc, targets.len())?;
@@ -166,6 +171,7 @@ fn core_from(
     rules: Vec<Rule>,
 ) -> Result<Core, AllocError>
     requires few { length instances.items ≤ 256 }
+    requires rising { IsStrictlySortedBy watched_cmp instances.items }
     requires core { IsCore (core_from station targets.now peers.now instances.items rules.items) }
     ensures { IfOk result (λ c. c ≡ core_from station targets.now peers.now instances.items rules.items) }
 {
@@ -180,7 +186,8 @@ fn core_from(
 /// The alarm rules, in the order of a watch.
 #[tactic(auto, unfolding(crate::specs::Station::rules_at))]
 fn rules_at(reader: &Reader<'_>, around: &Around<'_>, instances: &[Watched]) -> Read<Vec<Rule>>
-    requires { length instances.now ≤ 256 }
+    requires few { length instances.now ≤ 256 }
+    requires rising { IsStrictlySortedBy watched_cmp instances.now }
     ensures { Reads (λ v. v.items) (rules_at (resolution around.now.names.now) around.now.sizes instances.now (table_view reader.now.table.now)) result }
 {
     let alarms: Vec<AlarmRow> = given!(reader.rows_or_none(around, Key::Alarm, 256));

@@ -383,7 +383,7 @@ BUGS = {
     ),
     "tells_each_alarm_again": (
         "src/course.rt",
-        "        self.windows = seen_windows(alloc, board)?;\n",
+        "        see_windows(alloc, board, &mut self.windows)?;\n",
         "",
     ),
     "tells_no_alarm": (
@@ -773,28 +773,28 @@ BUGS = {
     ),
     "looks_before_it_compares": (
         "src/course.rt",
-        "        let changes = alarm_changes(alloc, board, self.windows.as_slice())?;\n        self.windows = seen_windows(alloc, board)?;\n",
-        "        self.windows = seen_windows(alloc, board)?;\n        let changes = alarm_changes(alloc, board, self.windows.as_slice())?;\n",
+        "        let changes = alarm_changes(alloc, board, self.windows.as_slice())?;\n        see_windows(alloc, board, &mut self.windows)?;\n",
+        "        see_windows(alloc, board, &mut self.windows)?;\n        let changes = alarm_changes(alloc, board, self.windows.as_slice())?;\n",
     ),
     "looks_again_only_after_a_change": (
         "src/course.rt",
-        "        self.windows = seen_windows(alloc, board)?;\n",
-        "        if changes.is_empty() {\n            return Ok(changes);\n        }\n        self.windows = seen_windows(alloc, board)?;\n",
+        "        see_windows(alloc, board, &mut self.windows)?;\n",
+        "        if changes.is_empty() {\n            return Ok(changes);\n        }\n        see_windows(alloc, board, &mut self.windows)?;\n",
     ),
     "loses_alarm_changes_without_memory": (
         "src/course.rt",
-        "        let changes = alarm_changes(alloc, board, self.windows.as_slice())?;\n        self.windows = seen_windows(alloc, board)?;\n",
+        "        let changes = alarm_changes(alloc, board, self.windows.as_slice())?;\n        see_windows(alloc, board, &mut self.windows)?;\n",
         "        let now = seen_windows(alloc, board)?;\n        let changes = alarm_changes(alloc, board, self.windows.as_slice());\n        self.windows = now;\n        let changes = changes?;\n",
     ),
     "keeps_the_alarms_without_memory_for_the_changes": (
         "src/course.rt",
-        "        self.windows = seen_windows(alloc, board)?;\n",
+        "        see_windows(alloc, board, &mut self.windows)?;\n",
         "        match seen_windows(alloc, board) {\n            Ok(now) => self.windows = now,\n            Err(_) => self.windows = Vec::new(alloc),\n        }\n",
     ),
     "a_look_at_the_alarms_counts_anew": (
         "src/course.rt",
-        "        self.windows = seen_windows(alloc, board)?;\n        self.announcer",
-        "        self.windows = seen_windows(alloc, board)?;\n        if !changes.is_empty() {\n            self.taken = 0;\n            self.given_up = 0;\n        }\n        self.announcer",
+        "        see_windows(alloc, board, &mut self.windows)?;\n        self.announcer",
+        "        see_windows(alloc, board, &mut self.windows)?;\n        if !changes.is_empty() {\n            self.taken = 0;\n            self.given_up = 0;\n        }\n        self.announcer",
     ),
     "forgets_the_second_hearing": (
         "src/round.rt",

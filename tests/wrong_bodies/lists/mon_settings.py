@@ -203,8 +203,38 @@ BUGS = {
     ),
     "compares_an_instance_with_its_own_name": (
         "src/placing.rt",
-        ".compare(new.instance.engine.as_slice(), &new.instance.name)",
-        ".compare(new.instance.engine.as_slice(), &watched.instance.name)",
+        "    let name = &new.instance.name;\n    match instances.binary_search_by(|watched| watched.instance.compare(engine, name)) {",
+        "    match instances.binary_search_by(|watched| watched.instance.compare(engine, &watched.instance.name)) {",
+    ),
+    "an_instance_goes_behind_all": (
+        "src/placing.rt",
+        "compare(engine, name)) {\n        Ok(_) => None,\n        Err(place) => Some(place),",
+        "compare(engine, name)) {\n        Ok(_) => None,\n        Err(_) => Some(instances.len()),",
+    ),
+    "an_instance_goes_where_it_is": (
+        "src/placing.rt",
+        "compare(engine, name)) {\n        Ok(_) => None,",
+        "compare(engine, name)) {\n        Ok(place) => Some(place),",
+    ),
+    "numbers_the_instance_before": (
+        "src/placing.rt",
+        "        Ok(number) => Some(number),",
+        "        Ok(number) => Some(number / 2),",
+    ),
+    "numbers_what_is_not_watched": (
+        "src/placing.rt",
+        "        Ok(number) => Some(number),\n        Err(_) => None,",
+        "        Ok(number) => Some(number),\n        Err(number) => Some(number),",
+    ),
+    "searches_the_first_half": (
+        "src/placing.rt",
+        "    match instances.binary_search_by(|watched| watched.instance.compare(engine, name)) {\n        Ok(number)",
+        "    match instances[..instances.len() / 2].binary_search_by(|watched| watched.instance.compare(engine, name)) {\n        Ok(number)",
+    ),
+    "searches_rules_backwards": (
+        "src/placing.rt",
+        "binary_search_by(|rule| compare(rule, new))",
+        "binary_search_by(|rule| compare(new, rule))",
     ),
     "swaps_the_thresholds": (
         "src/placing.rt",
@@ -438,13 +468,13 @@ BUGS = {
     ),
     "leaves_rules_in_the_order_of_the_alarms": (
         "src/placing.rt",
-        "        match compare(rule, new) {\n            Ordering::Less => {}\n            Ordering::Equal => return None,\n            Ordering::Greater => return Some(place),",
-        "        match compare(rule, new) {\n            Ordering::Less | Ordering::Greater => {}\n            Ordering::Equal => return None,",
+        "compare(rule, new)) {\n        Ok(_) => None,\n        Err(place) => Some(place),",
+        "compare(rule, new)) {\n        Ok(_) => None,\n        Err(_) => Some(rules.len()),",
     ),
     "takes_a_rule_twice": (
         "src/placing.rt",
-        "        match compare(rule, new) {\n            Ordering::Less => {}\n            Ordering::Equal => return None,",
-        "        match compare(rule, new) {\n            Ordering::Less | Ordering::Equal => {}",
+        "compare(rule, new)) {\n        Ok(_) => None,",
+        "compare(rule, new)) {\n        Ok(place) => Some(place),",
     ),
     "takes_a_missing_truth_for_false": (
         "src/leaf.rt",
