@@ -11,7 +11,7 @@ use crate::reporting::RoundReport;
 use mon_alarms::{AlarmChange, AlarmState, Announcer};
 use mon_board::Board;
 use mon_disk::Disk;
-use mon_report::{alarm_changes, alarm_states, seen_windows};
+use mon_report::{alarm_changes, alarm_states, see_windows, seen_windows};
 use mon_sample::Sample;
 use mon_station::Station;
 use std::alloc::{AllocError, Global};
@@ -110,7 +110,7 @@ impl Course {
         ensures given_up { self.new.given_up ≡ self.old.given_up }
     {
         let changes = alarm_changes(alloc, board, self.windows.as_slice())?;
-        self.windows = seen_windows(alloc, board)?;
+        see_windows(alloc, board, &mut self.windows)?;
         self.announcer.announce(alloc, changes, looks)
     }
 }
