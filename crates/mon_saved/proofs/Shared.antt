@@ -24,7 +24,7 @@ count_most s xs e = elim (cases_eq (boots_of s) e) [
 ]
 
 -- ---- rising lists
-less_lt : (x y : ℕ) → nat_cmp x y ≡ Less → x < y
+pub less_lt : (x y : ℕ) → nat_cmp x y ≡ Less → x < y
 less_lt x y e = elim (cases_lt x y) [
   | inl lt ↦ lt
   | inr le ↦ absurd (elim (cases_eq x y) [

@@ -7,6 +7,7 @@
 mod fault;
 mod filling;
 mod image;
+mod kept;
 pub mod laws;
 mod reading;
 mod writing;
@@ -14,5 +15,6 @@ mod writing;
 pub use fault::ImageFault;
 pub use filling::read_image;
 pub use image::{Entries, Entry, Image};
+pub use kept::KeptImage;
 pub use reading::read;
 pub use writing::{image_size, write_image, write_within};

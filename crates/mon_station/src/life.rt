@@ -6,6 +6,7 @@ ghost use Rattle.mon_exchange.specs.Claim.{IsClaim};
 ghost use Rattle.mon_board.specs.Instance.{instances_of};
 ghost use Rattle.mon_poller.specs.Target.{AreTargets};
 ghost use Rattle.mon_saved.specs.Image.{SpellsImage};
+ghost use Rattle.mon_saved.specs.Kept.{IsKept};
 ghost use Rattle.mon_saved.specs.Written.{image_of};
 ghost use Rattle.mon_poller.specs.Verdict.{IsSentAgain, timeout_verdict};
 ghost use Rattle.mon_station.specs.Verdict.{claim_pairs, stamp_in};
@@ -14,12 +15,10 @@ use crate::event::{Outgoing, TargetStamp, To, Told};
 use crate::fault::StationFault;
 use mon_ber::Octets;
 use mon_board::{Board, Pairs};
-use mon_disk::HEAD_ROOM;
 use mon_exchange::{Claim, ClaimKind, ClaimRef, Peers, read_claim, write_claim};
-use mon_fields::put_octets;
 use mon_poller::{Offered, Poller, TimedOut};
 use mon_sample::Sample;
-use mon_saved::{image_size, write_within};
+use mon_saved::KeptImage;
 use mon_udp::Addr;
 use std::alloc::{AllocError, Global};
 
@@ -77,27 +76,23 @@ impl Life {
         let _ = self.poller.targets();
     }
 
-    /// Puts the image of the windows and the incarnation in a vector, behind space for the head
-    /// that a keeper writes, in place of what it holds. If it has the capacity, nothing is
-    /// allocated.
-    pub(crate) fn image(&self, image: &mut Vec<u8>) -> Result<(), AllocError>
-        ensures head { OnOk result (16 ≤ length image.new.items) }
-        ensures written { OnOk result (drop 16 image.new.items ≡ saved_octets (state_of self.now)) }
-        ensures spells { OnOk result (SpellsImage (drop 16 image.new.items) (instances_of self.now.board.watch.instances) (image_of self.now.board self.now.incarnation)) }
-        ensures few { length (saved_octets (state_of self.now)) ≤ 484617 }
-        ensures spared { 16 + length (saved_octets (state_of self.now)) ≤ vec_capacity image.old → IsOk result }
-        ensures capacity { vec_capacity image.old ≤ vec_capacity image.new }
+    /// Makes the image that of the windows and the incarnation, behind space for the head that a
+    /// keeper writes. Where it is that already, nothing is written; if it has the capacity, nothing
+    /// is allocated.
+    pub(crate) fn image(&self, image: &mut KeptImage) -> Result<(), AllocError>
+        requires kept { IsKept image.old self.now.board }
+        ensures head { OnOk result (16 ≤ length image.new.octets.items) }
+        ensures written { OnOk result (drop 16 image.new.octets.items ≡ saved_octets (state_of self.now)) }
+        ensures spells { OnOk result (SpellsImage (saved_octets (state_of self.now)) (instances_of self.now.board.watch.instances) (image_of self.now.board self.now.incarnation)) }
+        ensures few { OnOk result (length (saved_octets (state_of self.now)) ≤ 484617) }
+        ensures kept { IsKept image.new self.now.board }
     {
-        let size = image_size(&self.board);
-        image.clear();
-        image.reserve(HEAD_ROOM + size)?;
-        put_octets(image, &[0; HEAD_ROOM]);
-        write_within(image, &self.board, self.incarnation);
-        Ok(())
+        image.write(&self.board, self.incarnation)
     }
 
     /// Starts a poll of the target of this number.
     pub(crate) fn start_poll(&mut self, alloc: Global, target: u16) -> Result<Told, StationFault>
+        ensures board { self.new.board ≡ self.old.board }
         ensures answered { IsAnswered (state_of self.old) (state_of self.new) (read.StartPoll target) result }
         ensures refused { OnErr result (state_of self.new ≡ state_of self.old) }
     {
@@ -118,6 +113,7 @@ impl Life {
 
     /// The poll of this request-id timed out. It allocates nothing if it is not sent again.
     pub(crate) fn timeout(&mut self, alloc: Global, id: u32) -> Result<Told, StationFault>
+        ensures board { self.new.board ≡ self.old.board }
         ensures answered { IsAnswered (state_of self.old) (state_of self.new) (read.Timeout id) result }
         ensures spared { ¬ (IsSentAgain (timeout_verdict self.old.poller.targets self.old.poller.polls id)) → IsOk result }
         ensures refused { OnErr result (state_of self.new ≡ state_of self.old) }
@@ -171,13 +167,16 @@ impl Life {
         }
     }
 
-    /// Takes what a response to an open poll offers.
+    /// Takes what a response to an open poll offers. The image of the windows moves with them.
     pub(crate) fn from_agent(
         &mut self,
         alloc: Global,
         from: Addr,
         octets: &[u8],
+        image: &mut KeptImage,
     ) -> Result<Told, StationFault>
+        requires kept { IsKept image.old self.old.board }
+        ensures kept { IsKept image.new self.new.board }
         ensures answered { (r : Option AnyMessage) → ReadsAs octets.now r → IsAnswered (state_of self.old) (state_of self.new) (read.FromAgent from r) result }
         ensures read { (r : Option AnyMessage) × ReadsAs octets.now r }
         ensures refused { OnErr result (state_of self.new ≡ left_polls (state_of self.old) self.new.poller.polls) }
@@ -188,15 +187,22 @@ impl Life {
         self.settled();
         match self.poller.response(alloc, from, octets) {
             Ok(offered) => {
-                self.board.take_pairs(offered.pairs.as_slice());
+                image.take_pairs(&mut self.board, offered.pairs.as_slice());
                 Ok(tell_taken(alloc, offered))
             }
             Err(fault) => Err(StationFault::from(fault)),
         }
     }
 
-    /// Takes what a peer's claim claims.
-    pub(crate) fn from_peer(&mut self, alloc: Global, octets: &[u8]) -> Result<Told, StationFault>
+    /// Takes what a peer's claim claims. The image of the windows is forgotten where it takes something.
+    pub(crate) fn from_peer(
+        &mut self,
+        alloc: Global,
+        octets: &[u8],
+        image: &mut KeptImage,
+    ) -> Result<Told, StationFault>
+        requires kept { IsKept image.old self.old.board }
+        ensures kept { IsKept image.new self.new.board }
         ensures answered { (r : Result Said AnyExchangeFault) → SaysAs self.old.board.watch octets.now r → IsAnswered (state_of self.old) (state_of self.new) (read.FromPeer r) result }
         ensures read { IfOk result (λ _. (r : Result Said AnyExchangeFault) × SaysAs self.old.board.watch octets.now r) }
         ensures read_err { IfErr result (λ f. (f ≡ StationFault.OutOfMemory → ⊥) → (r : Result Said AnyExchangeFault) × SaysAs self.old.board.watch octets.now r) }
@@ -205,14 +211,21 @@ impl Life {
         // Proof: the invariants of the state.
         self.settled();
         match read_claim(alloc, octets) {
-            Ok(claim) => self.take_claim(alloc, &claim),
+            Ok(claim) => self.take_claim(alloc, &claim, image),
             Err(fault) => Err(StationFault::from(fault)),
         }
     }
 
     /// Takes what a claim claims, and confirms it where it is an offer.
-    fn take_claim(&mut self, alloc: Global, claim: &Claim) -> Result<Told, StationFault>
-        requires { IsClaim claim.now }
+    fn take_claim(
+        &mut self,
+        alloc: Global,
+        claim: &Claim,
+        image: &mut KeptImage,
+    ) -> Result<Told, StationFault>
+        requires claim { IsClaim claim.now }
+        requires kept { IsKept image.old self.old.board }
+        ensures kept { IsKept image.new self.new.board }
         ensures answered { (n : Option ℕ) → IsNumbered self.old.board.watch claim.now n
             → IsAnswered (state_of self.old) (state_of self.new) (read.FromPeer (Ok (record { claim = claim.now; number = n }))) result }
         ensures numbered { (n : Option ℕ) × IsNumbered self.old.board.watch claim.now n }
@@ -223,13 +236,16 @@ impl Life {
         let taken = self.pairs(alloc, claim)?;
         let sends = self.confirm(alloc, claim)?;
         match self.peers.note(&mut self.board, claim) {
-            Ok(noted) => Ok(Told {
+            Ok(noted) => {
+                image.forget();
+                Ok(Told {
                 taken,
                 sends,
                 noted: Some(noted),
                 given_up: None,
                 answered: None,
-            }),
+            })
+            }
             Err(fault) => Err(StationFault::from(fault)),
         }
     }

@@ -1,6 +1,6 @@
 //! Saving where the disk may have failed before.
 
-ghost use Rattle.std.specs.Prelude.{◌≤◌, ◌+◌, drop, length};
+ghost use Rattle.std.specs.Prelude.{◌≡◌, ◌≤◌, ◌+◌, drop, length};
 ghost use Rattle.mon_disk.specs.declared.file.TheConstants.{SLOT_SIZE};
 ghost use Rattle.mon_station.specs.Mended.{IsMendedSave};
 
@@ -13,6 +13,8 @@ pub(crate) fn save_again<D: Disk>(
 ) -> Result<(), KeeperFault>
     requires room { 16 ≤ length octets.old }
     requires fits { length (drop 16 octets.old) + 17 ≤ SLOT_SIZE }
+    ensures len { length octets.new ≡ length octets.old }
+    ensures body { drop 16 octets.new ≡ drop 16 octets.old }
     ensures save { IsMendedSave (drop 16 octets.old) keeper.old keeper.new result }
 {
     match keeper.reopen() {

@@ -16,7 +16,7 @@ use mon_core::Core;
 use mon_disk::{Disk, Keeper};
 use mon_exchange::Peers;
 use mon_poller::Poller;
-use mon_saved::read_image;
+use mon_saved::{KeptImage, read_image};
 use std::alloc::Global;
 
 impl<D: Disk + Drop> Station<D> {
@@ -89,7 +89,7 @@ impl<D: Disk + Drop> Station<D> {
         ensures cause { IfErr result (λ e. IsCausedBy (D.faults (device_of keeper)) (D.faults e.1) e.0) }
         ensures fresh { IfOk result (λ s. is_spoiled s.keeper ≡ false) }
     {
-        let image = Vec::new(alloc);
+        let image = KeptImage::new(alloc);
         let mut station = Station {
             life,
             keeper,

@@ -25,6 +25,7 @@ impl Life {
 
     /// Offers the peer of this station number what it is owed.
     pub(crate) fn share(&mut self, alloc: Global, peer: u32) -> Result<Told, StationFault>
+        ensures board { self.new.board ≡ self.old.board }
         ensures answered { IsAnswered (state_of self.old) (state_of self.new) (read.Share peer) result }
         ensures few { IfOk result (λ told. length told.sends.items ≤ 512) }
         ensures refused { OnErr result (state_of self.new ≡ state_of self.old) }
@@ -41,6 +42,7 @@ impl Life {
     fn share_in(&mut self, alloc: Global, peer: u32, slot: u8) -> Result<Told, StationFault>
         requires slot { Some slot ≡ peer_slot self.old.peers.peers peer }
         requires small { slot < 15 }
+        ensures board { self.new.board ≡ self.old.board }
         ensures answered { IsAnswered (state_of self.old) (state_of self.new) (read.Share peer) result }
         ensures few { IfOk result (λ told. length told.sends.items ≤ 512) }
         ensures refused { OnErr result (state_of self.new ≡ state_of self.old) }

@@ -6,6 +6,7 @@ ghost use Rattle.mon_disk.specs.declared.file.TheConstants.{SLOT_SIZE};
 ghost use Rattle.mon_disk.specs.File.{found};
 ghost use Rattle.mon_disk.specs.Keeper.{found_generation};
 ghost use Rattle.mon_disk.specs.Disk.{Leaves, LeavesSince};
+ghost use Rattle.mon_saved.specs.Kept.{IsKept};
 
 use crate::event::{Event, LentEvent, OwnedEvent, Told};
 use crate::fault::StationFault;
@@ -13,6 +14,7 @@ use crate::life::{Life, told_none};
 use crate::mending::save_again;
 use mon_board::Board;
 use mon_disk::{Disk, FuseDisk, Keeper, KeeperFault};
+use mon_saved::KeptImage;
 use std::alloc::Global;
 
 /// A station: one life, and the keeper of its file.
@@ -20,10 +22,10 @@ use std::alloc::Global;
 pub struct Station<D: Disk + Drop> {
     pub(crate) life: Life,
     pub(crate) keeper: Keeper<D>,
-    /// The last image that was saved behind the head that the keeper wrote, or the beginning of
-    /// one. Its capacity is kept from save to save: if it were freed each time, its pages would be
-    /// asked of the system again.
-    pub(crate) image: Vec<u8>,
+    /// The last image that was saved, behind the head that the keeper wrote. It moves with the windows, so that a save
+    /// writes little of it anew.
+    pub(crate) image: KeptImage,
+    ghost kept: { IsKept image life.board },
 }
 
 impl<D: Disk + Drop> Station<D> {
@@ -105,8 +107,10 @@ impl<D: Disk + Drop> Station<D> {
         match event {
             Event::StartPoll(target) => self.life.start_poll(alloc, target),
             Event::Timeout(id) => self.life.timeout(alloc, id),
-            Event::FromAgent(from, octets) => self.life.from_agent(alloc, from, octets),
-            Event::FromPeer(octets) => self.life.from_peer(alloc, octets),
+            Event::FromAgent(from, octets) => {
+                self.life.from_agent(alloc, from, octets, &mut self.image)
+            }
+            Event::FromPeer(octets) => self.life.from_peer(alloc, octets, &mut self.image),
             Event::Share(peer) => self.life.share(alloc, peer),
             Event::Save => self.save(alloc),
         }
@@ -134,7 +138,7 @@ impl<D: Disk + Drop> Station<D> {
     {
         self.life.settled();
         self.life.image(&mut self.image)?;
-        match save_again(&mut self.keeper, self.image.as_mut_slice()) {
+        match save_again(&mut self.keeper, self.image.octets.as_mut_slice()) {
             Ok(()) => Ok(told_none(alloc)),
             Err(fault) => Err(StationFault::from(fault)),
         }

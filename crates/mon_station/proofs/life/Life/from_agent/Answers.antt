@@ -6,8 +6,8 @@ use Rattle.mon_station.specs.State.{state_of}
 use Rattle.mon_station.proofs.Handled.{only_polls, response_memory_stays, response_refused, response_taken}
 use Rattle.mon_station.proofs.life.Life.from_agent.Goals as goal
 
-pub take_pairs-requires : goal.take_pairs-requires
-take_pairs-requires c =
+pub take_pairs-requires-clause-instances : goal.take_pairs-requires-clause-instances
+take_pairs-requires-clause-instances c =
     let s = c.args.self.now in
     let n = length s.board.watch.instances in
     let r = c.in-Ok.ensures.read in
@@ -18,7 +18,7 @@ pub returns-in-Ok-clause-answered : goal.returns-in-Ok-clause-answered
 returns-in-Ok-clause-answered c = λ r reads.
     let told = c.tell_taken.ensures in
     let taken = c.take_pairs.ensures in
-    response_taken (state_of c.args.self.now) c.settled.ensures.settled c.args.from r c.in-Ok.offered _ c.take_pairs.new.self c.tell_taken.result c.as_slice.result.now
+    response_taken (state_of c.args.self.now) c.settled.ensures.settled c.args.from r c.in-Ok.offered _ c.take_pairs.new.board c.tell_taken.result c.as_slice.result.now
     (c.in-Ok.ensures.told r reads) (c.in-Ok.ensures.polls r reads) c.as_slice.ensures taken.watch taken.windows taken.marks told.taken told.sends told.noted told.given_up told.answered
 
 pub returns-in-Err-clause-answered : goal.returns-in-Err-clause-answered
