@@ -483,16 +483,3 @@ pub holds_few : (octets begins : List ℕ) (watched : List Watched) (windows : �
 holds_few octets begins watched windows incarnation held =
     let e = ap (λ (l : List ℕ). length l) held.image in
     omega (arith, e, held.few, length-drop 16 octets)
-
--- an image behind other octets
-pub holds_behind : (octets begins after : List ℕ) (watched : List Watched) (windows : ℕ → Samples) (incarnation len : ℕ) → HoldsImage octets begins watched windows incarnation
-    → drop 16 after ≡ drop 16 octets → length after ≡ length octets → len ≡ length octets → HoldsImage (take len (after ++ drop (length after) octets)) begins watched windows incarnation
-holds_behind octets begins after watched windows incarnation len held body same long =
-    let now : HoldsImage after begins watched windows incarnation = record {
-      image = body ∙ held.image;
-      few = omega (arith, held.few, same);
-      number = held.number;
-      places = λ i lt. omega (arith, held.places i lt, same);
-      samples = held.samples;
-    } in
-    subst (λ (l : List ℕ). HoldsImage l begins watched windows incarnation) (sym (written_over len after octets same long)) now

@@ -26,7 +26,8 @@ entries_on watched windows i = entries_octets Two (instances_of (drop i watched)
 abbrev pub records_on : List Watched → (ℕ → Samples) → ℕ → List ℕ
 records_on watched windows i = samples_octets (rising (windows i)) ++ entries_on watched windows (i + 1)
 
--- behind 16 octets the image of these windows and this incarnation, at most 484633 octets in all, and in it the place where the records of each instance begin
+-- behind 16 octets the image of these windows and this incarnation, at most 484633 octets in all,
+-- and the places in these octets where the records of each instance begin
 pub record HoldsImage (octets begins : List ℕ) (watched : List Watched) (windows : ℕ → Samples) (incarnation : ℕ) : Type 0 where
   pub image : drop 16 octets ≡ image_with watched windows incarnation
   pub few : length octets ≤ 484633

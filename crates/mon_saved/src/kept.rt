@@ -1,7 +1,8 @@
 //! An image that is kept from save to save. Where the newest sample came into a full window and the
 //! oldest went, its records are moved by one; so a save writes nothing of such a window anew.
 
-ghost use Rattle.std.specs.Prelude.{◌≡◌, ◌≤◌, ◌<◌, ◌+◌, ◌*◌, ◌++◌, ◌∷◌, [], ℕ, List, All, IfOk, IsTrue, OnOk, Some, drop, get_or, length};
+ghost use Rattle.std.specs.Prelude.{◌≡◌, ◌≤◌, ◌<◌, ◌+◌, ◌*◌, ◌++◌, ◌∷◌, [], ℕ, List, All, IfOk};
+ghost use Rattle.std.specs.Prelude.{IsOk, IsTrue, OnOk, Some, drop, get_or, length, vec_capacity};
 ghost use Rattle.std.specs.Ordering.{nat_cmp};
 ghost use Rattle.std.specs.declared.cmp.Ordering.TheVariants.{Less};
 ghost use Rattle.mon_sample.specs.Key.{IsSample};
@@ -49,15 +50,17 @@ impl KeptImage {
         }
     }
 
-    /// Makes the next `write` write all of the image: for changes of the windows that were not made by `take_pairs`.
+    /// Makes the next `write` write all of the image: for changes of the windows that were not made
+    /// by `take_pairs`.
     pub fn forget(&mut self)
         ensures forgotten { self.new.incarnation ≡ 0 }
     {
         self.incarnation = 0;
     }
 
-    /// Makes the octets the image of the windows and the incarnation, which is not 0, behind 16 octets. Nothing is written
-    /// where they are it; if they have the capacity, nothing is allocated.
+    /// Makes the octets the image of the windows and the incarnation, which is not 0, behind 16
+    /// octets. Nothing is written where they are it. If they have the capacity, nothing is
+    /// allocated.
     ///
     /// # Errors
     /// `AllocError`: the next call writes all of it.
@@ -65,10 +68,18 @@ impl KeptImage {
         requires positive { 1 ≤ incarnation }
         requires kept { IsKept self.old board.now }
         ensures head { OnOk result (16 ≤ length self.new.octets.items) }
-        ensures written { OnOk result (drop 16 self.new.octets.items ≡ written_image board.now incarnation) }
-        ensures spells { OnOk result (SpellsImage (written_image board.now incarnation) (instances_of board.now.watch.instances) (image_of board.now incarnation)) }
+        ensures written { OnOk result (drop 16 self.new.octets.items
+            ≡ written_image board.now incarnation) }
+        ensures spells { OnOk result (SpellsImage (written_image board.now incarnation)
+            (instances_of board.now.watch.instances) (image_of board.now incarnation)) }
         ensures few { OnOk result (length (written_image board.now incarnation) ≤ 484617) }
         ensures kept { IsKept self.new board.now }
+
+        // What has the capacity allocates nothing, and keeps it.
+        ensures spared { 16 + length (written_image board.now incarnation) ≤ vec_capacity self.old.octets
+            → length board.now.watch.instances ≤ vec_capacity self.old.places → IsOk result }
+        ensures capacity { vec_capacity self.old.octets ≤ vec_capacity self.new.octets }
+        ensures places_capacity { vec_capacity self.old.places ≤ vec_capacity self.new.places }
     {
         if self.incarnation == incarnation {
             mon_window::laws::rising_list();
@@ -84,10 +95,18 @@ impl KeptImage {
     fn write_all(&mut self, board: &Board, incarnation: u32) -> Result<(), AllocError>
         requires positive { 1 ≤ incarnation }
         ensures head { OnOk result (16 ≤ length self.new.octets.items) }
-        ensures written { OnOk result (drop 16 self.new.octets.items ≡ written_image board.now incarnation) }
-        ensures spells { OnOk result (SpellsImage (written_image board.now incarnation) (instances_of board.now.watch.instances) (image_of board.now incarnation)) }
+        ensures written { OnOk result (drop 16 self.new.octets.items
+            ≡ written_image board.now incarnation) }
+        ensures spells { OnOk result (SpellsImage (written_image board.now incarnation)
+            (instances_of board.now.watch.instances) (image_of board.now incarnation)) }
         ensures few { OnOk result (length (written_image board.now incarnation) ≤ 484617) }
         ensures kept { IsKept self.new board.now }
+
+        // What has the capacity allocates nothing, and keeps it.
+        ensures spared { 16 + length (written_image board.now incarnation) ≤ vec_capacity self.old.octets
+            → length board.now.watch.instances ≤ vec_capacity self.old.places → IsOk result }
+        ensures capacity { vec_capacity self.old.octets ≤ vec_capacity self.new.octets }
+        ensures places_capacity { vec_capacity self.old.places ≤ vec_capacity self.new.places }
     {
         self.incarnation = 0;
         let size = put_places(&mut self.places, board)?;
@@ -99,12 +118,14 @@ impl KeptImage {
         Ok(())
     }
 
-    /// Takes samples into the board, as `Board::take_pairs` does, and moves the records of their instances.
+    /// Takes samples into the board, as `Board::take_pairs` does, and moves the records of their
+    /// instances.
     pub fn take_pairs(&mut self, board: &mut Board, pairs: &[(u16, Sample)])
         requires instances { All (λ pair. pair.0 < length board.old.watch.instances) pairs.now }
         requires kept { IsKept self.old board.old }
         ensures watch { board.new.watch ≡ board.old.watch }
-        ensures windows { (i : ℕ) → window_of board.new i ≡ joined board.old.watch (window_of board.old) pairs.now i }
+        ensures windows { (i : ℕ) → window_of board.new i
+            ≡ joined board.old.watch (window_of board.old) pairs.now i }
         ensures marks { KeepsMarks board.old board.new }
         ensures kept { IsKept self.new board.new }
     {
@@ -123,7 +144,8 @@ impl KeptImage {
         requires instance { instance < length board.old.watch.instances }
         requires kept { IsKept self.old board.old }
         ensures watch { board.new.watch ≡ board.old.watch }
-        ensures taken { IsTaken board.old.watch (window_of board.old) (window_of board.new) instance sample }
+        ensures taken { IsTaken board.old.watch (window_of board.old) (window_of board.new)
+            instance sample }
         ensures marks { KeepsMarks board.old board.new }
         ensures kept { IsKept self.new board.new }
     {
@@ -153,10 +175,12 @@ impl KeptImage {
     }
 }
 
-/// Returns `true` if the sample at this place is the newest of these, and the one that was dropped is older than all.
+/// Returns `true` if the sample at this place is the newest of these, and the one that was dropped
+/// is older than all.
 fn moved_by_one(items: &[Sample], at: usize, dropped: Option<Sample>) -> bool
     requires { at < length items.now }
-    ensures { IsTrue result → (at + 1 ≡ length items.now) × ((d : ℕ) × (dropped ≡ Some d) × (nat_cmp d (get_or items.now 0 0) ≡ Less)) }
+    ensures { IsTrue result → (at + 1 ≡ length items.now)
+        × ((d : ℕ) × (dropped ≡ Some d) × (nat_cmp d (get_or items.now 0 0) ≡ Less)) }
 {
     let Some(oldest) = dropped else {
         return false;
@@ -167,27 +191,35 @@ fn moved_by_one(items: &[Sample], at: usize, dropped: Option<Sample>) -> bool
     oldest.compare(&items[0]).is_lt()
 }
 
-/// Takes the first record at a place out, moves the others down, and writes the last of these samples behind them.
+/// Takes the first record at a place out, moves the others down, and writes the last of these
+/// samples behind them.
 fn move_records(octets: &mut [u8], start: usize, items: &[Sample])
     requires some { 1 ≤ length items.now }
     requires room { start + 21 * length items.now ≤ length octets.old }
     ensures len { length octets.new ≡ length octets.old }
-    ensures moved { (front back rest : List ℕ) (oldest newest : ℕ) → octets.old ≡ front ++ (samples_octets (oldest ∷ rest) ++ back) → length front ≡ start
-        → items.now ≡ rest ++ newest ∷ [] → octets.new ≡ front ++ (samples_octets (rest ++ newest ∷ []) ++ back) }
-    ensures sample { (rest : List ℕ) (newest : ℕ) → items.now ≡ rest ++ newest ∷ [] → IsSample newest }
+    ensures moved { (front back rest : List ℕ) (oldest newest : ℕ)
+        → octets.old ≡ front ++ (samples_octets (oldest ∷ rest) ++ back) → length front ≡ start
+        → items.now ≡ rest ++ newest ∷ []
+        → octets.new ≡ front ++ (samples_octets (rest ++ newest ∷ []) ++ back) }
+    ensures sample { (rest : List ℕ) (newest : ℕ) → items.now ≡ rest ++ newest ∷ []
+        → IsSample newest }
 {
     let end = start + RECORD * items.len();
     octets.copy_within(start + RECORD..end, start);
     octets[end - RECORD..end].copy_from_slice(&items[items.len() - 1].to_record());
 }
 
-/// Puts down where in an image behind `HEAD_ROOM` octets the records of each instance begin, and returns its end.
+/// Puts down where in an image behind `HEAD_ROOM` octets the records of each instance begin, and
+/// returns its end.
 fn put_places(places: &mut Vec<usize>, board: &Board) -> Result<usize, AllocError>
     ensures number { OnOk result (length places.new.items ≡ length board.now.watch.instances) }
     ensures places { OnOk result ((i : ℕ) → i < length board.now.watch.instances
-        → get_or places.new.items i 0 + length (records_on board.now.watch.instances (window_of board.now) i) ≡ 16 + length (written_image board.now 1)) }
+        → get_or places.new.items i 0 + length (records_on board.now.watch.instances (window_of board.now) i)
+        ≡ 16 + length (written_image board.now 1)) }
     ensures size { IfOk result (λ n. n ≡ 16 + length (written_image board.now 1)) }
     ensures few { IfOk result (λ n. n ≤ 484633) }
+    ensures spared { length board.now.watch.instances ≤ vec_capacity places.old → IsOk result }
+    ensures capacity { vec_capacity places.old ≤ vec_capacity places.new }
 {
     let watched = board.watch().instances();
     places.clear();
@@ -196,7 +228,7 @@ fn put_places(places: &mut Vec<usize>, board: &Board) -> Result<usize, AllocErro
     for i in 0..watched.len() {
         let instance = &watched[i].instance;
         at += 3 + instance_size(instance.engine.as_slice(), &instance.name);
-        places.push(at)?;
+        places.push(at).unwrap();
         at += samples_size(board.items(i as u16));
     }
     Ok(at)

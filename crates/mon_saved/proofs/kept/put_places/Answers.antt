@@ -1,4 +1,4 @@
-use Rattle.std.proofs.Common.{rules, ◌≡◌, ◌≤◌, ◌<◌, ◌+◌, List, [], ◌∷◌, ℕ, get_or, length, ap, subst, sym, arith}
+use Rattle.std.proofs.Common.{rules, ◌≡◌, ◌≤◌, ◌<◌, ◌+◌, ◌++◌, List, [], ◌∷◌, ℕ, get_or, length, ap, subst, sym, arith}
 use Rattle.std.proofs.lemmas.List.{length-append}
 use Rattle.mon_oid.specs.Oid.{IsOid}
 use Rattle.mon_window.specs.Top.{rising}
@@ -43,13 +43,16 @@ loop-i-preserved c =
     let count = ap (λ (l : List ℕ). length l) samples in
     let entry = entry_long ws (window_of b) i w c.loop-i-test.true c.index-watched-i.is in
     let records = records_size ws (window_of b) i in
+    let items : c.push.new.self.items ≡ c.loop-i.places.items ++ (c.loop-i.at + (3 + c.instance_size.result)) ∷ [] = search rules in
     let here : c.loop-i.at + (3 + c.instance_size.result) + length (records_on ws (window_of b) i) ≡ 25 + length (entries_on ws (window_of b) 0) = omega (arith, size, entry, c.loop-i.invariant.at) in
     record {
       at = omega (arith, size, long, count, entry, records, c.samples_size-at.ensures, c.loop-i.invariant.at);
       small = omega (arith, few, long, size, engine, length-instance w.instance.engine w.instance.name, short, c.loop-i.invariant.small, c.samples_size-at.ensures);
-      number = (let e = ap (λ (l : List ℕ). length l) c.in_ok-push.ensures.items in omega (arith, e, c.loop-i.invariant.number, length-append c.loop-i.places.items ((c.loop-i.at + (3 + c.instance_size.result)) ∷ [])));
+      number = (let e = ap (λ (l : List ℕ). length l) items in omega (arith, e, c.loop-i.invariant.number, length-append c.loop-i.places.items ((c.loop-i.at + (3 + c.instance_size.result)) ∷ [])));
+      room = omega (arith, c.loop-i.invariant.room, c.push.ensures.capacity);
+      capacity = omega (arith, c.loop-i.invariant.capacity, c.push.ensures.capacity);
       places = put_down (λ k at. at + length (records_on ws (window_of b) k) ≡ 25 + length (entries_on ws (window_of b) 0)) c.loop-i.places.items _ i (c.loop-i.at + (3 + c.instance_size.result))
-          c.loop-i.invariant.number c.in_ok-push.ensures.items c.loop-i.invariant.places here;
+          c.loop-i.invariant.number items c.loop-i.invariant.places here;
     }
 
 pub returns-clause-places : goal.returns-clause-places

@@ -1,4 +1,4 @@
-use Rattle.std.proofs.Common.{rules, ◌≡◌, length, arith}
+use Rattle.std.proofs.Common.{rules, ◌≡◌, length, sym, true≢false, arith}
 use Rattle.mon_board.specs.Board.{window_of}
 use Rattle.mon_saved.proofs.Moved.{holds_written, image_long}
 use Rattle.mon_saved.proofs.kept.KeptImage.write_all.Goals as goal
@@ -31,3 +31,16 @@ pub returns-clause-few : goal.returns-clause-few
 returns-clause-few c =
     let b = c.args.board.now in
     omega (arith, c.in_ok-size.ensures.size, c.in_ok-size.ensures.few, image_long b.watch.instances (window_of b) 1, image_long b.watch.instances (window_of b) c.args.incarnation)
+
+pub returns-in_err-reserve-clause-spared : goal.returns-in_err-reserve-clause-spared
+returns-in_err-reserve-clause-spared c = λ room many.
+    let b = c.args.board.now in
+    absurd (true≢false (sym (c.in_err-reserve.ensures.succeeds (omega (
+      arith,
+      room,
+      c.in_ok-size.ensures.size,
+      c.clear.ensures.len,
+      c.clear.ensures.capacity,
+      image_long b.watch.instances (window_of b) 1,
+      image_long b.watch.instances (window_of b) c.args.incarnation,
+    )))))
