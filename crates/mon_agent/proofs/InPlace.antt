@@ -7,15 +7,12 @@ use Rattle.mon_ber.specs.declared.value.Value.{Value}
 use Rattle.mon_ber.specs.Grammar.{Spells, IsElement}
 use Rattle.mon_ber.specs.Reading.{element_at, name_at}
 use Rattle.mon_ber.proofs.Promised.{element_takes, name_at_takes}
-use Rattle.mon_pdu.specs.declared.frame.Frame.{Frame}
 use Rattle.mon_pdu.specs.declared.message.Binding.{Binding}
 use Rattle.mon_pdu.specs.declared.message.PduKind.{PduKind}
 use Rattle.mon_pdu.specs.declared.message.PduKind.TheVariants as kinds
-use Rattle.mon_pdu.specs.Around.{message_around}
-use Rattle.mon_pdu.specs.Framed.{framed}
+use Rattle.mon_pdu.specs.declared.message.Message.{Message}
 use Rattle.mon_pdu.specs.Grammar.{IsBinding}
 use Rattle.mon_pdu.specs.Writing.{list_contents, written_binding, written_message}
-use Rattle.mon_pdu.proofs.Around.{message_is}
 use Rattle.mon_vacm.specs.declared.need.Need.TheVariants.{Read}
 use Rattle.mon_vacm.specs.Access.{access_of}
 use Rattle.mon_vacm.specs.Tables.{Lists}
@@ -24,8 +21,8 @@ use Rattle.mon_mib.specs.declared.change.Change.{Change}
 use Rattle.mon_mib.specs.Held.{Held}
 use Rattle.mon_mib.specs.Known.{Known}
 use Rattle.mon_agent.specs.declared.reply.Reply.TheVariants.{Send}
-use Rattle.mon_agent.specs.Answer.{IsAnswered, IsGranted, IsOfKind, is_answered, need_of_kind}
-use Rattle.mon_agent.specs.InPlace.{ArePut, IsAnswerOf, IsPut, frame_response}
+use Rattle.mon_agent.specs.Answer.{AreAnswers, IsAnswered, IsGranted, IsOfKind, is_answered, is_request, need_of, need_of_kind}
+use Rattle.mon_agent.specs.InPlace.{ArePut, IsAnswerOf, IsPut}
 use Rattle.mon_agent.specs.Reply.{count_of, answered}
 use Rattle.mon_agent.specs.Step.{AreFor}
 use Rattle.mon_agent.proofs.Sent.{known_view}
@@ -89,32 +86,28 @@ of_frame k sees kinds.Inform asked answers is each = absurd (elim is [ inl e ↦
 of_frame k sees kinds.Trap asked answers is each = absurd (elim is [ inl e ↦ cc | inr e ↦ cc ])
 of_frame k sees kinds.Report asked answers is each = absurd (elim is [ inl e ↦ cc | inr e ↦ cc ])
 
-reads : (kind : PduKind) → (kind ≡ kinds.Get) ⊎ (kind ≡ kinds.GetNext) → (need_of_kind kind ≡ Read) × (is_answered kind ≡ true)
+pub reads : (kind : PduKind) → (kind ≡ kinds.Get) ⊎ (kind ≡ kinds.GetNext) → (need_of_kind kind ≡ Read) × (is_answered kind ≡ true)
 reads kind (inl e) = rw e (refl, refl)
 reads kind (inr e) = rw e (refl, refl)
 
 module _ {D : Type 0} (held : D → Held) (failed : D → ℕ) (refuses : D → Change → Type 0) (policy : Lists) (k : Known) where
-  -- what is written for a frame answers its message
-  pub frame_answered : (device : D) (f : Frame) (view list : List ℕ) (octets : Vec ℕ) → (f.kind ≡ kinds.Get) ⊎ (f.kind ≡ kinds.GetNext)
-      → access_of policy f.community.now Read ≡ Ok view → (put : ArePut (IsAnswerOf k (IsInView policy.families view) f.kind) f.list.now [] list)
-      → octets.items ≡ message_around (frame_response f []) list → length octets.items ≤ count_of k.settings.limit
-      → IsAnswered held failed refuses policy k device device (framed f put.asked) (Send octets)
-  frame_answered device f view list octets kind access put written within =
-      let m = framed f put.asked in
-      let read = reads f.kind kind in
-      let may : access_of policy m.community (need_of_kind f.kind) ≡ Ok view = ap (access_of policy m.community) read.0 ∙ access in
-      let reply = answered m put.answers in
-      let is : octets.items ≡ written_message reply = written ∙ ap (message_around (frame_response f [])) put.put ∙ sym (message_is (frame_response f []) put.answers) in (
+  -- a response that is written answers a request to read
+  pub read_answered : (device : D) (m : Message) (view : List ℕ) (answers : List Binding) (octets : Vec ℕ) → need_of m.body ≡ Read → is_request m.body ≡ true
+      → access_of policy m.community Read ≡ Ok view → AreAnswers k (IsInView policy.families view) m m.body answers
+      → octets.items ≡ written_message (answered m answers) → length octets.items ≤ count_of k.settings.limit
+      → IsAnswered held failed refuses policy k device device m (Send octets)
+  read_answered device m view answers octets need request access right written within =
+      let may : access_of policy m.community (need_of m.body) ≡ Ok view = ap (access_of policy m.community) need ∙ access in
+      let reply = answered m answers in (
         known_view policy m view may,
-        read.1,
+        request,
         (
           reply,
           inr (
             view,
             may,
-            subst (λ n. IsGranted held failed refuses n k (IsInView policy.families view) device device m reply) (sym read.0)
-                (refl, (put.answers, of_frame k (IsInView policy.families view) f.kind put.asked put.answers kind put.right, refl)),
+            subst (λ n. IsGranted held failed refuses n k (IsInView policy.families view) device device m reply) (sym need) (refl, (answers, right, refl)),
           ),
-          inl (subst (λ (o : List ℕ). length o ≤ count_of k.settings.limit) is within, is),
+          inl (subst (λ (o : List ℕ). length o ≤ count_of k.settings.limit) written within, written),
         ),
       )

@@ -1,6 +1,6 @@
 pub mod Bound
 pub mod Each
-pub mod Framed
+pub mod Filling
 pub mod InPlace
 pub mod Longest
 pub mod Read

@@ -1,16 +1,15 @@
 -- What is read of a request in place, and what is written for it.
-use Rattle.std.specs.Prelude.{◌≡◌, ℕ, List, [], ◌++◌}
+use Rattle.std.specs.Prelude.{◌≡◌, ℕ, List, ◌++◌}
 use Rattle.mon_ber.specs.Sequence.{AreSpelled}
-use Rattle.mon_pdu.specs.declared.frame.Frame.{Frame}
 use Rattle.mon_pdu.specs.declared.message.Binding.{Binding}
-use Rattle.mon_pdu.specs.declared.message.Message.{Message}
 use Rattle.mon_pdu.specs.declared.message.PduKind.{PduKind}
 use Rattle.mon_pdu.specs.declared.message.PduKind.TheVariants as kinds
-use Rattle.mon_pdu.specs.Framed.{framed}
 use Rattle.mon_pdu.specs.Grammar.{IsBinding}
 use Rattle.mon_pdu.specs.Writing.{list_contents, written_binding}
+use Rattle.mon_vacm.specs.Tables.{Lists}
+use Rattle.mon_mib.specs.declared.mib.Mib.{Mib}
 use Rattle.mon_mib.specs.Known.{Known}
-use Rattle.mon_agent.specs.Reply.{answered}
+use Rattle.mon_mib.specs.Search.{Sought}
 use Rattle.mon_agent.specs.Step.{AreFor, IsGetAnswer, IsNextAnswer}
 
 -- The octets begin with a variable binding, before `rest`. Its answer was written after what was there.
@@ -37,6 +36,6 @@ IsAnswerOf k sees kinds.Get name answer = IsGetAnswer k sees name answer
 IsAnswerOf k sees kinds.GetNext name answer = IsNextAnswer k sees name answer
 IsAnswerOf k sees other name answer = ⊥
 
--- the response without an error to a request of this frame, with these variable bindings
-abbrev pub frame_response : Frame → List Binding → Message
-frame_response f bindings = answered (framed f []) bindings
+-- a search in the view that was granted
+abbrev pub sought_in : {D : Type 0} → Mib D → Lists → List ℕ → ℕ → Sought D
+sought_in mib policy view moment = record { map = mib; families = policy.families; view = view; moment = moment }

@@ -2,6 +2,7 @@ pub mod Answer
 pub mod Assigned
 pub mod Bulk
 pub mod Fault
+pub mod Filling
 pub mod Growing
 pub mod InPlace
 pub mod Ready

@@ -1,5 +1,6 @@
 //! Buffers that replies are written into.
 
+use mon_oid::Oid;
 use std::alloc::Global;
 
 /// Buffers for an agent's replies, kept from datagram to datagram. What they hold between calls has
@@ -8,6 +9,8 @@ use std::alloc::Global;
 pub struct ReplyBuffers {
     /// For the variable bindings of a response, whose size its head begins with.
     pub(crate) list: Vec<u8>,
+    /// For the names of a GetBulk, and those of each of its rounds.
+    pub(crate) names: Vec<Oid>,
     /// For the response.
     pub(crate) octets: Vec<u8>,
 }
@@ -17,6 +20,7 @@ impl ReplyBuffers {
     pub fn new(alloc: Global) -> Self {
         ReplyBuffers {
             list: Vec::new(alloc),
+            names: Vec::new(alloc),
             octets: Vec::new(alloc),
         }
     }

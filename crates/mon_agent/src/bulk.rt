@@ -127,7 +127,7 @@ fn repeat<D: Device + Drop>(
 }
 
 /// A number of a request that counts; one below 0 is 0.
-fn count(number: i32) -> usize
+pub(crate) fn count(number: i32) -> usize
     ensures { result ≡ count_of number }
 {
     number.max(0) as usize

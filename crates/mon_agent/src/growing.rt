@@ -155,7 +155,7 @@ fn are_at_end(bindings: &[Binding]) -> bool
 }
 
 /// Returns `true` if a value is endOfMibView.
-fn is_end(value: &Value) -> bool
+pub(crate) fn is_end(value: &Value) -> bool
     ensures { result ≡ is_end value.now }
 {
     matches!(value, Value::EndOfMibView)

@@ -1,26 +1,33 @@
-//! Answering a Get or GetNext in place: no message and no list of variable bindings is made of it,
-//! and the response is written into buffers that are kept. Any other datagram is read as a message.
+//! Answering a Get, GetNext or GetBulk in place: no message and no list of variable bindings is made
+//! of it, and the response is written into buffers that are kept. Any other datagram is read as a
+//! message.
 
-ghost use Rattle.std.specs.Prelude.{◌≡◌, ◌<◌, ◌↔◌, ◌⊎◌, ◌++◌, ◌∷◌, ◌+◌, ◌≤◌, ◌^◌, ℕ, List, length, IfSome, OnSome, IsTrue, vec_len, vec_capacity};
+ghost use Rattle.std.specs.Prelude.{pos, Ok, ◌≡◌, ◌<◌, ◌↔◌, ◌⊎◌, ◌++◌, ◌∷◌, ◌+◌, ◌≤◌, ◌^◌, ℕ, List, length, IfSome, OnSome, IsTrue, vec_len, vec_capacity};
 ghost use Rattle.mon_ber.specs.declared.value.Value.{Value as AnyValue};
 ghost use Rattle.mon_pdu.specs.declared.message.Binding.{Binding as AnyBinding};
 ghost use Rattle.mon_pdu.specs.declared.message.PduKind.TheVariants as kinds;
 ghost use Rattle.mon_pdu.specs.Grammar.{IsBinding};
-ghost use Rattle.mon_pdu.specs.Writing.{written_binding};
+ghost use Rattle.mon_pdu.specs.Framed.{bulk_framed, framed};
+ghost use Rattle.mon_pdu.specs.Writing.{list_contents, written_binding, written_message};
+ghost use Rattle.mon_ber.specs.Sequence.{AreSpelled};
+ghost use Rattle.mon_vacm.specs.declared.need.Need.TheVariants.{Read};
+ghost use Rattle.mon_vacm.specs.Access.{access_of};
 ghost use Rattle.mon_mib.specs.Map.{known_by, map_device};
 ghost use Rattle.mon_mib.specs.Search.{IsSeenIn, known_in};
 ghost use Rattle.mon_ber.specs.declared.value.Value.TheVariants.{Name};
 ghost use Rattle.mon_ber.specs.Writing.{length_octets, name_octets, size_for, written};
-ghost use Rattle.mon_agent.specs.Answer.{IsAnswer};
-ghost use Rattle.mon_agent.specs.InPlace.{ArePut, IsAnswerOf, IsPut};
+ghost use Rattle.mon_agent.specs.Answer.{IsAnswer, IsAnswered};
+ghost use Rattle.mon_agent.specs.InPlace.{ArePut, IsAnswerOf, IsPut, sought_in};
+ghost use Rattle.mon_agent.specs.Reply.{count_of, response_body};
 ghost use Rattle.mon_agent.specs.Step.{IsGetAnswer};
 
 use crate::agent::Agent;
 use crate::buffers::ReplyBuffers;
-use crate::framing::put_response;
+use crate::bulk_in_place::{BulkPlan, fill, read_names};
 use crate::growing::is_within;
 use crate::reading::{got_value, step};
 use crate::reply::Reply;
+use crate::sending::NO_ERROR;
 use mon_ber::element::element_at;
 use mon_ber::reading::name_at;
 use mon_ber::writing::{
@@ -30,7 +37,7 @@ use mon_ber::writing::{
 use mon_ber::{SEQUENCE, Value};
 use mon_mib::{Device, Moment, Search, Shown};
 use mon_oid::Oid;
-use mon_pdu::{Frame, PduKind, read_frame};
+use mon_pdu::{BulkFrame, Frame, PduKind, read_bulk_frame, read_frame, write_frame};
 use mon_vacm::Need;
 use std::alloc::Global;
 use std::mem;
@@ -42,9 +49,9 @@ const LONGEST: usize = 65535;
 const NULL: [u8; 2] = [5, 0];
 
 impl<D: Device + Drop> Agent<D> {
-    /// The octets of the reply to a datagram that is a Get or GetNext which is granted, each of its
-    /// values spelled as `NULL`, and whose response is within the limit. Returns `None` for any
-    /// other datagram, or if memory ran out.
+    /// The octets of the reply to a datagram that is a Get, GetNext or GetBulk which is granted, each
+    /// of its values spelled as `NULL`, and whose response is within the limit. Returns `None` for
+    /// any other datagram, or if memory ran out.
     pub(crate) fn in_place(
         &self,
         alloc: Global,
@@ -56,21 +63,118 @@ impl<D: Device + Drop> Agent<D> {
             IfSome result (λ octets. IsAnswer D.held D.failed D.refuses self.now.policy known
             (map_device self.now.mib) (map_device self.now.mib) datagram.now (Reply.Send octets)) }
     {
-        let frame = read_frame(datagram)?;
+        match read_frame(datagram) {
+            Some(frame) => self.answer_frame(alloc, &frame, moment, buffers),
+            None => self.answer_bulk(alloc, &read_bulk_frame(datagram)?, moment, buffers),
+        }
+    }
+
+    /// The octets of the reply to a Get or GetNext of this frame.
+    fn answer_frame(
+        &self,
+        alloc: Global,
+        frame: &Frame<'_>,
+        moment: Moment,
+        buffers: &mut ReplyBuffers,
+    ) -> Option<Vec<u8>>
+        ensures { let known = known_by D.held self.now.mib moment in
+            IfSome result (λ octets. (asked : List AnyBinding) × AreSpelled IsBinding frame.now.list.now asked
+            × IsAnswered D.held D.failed D.refuses self.now.policy known
+            (map_device self.now.mib) (map_device self.now.mib) (framed frame.now asked) (Reply.Send octets)) }
+    {
         if !is_in_place(frame.kind) {
             return None;
         }
-        let Ok(access) = self.policy.access(frame.community, Need::Read) else {
-            return None;
-        };
-        let mut search = Search::new(alloc, &self.mib, &self.policy, access, moment);
+        let mut search = self.search(alloc, frame.community, moment)?;
         buffers.list.clear();
-        put_answers(alloc, &mut search, &frame, &mut buffers.list)?;
+        put_answers(alloc, &mut search, frame, &mut buffers.list)?;
         let limit = self.mib.settings().limit;
-        put_response(&mut buffers.octets, &frame, buffers.list.as_slice(), limit)?;
-        let empty = Vec::new(alloc);
-        Some(mem::replace(&mut buffers.octets, empty))
+        take_response(alloc, frame.community, frame.request_id, limit, buffers)
     }
+
+    /// The octets of the reply to a GetBulk of this frame.
+    fn answer_bulk(
+        &self,
+        alloc: Global,
+        frame: &BulkFrame<'_>,
+        moment: Moment,
+        buffers: &mut ReplyBuffers,
+    ) -> Option<Vec<u8>>
+        ensures { let known = known_by D.held self.now.mib moment in
+            IfSome result (λ octets. (asked : List AnyBinding) × AreSpelled IsBinding frame.now.list.now asked
+            × IsAnswered D.held D.failed D.refuses self.now.policy known
+            (map_device self.now.mib) (map_device self.now.mib) (bulk_framed frame.now asked) (Reply.Send octets)) }
+    {
+        mon_pdu::laws::grows();
+        let mut search = self.search(alloc, frame.community, moment)?;
+        let limit = self.mib.settings().limit;
+        let plan = BulkPlan::new(frame, limit);
+        buffers.names.clear();
+        read_names(alloc, frame.list, &mut buffers.names)?;
+        buffers.list.clear();
+        fill(
+            alloc,
+            &mut search,
+            &plan,
+            buffers.names.as_mut_slice(),
+            &mut buffers.list,
+        )?;
+        take_response(alloc, frame.community, frame.request_id, limit, buffers)
+    }
+
+    /// A search in the view that a community may read.
+    fn search<'a>(
+        &'a self,
+        alloc: Global,
+        community: &[u8],
+        moment: Moment,
+    ) -> Option<Search<'a, D>>
+        ensures { IfSome result (λ s. (view : List ℕ) × (access_of self.now.policy community.now Read ≡ Ok view)
+            × (s ≡ sought_in self.now.mib self.now.policy view moment)) }
+    {
+        match self.policy.access(community, Need::Read) {
+            Ok(access) => Some(Search::new(alloc, &self.mib, &self.policy, access, moment)),
+            Err(_) => None,
+        }
+    }
+}
+
+/// The response without an error to a request of this community and request-id, with variable
+/// bindings that were written before.
+pub(crate) fn response_frame<'a>(community: &'a [u8], request_id: i32, list: &'a [u8]) -> Frame<'a>
+    ensures framed { (bindings : List AnyBinding) → framed result bindings
+        ≡ record { community = community.now; body = response_body request_id (pos 0) (pos 0) bindings } }
+    ensures list { result.list.now ≡ list.now }
+{
+    Frame {
+        community,
+        kind: PduKind::Response,
+        request_id,
+        error_status: NO_ERROR,
+        error_index: 0,
+        list,
+    }
+}
+
+/// The octets of the response without an error to a request of this community and request-id, with
+/// the variable bindings that the buffers hold. Returns `None` if it is above the limit, or if
+/// memory ran out.
+fn take_response(
+    alloc: Global,
+    community: &[u8],
+    request_id: i32,
+    limit: i32,
+    buffers: &mut ReplyBuffers,
+) -> Option<Vec<u8>>
+    ensures written { (bindings : List AnyBinding) → buffers.old.list.items ≡ list_contents bindings
+        → IfSome result (λ octets. octets.items
+        ≡ written_message (record { community = community.now; body = response_body request_id (pos 0) (pos 0) bindings })) }
+    ensures within { IfSome result (λ octets. length octets.items ≤ count_of limit) }
+{
+    let frame = response_frame(community, request_id, buffers.list.as_slice());
+    write_frame(&mut buffers.octets, &frame, limit.max(0) as u32).ok()?;
+    let empty = Vec::new(alloc);
+    Some(mem::replace(&mut buffers.octets, empty))
 }
 
 /// Returns `true` if a PDU may be answered in place.
@@ -164,7 +268,7 @@ fn put_got<D: Device + Drop>(
 
 /// The name of the variable binding that the octets begin with, and what follows that, if its value
 /// is spelled as `NULL`.
-fn asked_name(alloc: Global, octets: &[u8]) -> Option<(Oid, &[u8])>
+pub(crate) fn asked_name(alloc: Global, octets: &[u8]) -> Option<(Oid, &[u8])>
     ensures spelled { IfSome result (λ r. (text : List ℕ) × (v : AnyValue)
         × IsBinding text (record { name = r.0; value = v }) × (octets.now ≡ text ++ r.1.now)) }
     ensures shorter { IfSome result (λ r. length r.1.now < length octets.now) }
@@ -188,7 +292,7 @@ fn put_octets_binding(out: &mut Vec<u8>, name: &Oid, octets: &[u8], limit: i32) 
 }
 
 /// Writes a variable binding. Returns `None` as `put_head` does.
-fn put_binding(out: &mut Vec<u8>, name: &Oid, value: &Value, limit: i32) -> Option<()>
+pub(crate) fn put_binding(out: &mut Vec<u8>, name: &Oid, value: &Value, limit: i32) -> Option<()>
     ensures { let binding : AnyBinding = record { name = name.now; value = value.now } in
         OnSome result (out.new.items ≡ out.old.items ++ written_binding binding) }
 {
