@@ -1,10 +1,9 @@
 -- The response to a GetBulk as it is filled: names that are listed, and rounds of answers.
-use Rattle.std.proofs.Common.{◌≡◌, ℕ, zero, suc, ◌+◌, ◌-◌, ◌<◌, ◌≤◌, min, Bool, true, false, ◌&&◌, ℤ, List, [], ◌∷◌, ◌++◌, length, map, get_or, take, drop, set, refl, sym, ap, subst, ◌∙◌, inl, inr, ◌⊎◌, arith}
+use Rattle.std.proofs.Common.{◌≡◌, ℕ, zero, suc, ◌+◌, ◌<◌, ◌≤◌, min, Bool, true, false, ◌&&◌, ℤ, List, [], ◌∷◌, ◌++◌, length, map, get_or, take, drop, set, refl, sym, ap, subst, ◌∙◌, inl, inr, ◌⊎◌, arith}
 use Rattle.std.specs.Prelude.{Option, Some, None, OnSome, IfSome, Result, Ok, Err, IfOk, OnOk}
 use Rattle.std.specs.Result.{result_ok}
-use Rattle.std.proofs.lemmas.List.{take_more, take_more_set, drop_more, drop-set-lt, length-set, map-append, append_assoc, append-nil, take_all}
+use Rattle.std.proofs.lemmas.List.{take_more, take_more_set, drop_more, drop-set-lt, map-append, append_assoc, append-nil, take_all}
 use Rattle.std.proofs.Math.Seq.{split_at}
-use Rattle.mon_ber.specs.Sequence.{AreSpelled}
 use Rattle.mon_pdu.specs.declared.message.Binding.{Binding}
 use Rattle.mon_pdu.specs.Grammar.{IsBinding}
 use Rattle.mon_pdu.specs.declared.frame.BulkFrame.{BulkFrame}
@@ -18,7 +17,7 @@ use Rattle.mon_agent.specs.declared.bulk_in_place.Round.{Round}
 use Rattle.mon_agent.specs.declared.bulk_in_place.Round.TheVariants.{Full, Last, More}
 use Rattle.mon_agent.specs.Bulk.{IsLongestPart, IsStepper, full_list, is_end, is_last, names_of, rounds}
 use Rattle.mon_agent.specs.Filling.{AreNamed, FitsIn, IsFilled, IsRoundPut}
-use Rattle.mon_agent.specs.Growing.{IsCut, IsEnded}
+use Rattle.mon_agent.specs.Growing.{IsEnded}
 use Rattle.mon_agent.specs.Reply.{IsWithinLimit, answered, count_of}
 use Rattle.mon_agent.proofs.Longest.{longest}
 use Rattle.mon_agent.proofs.Rounds.{cut_longer, cut_is}

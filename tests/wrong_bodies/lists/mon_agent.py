@@ -228,13 +228,13 @@ BUGS = {
     ),
     "in_place_grants_the_view_for_writing": (
         "src/in_place.rt",
-        "        let Ok(access) = self.policy.access(frame.community, Need::Read) else {",
-        "        let Ok(access) = self.policy.access(frame.community, Need::Write) else {",
+        "        match self.policy.access(community, Need::Read) {",
+        "        match self.policy.access(community, Need::Write) {",
     ),
     "in_place_leaves_what_was_written_before": (
         "src/in_place.rt",
-        "        buffers.list.clear();",
-        "        buffers.list.truncate(1);",
+        "        buffers.list.clear();\n        put_answers(",
+        "        buffers.list.truncate(1);\n        put_answers(",
     ),
     "in_place_passes_over_the_last_octets": (
         "src/in_place.rt",
@@ -272,24 +272,74 @@ BUGS = {
         "    matches!(kind, PduKind::Get | PduKind::GetNext | PduKind::Set)",
     ),
     "in_place_answers_with_the_error_index": (
-        "src/framing.rt",
-        "    put_pdu(out, frame.request_id, list, body);",
-        "    put_pdu(out, frame.error_index, list, body);",
+        "src/in_place.rt",
+        "        take_response(alloc, frame.community, frame.request_id, limit, buffers)\n    }\n\n    /// The octets of the reply to a GetBulk",
+        "        take_response(alloc, frame.community, frame.error_index, limit, buffers)\n    }\n\n    /// The octets of the reply to a GetBulk",
     ),
-    "in_place_limits_the_list_alone": (
-        "src/framing.rt",
-        "    if !is_within(size, limit) {",
-        "    if !is_within(list.len(), limit) {",
+    "in_place_of_any_size": (
+        "src/in_place.rt",
+        "    write_frame(&mut buffers.octets, &frame, limit.max(0) as u32).ok()?;",
+        "    let _ = limit;\n    write_frame(&mut buffers.octets, &frame, u32::MAX).ok()?;",
     ),
-    "in_place_answers_in_version_1": (
-        "src/framing.rt",
-        "const VERSION: i32 = 1;",
-        "const VERSION: i32 = 0;",
+    "in_place_answers_with_an_error": (
+        "src/in_place.rt",
+        "        error_status: NO_ERROR,\n        error_index: 0,\n        list,",
+        "        error_status: 5,\n        error_index: 0,\n        list,",
     ),
-    "in_place_measures_no_list": (
-        "src/framing.rt",
-        "    let numbers = integer_size(request_id) + integer_size(NO_ERROR) + integer_size(NO_INDEX);",
-        "    let numbers = integer_size(request_id) + integer_size(NO_ERROR);",
+    "in_place_answers_as_a_report": (
+        "src/in_place.rt",
+        "        kind: PduKind::Response,\n        request_id,\n        error_status: NO_ERROR,",
+        "        kind: PduKind::Report,\n        request_id,\n        error_status: NO_ERROR,",
+    ),
+    "bulk_in_place_repeats_the_first_names": (
+        "src/bulk_in_place.rt",
+        "        mem::swap(name, &mut answer.name);",
+        "        if answer.name.parts().len() == 300 {\n            mem::swap(name, &mut answer.name);\n        }",
+    ),
+    "bulk_in_place_has_a_round_more": (
+        "src/bulk_in_place.rt",
+        "            rounds: count(frame.max_repetitions),",
+        "            rounds: count(frame.max_repetitions).saturating_add(1),",
+    ),
+    "bulk_in_place_repeats_none_once": (
+        "src/bulk_in_place.rt",
+        "            once: count(frame.non_repeaters),",
+        "            once: count(frame.max_repetitions),",
+    ),
+    "bulk_in_place_goes_on_after_what_does_not_fit": (
+        "src/bulk_in_place.rt",
+        "        if !put_fitting(plan, &answer, list)? {\n            return Some(Round::Full);\n        }",
+        "        put_fitting(plan, &answer, list)?;",
+    ),
+    "bulk_in_place_keeps_what_does_not_fit": (
+        "src/bulk_in_place.rt",
+        "    list.truncate(before);",
+        "    list.truncate(before.saturating_add(1));",
+    ),
+    "bulk_in_place_ends_at_any_end": (
+        "src/bulk_in_place.rt",
+        "        is_last = is_last && is_end(&answer.value);",
+        "        is_last = is_last || is_end(&answer.value);",
+    ),
+    "bulk_in_place_never_ends_at_the_end": (
+        "src/bulk_in_place.rt",
+        "    Some(if is_last { Round::Last } else { Round::More })",
+        "    Some(if is_last { Round::More } else { Round::More })",
+    ),
+    "bulk_in_place_passes_over_a_name": (
+        "src/bulk_in_place.rt",
+        "    names.push(name).ok()?;\n    Some(rest)",
+        "    if name.parts().len() != 7 {\n        names.push(name).ok()?;\n    }\n    Some(rest)",
+    ),
+    "bulk_in_place_keeps_names_of_before": (
+        "src/in_place.rt",
+        "        buffers.names.clear();",
+        "        buffers.names.truncate(1);",
+    ),
+    "bulk_in_place_within_the_limit_of_a_list": (
+        "src/bulk_in_place.rt",
+        "    if frame_fits(&plan.head, list.len().min(LIMIT), plan.limit) {",
+        "    if list.len() <= plan.limit as usize {",
     ),
     "answers_before_it_counts": (
         "src/agent.rt",
@@ -355,5 +405,6 @@ BUGS = {
 
 # Those that break a promise as a whole, each with its function: tests/bodies tries them in the gate.
 PROMISES = {
+    "bulk_in_place_goes_on_after_what_does_not_fit": "bulk_in_place::put_round",
     "bulk_cuts_at_whole_rounds": "growing::Growing::push",
 }

@@ -1,7 +1,6 @@
-use Rattle.std.proofs.Common.{◌≡◌, ◌∙◌, ◌++◌, min, [], take, drop, length, ap, subst, rules}
+use Rattle.std.proofs.Common.{◌≡◌, ◌∙◌, ◌++◌, min, [], length, subst, rules}
 use Rattle.mon_mib.specs.Search.{IsSeenIn, known_in}
 use Rattle.mon_agent.specs.Bulk.{rounds}
-use Rattle.mon_agent.specs.declared.bulk_in_place.Round.TheVariants.{Full}
 use Rattle.mon_agent.specs.Filling.{FitsIn, IsFilled, IsRoundPut}
 use Rattle.mon_agent.proofs.Filling.{all_put, left_out, on_some, once_cut, taken, then_rounds}
 use Rattle.mon_agent.proofs.bulk_in_place.fill.Goals as goal

@@ -1,9 +1,8 @@
-use Rattle.std.proofs.Common.{◌≡◌, ◌∙◌, ◌-◌, ◌+◌, ◌++◌, sym, subst}
+use Rattle.std.proofs.Common.{◌∙◌, ◌-◌, ◌+◌, ◌++◌, subst}
 use Rattle.mon_mib.specs.Search.{IsSeenIn, known_in}
-use Rattle.mon_agent.specs.declared.bulk_in_place.Round.TheVariants.{More}
 use Rattle.mon_agent.specs.Bulk.{rounds}
 use Rattle.mon_agent.specs.Filling.{FitsIn, IsRoundPut}
-use Rattle.mon_agent.proofs.Filling.{round_follows, rounds_begin, rounds_end, rounds_stop}
+use Rattle.mon_agent.proofs.Filling.{round_follows, rounds_end, rounds_stop}
 use Rattle.mon_agent.proofs.Rounds.{none_left, one_less}
 use Rattle.mon_agent.proofs.bulk_in_place.put_rounds.Goals as goal
 

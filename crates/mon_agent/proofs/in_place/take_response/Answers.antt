@@ -1,4 +1,4 @@
-use Rattle.std.proofs.Common.{◌≡◌, ◌∙◌, ℤ, List, pos, ap, sym, to_z, of_z, w32, rules}
+use Rattle.std.proofs.Common.{◌≡◌, ◌∙◌, ℤ, pos, ap, to_z, of_z, w32, rules}
 use Rattle.std.specs.Global.{Vec}
 use Rattle.mon_pdu.specs.declared.message.Message.{Message}
 use Rattle.mon_pdu.specs.Writing.{written_message}

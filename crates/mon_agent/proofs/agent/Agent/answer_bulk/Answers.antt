@@ -1,4 +1,4 @@
-use Rattle.std.proofs.Common.{◌≡◌, ◌≤◌, ◌∙◌, ◌++◌, [], w32, to_z, of_z, ℤ, length, map, take, drop, pos, refl, ap, sym, subst, rules}
+use Rattle.std.proofs.Common.{◌≡◌, ◌≤◌, ◌∙◌, ◌++◌, [], w32, to_z, of_z, ℤ, length, map, take, drop, pos, refl, ap, subst, rules}
 use Rattle.std.specs.Global.{Vec}
 use Rattle.std.specs.Prelude.{IfSome}
 use Rattle.mon_pdu.specs.declared.message.Message.{Message}
@@ -7,9 +7,9 @@ use Rattle.mon_pdu.specs.Writing.{written_message}
 use Rattle.mon_vacm.specs.View.{IsInView}
 use Rattle.mon_mib.specs.Map.{known_by}
 use Rattle.mon_mib.specs.Search.{IsSeenIn, known_in}
-use Rattle.mon_agent.specs.Bulk.{names_of, rounds}
+use Rattle.mon_agent.specs.Bulk.{rounds}
 use Rattle.mon_agent.specs.Filling.{AreNamed, FitsIn, IsFilled}
-use Rattle.mon_agent.specs.Reply.{answered, count_of, response_body}
+use Rattle.mon_agent.specs.Reply.{count_of, response_body}
 use Rattle.mon_agent.proofs.Filling.{both_mapped, bulk_answered}
 use Rattle.mon_agent.proofs.InPlace.{read_answered}
 use Rattle.mon_agent.proofs.agent.Agent.answer_bulk.Goals as goal

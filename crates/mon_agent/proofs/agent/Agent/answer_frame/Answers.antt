@@ -1,4 +1,4 @@
-use Rattle.std.proofs.Common.{◌≡◌, ◌≤◌, ◌∙◌, ◌⊎◌, [], w32, to_z, of_z, ℤ, Ok, length, pos, ap, sym, subst, rules}
+use Rattle.std.proofs.Common.{◌≡◌, ◌≤◌, ◌⊎◌, [], w32, to_z, of_z, ℤ, length, pos, subst, rules}
 use Rattle.std.specs.Global.{Vec}
 use Rattle.std.specs.Prelude.{IfSome}
 use Rattle.mon_pdu.specs.declared.message.Message.{Message}
@@ -8,7 +8,7 @@ use Rattle.mon_pdu.specs.Writing.{written_message}
 use Rattle.mon_vacm.specs.View.{IsInView}
 use Rattle.mon_mib.specs.Map.{known_by}
 use Rattle.mon_mib.specs.Search.{IsSeenIn, known_in}
-use Rattle.mon_agent.specs.InPlace.{ArePut, IsAnswerOf, sought_in}
+use Rattle.mon_agent.specs.InPlace.{ArePut, IsAnswerOf}
 use Rattle.mon_agent.specs.Reply.{count_of, response_body}
 use Rattle.mon_agent.proofs.Filling.{both_mapped}
 use Rattle.mon_agent.proofs.InPlace.{of_frame, read_answered, reads}

@@ -1,4 +1,4 @@
-use Rattle.mon_pdu.specs.Framed.{bulk_framed, framed}
+use Rattle.mon_pdu.specs.Framed.{framed}
 use Rattle.mon_agent.proofs.Filling.{mapped}
 use Rattle.mon_agent.proofs.agent.Agent.in_place.Goals as goal
 
