@@ -1,7 +1,7 @@
 -- What is read of a request in place, and what is written for it.
 use Rattle.std.proofs.Common.{◌≡◌, ℕ, true, List, [], ◌∷◌, ◌++◌, length, refl, sym, ap, subst, ◌∙◌, append_assoc, append-nil, arith, inl, inr}
 use Rattle.std.specs.Global.{Vec}
-use Rattle.std.specs.Prelude.{Ok, ◌≤◌, ◌⊎◌}
+use Rattle.std.specs.Prelude.{Option, Some, None, Result, Err, IfOk, Ok, ◌≤◌, ◌⊎◌}
 use Rattle.mon_ber.specs.declared.value.Value.TheVariants.{Null}
 use Rattle.mon_ber.specs.declared.value.Value.{Value}
 use Rattle.mon_ber.specs.Grammar.{Spells, IsElement}
@@ -19,12 +19,18 @@ use Rattle.mon_vacm.specs.Tables.{Lists}
 use Rattle.mon_vacm.specs.View.{IsInView}
 use Rattle.mon_mib.specs.declared.change.Change.{Change}
 use Rattle.mon_mib.specs.Held.{Held}
+use Rattle.mon_mib.specs.declared.got.Got.TheVariants.{Found, NoObject, NoInstance}
+use Rattle.mon_mib.specs.declared.shown.Shown.{Shown}
+use Rattle.mon_mib.specs.declared.shown.Shown.TheVariants as shown
+use Rattle.mon_mib.specs.Next.{IsNext}
+use Rattle.mon_mib.specs.Objects.{objects}
+use Rattle.mon_mib.specs.Shown.{IsNextShown}
 use Rattle.mon_mib.specs.Known.{Known}
 use Rattle.mon_agent.specs.declared.reply.Reply.TheVariants.{Send}
 use Rattle.mon_agent.specs.Answer.{AreAnswers, IsAnswered, IsGranted, IsOfKind, is_answered, is_request, need_of, need_of_kind}
-use Rattle.mon_agent.specs.InPlace.{ArePut, IsAnswerOf, IsPut}
+use Rattle.mon_agent.specs.InPlace.{ArePut, IsAnswerOf, IsPut, answer_at}
 use Rattle.mon_agent.specs.Reply.{count_of, answered}
-use Rattle.mon_agent.specs.Step.{AreFor}
+use Rattle.mon_agent.specs.Step.{AreFor, IsNextAnswer, at_end}
 use Rattle.mon_agent.proofs.Sent.{known_view}
 
 module _ (R : List ℕ → Binding → Type 0) where
@@ -111,3 +117,21 @@ module _ {D : Type 0} (held : D → Held) (failed : D → ℕ) (refuses : D → 
           inl (subst (λ (o : List ℕ). length o ≤ count_of k.settings.limit) written within, written),
         ),
       )
+
+-- what a search shows of a name answers it in a GetNext
+pub next_shown : (k : Known) (sees : List ℕ → Type 0) (x now : List ℕ) (found : Option Shown) → IsNextShown k sees x now found → IsNextAnswer k sees x (answer_at now found)
+next_shown k sees x now None is = inr (is.0, ap at_end is.1)
+next_shown k sees x now (Some (shown.Octets octets)) is = inl (subst (λ (v : Value). IsNext objects k sees x (Some (record { name = now; value = v }))) (sym (inside is.1)) is.2)
+  where
+    inside : {v w : Value} → Found v ≡ Found w → v ≡ w
+    inside e = cc
+next_shown k sees x now (Some (shown.Other (Found value))) is = inl (subst (λ (v : Value). IsNext objects k sees x (Some (record { name = now; value = v }))) (sym (inside is.1)) is.2)
+  where
+    inside : {v w : Value} → Found v ≡ Found w → v ≡ w
+    inside e = cc
+next_shown k sees x now (Some (shown.Other NoObject)) is = absurd (let e = is.1 in cc)
+next_shown k sees x now (Some (shown.Other NoInstance)) is = absurd (let e = is.1 in cc)
+
+pub on_ok : {A E : Type 0} (r : Result A E) (P Q : A → Type 0) → ((x : A) → P x → Q x) → IfOk r P → IfOk r Q
+on_ok (Ok x) P Q f p = f x p
+on_ok (Err e) P Q f p = tt

@@ -1,5 +1,7 @@
 -- What is read of a request in place, and what is written for it.
-use Rattle.std.specs.Prelude.{◌≡◌, ℕ, List, ◌++◌}
+use Rattle.std.specs.Prelude.{◌≡◌, ℕ, List, ◌++◌, Option, Some, None}
+use Rattle.mon_ber.specs.declared.value.Value.{Value}
+use Rattle.mon_ber.specs.declared.value.Value.TheVariants as values
 use Rattle.mon_ber.specs.Sequence.{AreSpelled}
 use Rattle.mon_pdu.specs.declared.message.Binding.{Binding}
 use Rattle.mon_pdu.specs.declared.message.PduKind.{PduKind}
@@ -8,6 +10,9 @@ use Rattle.mon_pdu.specs.Grammar.{IsBinding}
 use Rattle.mon_pdu.specs.Writing.{list_contents, written_binding}
 use Rattle.mon_vacm.specs.Tables.{Lists}
 use Rattle.mon_mib.specs.declared.mib.Mib.{Mib}
+use Rattle.mon_mib.specs.declared.got.Got.TheVariants.{Found}
+use Rattle.mon_mib.specs.declared.shown.Shown.{Shown}
+use Rattle.mon_mib.specs.declared.shown.Shown.TheVariants as shown
 use Rattle.mon_mib.specs.Known.{Known}
 use Rattle.mon_mib.specs.Search.{Sought}
 use Rattle.mon_agent.specs.Step.{AreFor, IsGetAnswer, IsNextAnswer}
@@ -39,3 +44,13 @@ IsAnswerOf k sees other name answer = ⊥
 -- a search in the view that was granted
 abbrev pub sought_in : {D : Type 0} → Mib D → Lists → List ℕ → ℕ → Sought D
 sought_in mib policy view moment = record { map = mib; families = policy.families; view = view; moment = moment }
+
+-- the value that answers a name in a GetNext, by what was found
+abbrev pub next_value : Option Shown → Value
+next_value (Some (shown.Octets octets)) = values.Octets octets.now
+next_value (Some (shown.Other (Found value))) = value
+next_value other = values.EndOfMibView
+
+-- the answer to a name in a GetNext, of this name
+abbrev pub answer_at : List ℕ → Option Shown → Binding
+answer_at name found = record { name = name; value = next_value found }

@@ -8,20 +8,19 @@ ghost use Rattle.mon_pdu.specs.Framed.{framed, bulk_framed};
 ghost use Rattle.mon_pdu.specs.Grammar.{IsBinding};
 ghost use Rattle.mon_pdu.specs.Writing.{list_contents};
 ghost use Rattle.mon_mib.specs.Search.{IsSeenIn, known_in};
-ghost use Rattle.mon_agent.specs.Bulk.{full_list, names_of, rounds};
+ghost use Rattle.mon_agent.specs.Bulk.{is_end, rounds};
 ghost use Rattle.mon_agent.specs.Filling.{AreNamed, FitsIn, IsFilled, IsOnePut, IsRoundPut};
+ghost use Rattle.mon_agent.specs.InPlace.{answer_at, next_value};
 ghost use Rattle.mon_agent.specs.Reply.{answered, count_of};
 
 use crate::bulk::count;
 use crate::growing::is_end;
-use crate::in_place::{asked_name, put_binding, response_frame};
-use crate::reading::step;
+use crate::in_place::{advance, asked_name, put_found, response_frame};
 use mon_ber::writing::LIMIT;
-use mon_mib::{Device, Search};
+use mon_mib::{Device, Got, Search, Shown};
 use mon_oid::Oid;
-use mon_pdu::{Binding, BulkFrame, Frame, frame_fits};
+use mon_pdu::{BulkFrame, Frame, frame_fits};
 use std::alloc::Global;
-use std::mem;
 
 /// How a GetBulk is answered.
 #[derive(Clone, Copy)]
@@ -148,23 +147,39 @@ fn put_round<D: Device + Drop>(
 {
     let mut is_last = true;
     for name in names.iter_mut() {
-        let mut answer = step(alloc, search, name).ok()?;
-        if !put_fitting(plan, &answer, list)? {
+        let found = advance(alloc, search, name).ok()?;
+        if !put_fitting(plan, name, &found, list)? {
             return Some(Round::Full);
         }
-        is_last = is_last && is_end(&answer.value);
-        mem::swap(name, &mut answer.name);
+        is_last = is_last && is_at_end(&found);
     }
     Some(if is_last { Round::Last } else { Round::More })
 }
 
-/// Writes a variable binding if the response is within the limit with it. Returns `true` if it is.
-fn put_fitting(plan: &BulkPlan<'_>, answer: &Binding, list: &mut Vec<u8>) -> Option<bool>
+/// Returns `true` if the answer by what was found is endOfMibView.
+fn is_at_end(found: &Option<Shown<'_>>) -> bool
+    ensures { result ≡ is_end (next_value found.now) }
+{
+    match found {
+        Some(Shown::Octets(_)) => false,
+        Some(Shown::Other(Got::Found(value))) => is_end(value),
+        _ => true,
+    }
+}
+
+/// Writes the answer of this name by what was found, if the response is within the limit with it.
+/// Returns `true` if it is.
+fn put_fitting(
+    plan: &BulkPlan<'_>,
+    name: &Oid,
+    found: &Option<Shown<'_>>,
+    list: &mut Vec<u8>,
+) -> Option<bool>
     ensures { (before : List AnyBinding) → list.old.items ≡ list_contents before
-        → IfSome result (λ fits. IsOnePut (FitsIn plan.now) before answer.now fits list.new.items) }
+        → IfSome result (λ fits. IsOnePut (FitsIn plan.now) before (answer_at name.now found.now) fits list.new.items) }
 {
     let before = list.len();
-    put_binding(list, &answer.name, &answer.value, i32::MAX)?;
+    put_found(list, name, found, i32::MAX)?;
     if frame_fits(&plan.head, list.len().min(LIMIT), plan.limit) {
         return Some(true);
     }

@@ -2,7 +2,7 @@
 //! of it, and the response is written into buffers that are kept. Any other datagram is read as a
 //! message.
 
-ghost use Rattle.std.specs.Prelude.{pos, Ok, ◌≡◌, ◌<◌, ◌↔◌, ◌⊎◌, ◌++◌, ◌∷◌, ◌+◌, ◌≤◌, ◌^◌, ℕ, List, length, IfSome, OnSome, IsTrue, vec_len, vec_capacity};
+ghost use Rattle.std.specs.Prelude.{pos, Ok, ◌≡◌, ◌<◌, ◌↔◌, ◌⊎◌, ◌++◌, ◌∷◌, ◌+◌, ◌≤◌, ◌^◌, ℕ, List, length, IfSome, OnSome, IfOk, IsTrue, vec_len, vec_capacity};
 ghost use Rattle.mon_ber.specs.declared.value.Value.{Value as AnyValue};
 ghost use Rattle.mon_pdu.specs.declared.message.Binding.{Binding as AnyBinding};
 ghost use Rattle.mon_pdu.specs.declared.message.PduKind.TheVariants as kinds;
@@ -17,15 +17,17 @@ ghost use Rattle.mon_mib.specs.Search.{IsSeenIn, known_in};
 ghost use Rattle.mon_ber.specs.declared.value.Value.TheVariants.{Name};
 ghost use Rattle.mon_ber.specs.Writing.{length_octets, name_octets, size_for, written};
 ghost use Rattle.mon_agent.specs.Answer.{IsAnswer, IsAnswered};
-ghost use Rattle.mon_agent.specs.InPlace.{ArePut, IsAnswerOf, IsPut, sought_in};
+ghost use Rattle.mon_agent.specs.InPlace.{ArePut, IsAnswerOf, IsPut, answer_at, sought_in};
 ghost use Rattle.mon_agent.specs.Reply.{count_of, response_body};
-ghost use Rattle.mon_agent.specs.Step.{IsGetAnswer};
+ghost use Rattle.mon_agent.specs.Bulk.{IsStepper};
+ghost use Rattle.mon_agent.specs.Step.{IsGetAnswer, IsNextAnswer};
 
 use crate::agent::Agent;
 use crate::buffers::ReplyBuffers;
 use crate::bulk_in_place::{BulkPlan, fill, read_names};
 use crate::growing::is_within;
-use crate::reading::{got_value, step};
+use crate::laws;
+use crate::reading::got_value;
 use crate::reply::Reply;
 use crate::sending::NO_ERROR;
 use mon_ber::element::element_at;
@@ -35,11 +37,11 @@ use mon_ber::writing::{
     put_measured_value, put_octets,
 };
 use mon_ber::{SEQUENCE, Value};
-use mon_mib::{Device, Moment, Search, Shown};
+use mon_mib::{Device, Got, Moment, Search, Shown};
 use mon_oid::Oid;
 use mon_pdu::{BulkFrame, Frame, PduKind, read_bulk_frame, read_frame, write_frame};
 use mon_vacm::Need;
-use std::alloc::Global;
+use std::alloc::{AllocError, Global};
 use std::mem;
 
 /// The longest value that is written in place, in octets.
@@ -217,21 +219,21 @@ fn put_answer<'b, D: Device + Drop>(
     ensures shorter { IfSome result (λ rest. length rest.now < length octets.now) }
     ensures stays { search.new ≡ search.old }
 {
-    let (name, rest) = asked_name(alloc, octets)?;
-    put_for(alloc, search, kind, &name, out)?;
+    let (mut name, rest) = asked_name(alloc, octets)?;
+    put_for(alloc, search, kind, &mut name, out)?;
     Some(rest)
 }
 
-/// Writes the answer to a name.
+/// Writes the answer to a name, whose place the name of the answer takes.
 fn put_for<D: Device + Drop>(
     alloc: Global,
     search: &mut Search<'_, D>,
     kind: PduKind,
-    name: &Oid,
+    name: &mut Oid,
     out: &mut Vec<u8>,
 ) -> Option<()>
     ensures put { OnSome result ((answer : AnyBinding)
-        × IsAnswerOf (known_in D.held search.old) (IsSeenIn search.old) kind name.now answer
+        × IsAnswerOf (known_in D.held search.old) (IsSeenIn search.old) kind name.old answer
         × (out.new.items ≡ out.old.items ++ written_binding answer)) }
     ensures stays { search.new ≡ search.old }
 {
@@ -239,10 +241,44 @@ fn put_for<D: Device + Drop>(
         PduKind::Get => put_got(alloc, search, name, out),
         PduKind::GetNext => {
             let limit = search.settings().limit;
-            let answer = step(alloc, search, name).ok()?;
-            put_binding(out, &answer.name, &answer.value, limit)
+            let found = advance(alloc, search, name).ok()?;
+            put_found(out, name, &found, limit)
         }
         _ => None,
+    }
+}
+
+/// The value that answers a name in a GetNext, whose place the name of the answer takes. Where there
+/// is none, the name stays, and its answer is endOfMibView.
+pub(crate) fn advance<'s, D: Device + Drop>(
+    alloc: Global,
+    search: &mut Search<'s, D>,
+    name: &mut Oid,
+) -> Result<Option<Shown<'s>>, AllocError>
+    ensures step { IfOk result (λ found. IsNextAnswer (known_in D.held search.old) (IsSeenIn search.old) name.old (answer_at name.new found)) }
+    // It is the one that every right choice of answers has.
+    ensures only { (next : List ℕ → AnyBinding) → IsStepper (known_in D.held search.old) (IsSeenIn search.old) next
+        → IfOk result (λ found. answer_at name.new found ≡ next name.old) }
+    ensures stays { search.new ≡ search.old }
+{
+    laws::one_step();
+    search.step(alloc, name)
+}
+
+/// Writes the answer to a name in a GetNext: the name of the answer, with what was found. Returns
+/// `None` as `put_head` does.
+pub(crate) fn put_found(
+    out: &mut Vec<u8>,
+    name: &Oid,
+    found: &Option<Shown<'_>>,
+    limit: i32,
+) -> Option<()>
+    ensures { OnSome result (out.new.items ≡ out.old.items ++ written_binding (answer_at name.now found.now)) }
+{
+    match found {
+        Some(Shown::Octets(octets)) => put_octets_binding(out, name, octets, limit),
+        Some(Shown::Other(Got::Found(value))) => put_binding(out, name, value, limit),
+        _ => put_binding(out, name, &Value::EndOfMibView, limit),
     }
 }
 
@@ -292,7 +328,7 @@ fn put_octets_binding(out: &mut Vec<u8>, name: &Oid, octets: &[u8], limit: i32) 
 }
 
 /// Writes a variable binding. Returns `None` as `put_head` does.
-pub(crate) fn put_binding(out: &mut Vec<u8>, name: &Oid, value: &Value, limit: i32) -> Option<()>
+fn put_binding(out: &mut Vec<u8>, name: &Oid, value: &Value, limit: i32) -> Option<()>
     ensures { let binding : AnyBinding = record { name = name.now; value = value.now } in
         OnSome result (out.new.items ≡ out.old.items ++ written_binding binding) }
 {

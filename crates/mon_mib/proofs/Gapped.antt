@@ -1,6 +1,7 @@
 -- Passing over what a view hides of an object.
 use Rattle.std.proofs.Common.{◌≡◌, ◌≢◌, ℕ, ◌<◌, ◌≤◌, List, [], ◌∷◌, ◌++◌, refl, sym, ◌∙◌, ap, subst, arith, inr}
 use Rattle.std.specs.Prelude.{Option, Some, None, Result, Ok, Err, IfOk, IfSome, Contains, ◌⊎◌}
+use Rattle.std.specs.Option.{option_map}
 use Rattle.std.specs.declared.cmp.Ordering.TheVariants.{Less}
 use Rattle.std.proofs.lemmas.List.Elements.{All-contains, All-push, Contains-push}
 use Rattle.mon_pdu.specs.declared.message.Binding.{Binding}
@@ -103,11 +104,33 @@ module _ (k : Known) (sees : List ℕ → Type 0) (x : List ℕ) (o : Object) wh
       let wanted : IsLater sees x (variable k o v.instance) = subst (IsLater sees x) is later in
       none v.instance there ((begins k sees x o).covers v.instance there wanted, wanted.in_view)
 
+  -- so whatever is found
+  pub next_found : (found : Option ℕ) → IsLeastInView k.held sees o (start_of (prefix_of o) x) found → IsNext (o ∷ []) k sees x (option_map (variable k o) found)
+  next_found (Some i) least = next_some i least
+  next_found None none = next_none none
+
+  pub found_there : (start : Start) (found : Option ℕ) → IsLeastInView k.held sees o start found → IfSome found (λ i. Contains (instances k.held o) i)
+  found_there start (Some i) least = least.0
+  found_there start None none = tt
+
+pub on_ok : {A E : Type 0} (r : Result A E) (P Q : A → Type 0) → ((x : A) → P x → Q x) → IfOk r P → IfOk r Q
+on_ok (Ok x) P Q f p = f x p
+on_ok (Err e) P Q f p = tt
+
 -- what is so of a search is so of an equal one
 module _ {D : Type 0} (held : D → Held) (s t : Sought D) (same : s ≡ t) where
   pub moved : (os : List Object) (x : List ℕ) (r : Option Binding) → IsNext os (known_in held s) (IsSeenIn s) x r
       → IsNext os (known_in held t) (IsSeenIn t) x r
   moved os x r is = subst (λ (u : Sought D). IsNext os (known_in held u) (IsSeenIn u) x r) same is
+
+  pub moved_found : (os : List Object) (x : List ℕ) (o : Object) (found : Option ℕ) → IsNext os (known_in held s) (IsSeenIn s) x (option_map (variable (known_in held s) o) found)
+      → IsNext os (known_in held t) (IsSeenIn t) x (option_map (variable (known_in held t) o) found)
+  moved_found os x o found is = subst (λ (u : Sought D). IsNext os (known_in held u) (IsSeenIn u) x (option_map (variable (known_in held u) o) found)) same is
+
+  pub there_found : (o : Object) (x : List ℕ) (found : Option ℕ) (i : ℕ) → IsNext (o ∷ []) (known_in held s) (IsSeenIn s) x (option_map (variable (known_in held s) o) found) → found ≡ Some i
+      → IfSome found (λ j. Contains (instances (held s.map.device) o) j) → Contains (instances (held t.map.device) o) i
+  there_found o x found i next is there =
+      subst (λ (u : Sought D). Contains (instances (held u.map.device) o) i) same (subst (λ (r : Option ℕ). IfSome r (λ j. Contains (instances (held s.map.device) o) j)) is there)
 
   pub shown : {E : Type 0} (x : List ℕ) (r : Result Got E) → IsSeenIn s x → IfOk r (IsGot (known_in held s) x)
       → IfOk r (λ got. (¬ (IsSeenIn t x) × (got ≡ NoObject)) ⊎ (IsSeenIn t x × IsGot (known_in held t) x got))

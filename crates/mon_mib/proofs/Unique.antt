@@ -1,6 +1,6 @@
 -- A name is under one object at most, so it is the name of one variable at most.
 use Rattle.std.proofs.Common.{◌≡◌, ◌≢◌, ℕ, ◌<◌, List, [], ◌∷◌, ◌++◌, length, get_or, refl, sym, ◌∙◌, ap, subst, arith}
-use Rattle.std.specs.Prelude.{Contains, Option, Some, None, IfSome}
+use Rattle.std.specs.Prelude.{Contains, Option, Some, None}
 use Rattle.std.specs.declared.cmp.Ordering.TheVariants.{Less, Equal}
 use Rattle.std.specs.Ordering.{nat_cmp}
 use Rattle.std.proofs.lemmas.Cmp.{nat_list_cmp_total, by_ranked, ranked}
@@ -14,6 +14,7 @@ use Rattle.mon_mib.specs.Objects.{prefix_of, objects}
 use Rattle.mon_mib.specs.Order.{name_cmp}
 use Rattle.mon_mib.specs.Known.{Known, instances, variable_value, variable}
 use Rattle.mon_mib.specs.Next.{IsVariable, IsNext, IsGot}
+use Rattle.mon_mib.specs.Shown.{IsServed}
 use Rattle.mon_mib.proofs.Under.{objects_apart}
 use Rattle.mon_mib.proofs.Starts.{apart}
 
@@ -125,26 +126,15 @@ module _ (k : Known) where
   no_instance x o rest served named none =
       (record { object = o; listed = served; under = (rest, named) }, λ b v same. let at : IsAtRest o rest b = at_rest o rest b served (same ∙ named) v in none at.instance at.only at.there)
 
-  -- a value was read there, or none is
-  pub read : (x : List ℕ) (o : Object) (i : ℕ) (r : Option Value) (v : Value) → Contains objects o → x ≡ prefix_of o ++ i ∷ [] → r ≡ Some v
-      → IfSome r (λ _. Contains (instances k.held o) i) → (Contains (instances k.held o) i → r ≡ Some (variable_value k o i)) → IsGot k x (Found v)
-  read x o i r v served named is in_instances exact =
-      let there : Contains (instances k.held o) i = subst (λ q. IfSome q (λ _. Contains (instances k.held o) i)) is in_instances in
-      found x o i v served there named (inside (sym is ∙ exact there))
-    where
-      inside : {v w : Value} → Some v ≡ Some w → v ≡ w
-      inside e = cc
-
-  pub missing : (x : List ℕ) (o : Object) (i : ℕ) (r : Option Value) → Contains objects o → x ≡ prefix_of o ++ i ∷ [] → r ≡ None
-      → (Contains (instances k.held o) i → r ≡ Some (variable_value k o i)) → IsGot k x NoInstance
-  missing x o i r served named is exact =
-      no_instance x o (i ∷ []) served named (λ j same there. never (sym is ∙ exact (subst (Contains (instances k.held o)) (sym (head_is same)) there)))
+  -- what is served there is what is at the name
+  pub got_there : (x : List ℕ) (o : Object) (i : ℕ) (got : Got) → Contains objects o → x ≡ prefix_of o ++ i ∷ [] → IsServed k o i got → IsGot k x got
+  got_there x o i (Found v) served named is = found x o i v served is.0 named is.1
+  got_there x o i NoInstance served named none =
+      no_instance x o (i ∷ []) served named (λ j same there. none (subst (Contains (instances k.held o)) (sym (head_is same)) there))
     where
       head_is : {i j : ℕ} → i ∷ [] ≡ j ∷ [] → i ≡ j
       head_is e = cc
-
-      never : {v : Value} → None ≡ Some v → ⊥
-      never e = cc
+  got_there x o i NoObject served named none = absurd none
 
   not_both : (x : List ℕ) (v : Value) → IsGot k x (Found v) → IsGot k x NoInstance → ⊥
   not_both x v p q = q.1 (record { name = x; value = v }) p refl

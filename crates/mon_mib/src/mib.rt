@@ -5,7 +5,8 @@ ghost use Rattle.mon_oid.specs.Oid.{IsPrefix};
 ghost use Rattle.mon_mib.specs.Counters.{counted, no_counts};
 ghost use Rattle.mon_mib.specs.Held.{IsAbove, IsLeastOf, text_at};
 ghost use Rattle.mon_mib.specs.declared.facts.Facts.{Facts as AnyFacts};
-ghost use Rattle.mon_mib.specs.Shown.{got_of};
+ghost use Rattle.mon_mib.specs.declared.got.Got.TheVariants.{Found};
+ghost use Rattle.mon_mib.specs.Shown.{IsServed, got_of};
 ghost use Rattle.mon_mib.specs.Known.{Known as AnyKnown, instances, variable_value, scalar_value, column_value};
 ghost use Rattle.mon_mib.specs.Next.{IsGot, IsNext, IsServedName};
 ghost use Rattle.mon_mib.specs.Objects.{objects, prefix_of};
@@ -26,7 +27,7 @@ use crate::search::Search;
 use crate::settings::Settings;
 use crate::shown::Shown;
 use crate::start::Start;
-use mon_ber::{Octets, Value};
+use mon_ber::Value;
 use mon_oid::Oid;
 use mon_pdu::Binding;
 use mon_vacm::{Access, Policy};
@@ -111,16 +112,7 @@ impl<D: Device + Drop> Mib<D> {
         ensures { let known = known_by D.held self.now moment in
             IfOk result (IsGot known name.now) }
     {
-        let Some((object, rest)) = find_object(name.parts()) else {
-            return Ok(Got::NoObject);
-        };
-        if rest.len() != 1 {
-            return Ok(Got::NoInstance);
-        }
-        Ok(match self.value(alloc, object, rest[0], moment)? {
-            Some(value) => Got::Found(value),
-            None => Got::NoInstance,
-        })
+        self.show(alloc, name, moment)?.into_got(alloc)
     }
 
     /// Returns what `get` does, with octets lent where the agent keeps them.
@@ -134,69 +126,7 @@ impl<D: Device + Drop> Mib<D> {
         if rest.len() != 1 {
             return Ok(Shown::Other(Got::NoInstance));
         }
-        self.show_at(alloc, object, rest[0], moment)
-    }
-
-    /// What is at the name of an object's variable of an instance.
-    fn show_at(
-        &self,
-        alloc: Global,
-        object: Object,
-        instance: u32,
-        moment: Moment,
-    ) -> Result<Shown<'_>, AllocError>
-        ensures { let known = known_by D.held self.now moment in
-            (name : List ℕ) → Contains objects object → name ≡ prefix_of object ++ instance ∷ []
-            → IfOk result (λ shown. IsGot known name (got_of shown)) }
-    {
-        if let Some(octets) = self.octets_of(object, instance, moment) {
-            return Ok(Shown::Octets(octets));
-        }
-        match self.value(alloc, object, instance, moment)? {
-            Some(value) => Ok(Shown::Other(Got::Found(value))),
-            None => Ok(Shown::Other(Got::NoInstance)),
-        }
-    }
-
-    /// The octets that are the value of an object's variable of an instance, if they are kept.
-    #[tactic(auto, unfolding(crate::specs::Known::variable_value))]
-    fn octets_of(&self, object: Object, instance: u32, moment: Moment) -> Option<&[u8]>
-        ensures there { IfSome result (λ _. Contains (instances (D.held (map_device self.now)) object) instance) }
-        ensures value { IfSome result (λ octets. variable_value (known_by D.held self.now moment) object instance ≡ Value.Octets octets.now) }
-    {
-        match object {
-            Object::Scalar(scalar) => {
-                if instance != 0 {
-                    return None;
-                }
-                self.scalar_octets(scalar)
-            }
-            Object::Column(column) => self.column_octets(column, instance, moment),
-        }
-    }
-
-    /// The octets that are the value of a scalar, if they are kept.
-    fn scalar_octets(&self, scalar: Scalar) -> Option<&[u8]>
-        ensures { (moment : ℕ) → IfSome result (λ octets. scalar_value (known_by D.held self.now moment) scalar ≡ Value.Octets octets.now) }
-    {
-        match scalar {
-            Scalar::SysDescr => Some(self.settings.descr.as_slice()),
-            Scalar::SysContact => Some(self.device.sys_text(SysText::Contact)),
-            Scalar::SysName => Some(self.device.sys_text(SysText::SystemName)),
-            Scalar::SysLocation => Some(self.device.sys_text(SysText::Location)),
-            Scalar::SnmpEngineId => Some(self.settings.engine.as_slice()),
-            _ => None,
-        }
-    }
-
-    /// The octets that are the value of a column in the row of an interface, if they are kept.
-    fn column_octets(&self, column: Column, index: u32, moment: Moment) -> Option<&[u8]>
-        ensures there { IfSome result (λ _. Contains (D.held (map_device self.now)).indexes index) }
-        ensures value { (facts : AnyFacts) → IfSome result (λ octets. column_value (known_by D.held self.now moment) facts index column ≡ Value.Octets octets.now) }
-    {
-        let which = text_of(column)?;
-        self.device.facts(index, moment)?;
-        Some(self.device.text(index, which))
+        self.show_variable(alloc, object, rest[0], moment)
     }
 
     /// Returns the least variable in view that exceeds a name at a time, or `None` if there is none
@@ -240,121 +170,106 @@ impl<D: Device + Drop> Mib<D> {
         }
     }
 
-    /// Returns the value of the variable of an object and an instance, or `None` if there is no
-    /// such variable.
+    /// What is served of an object's variable of an instance.
     #[tactic(auto, unfolding(crate::specs::Known::variable_value))]
-    pub(crate) fn value(
+    pub(crate) fn show_variable(
         &self,
         alloc: Global,
         object: Object,
         instance: u32,
         moment: Moment,
-    ) -> Result<Option<Value>, AllocError>
-        ensures there { Contains (instances (D.held (map_device self.now)) object) instance
-            → IfOk result (λ value. value ≡ Some (variable_value (known_by D.held self.now moment) object instance)) }
-        ensures found { IfOk result (λ value. IfSome value (λ _. Contains (instances (D.held (map_device self.now)) object) instance)) }
+    ) -> Result<Shown<'_>, AllocError>
+        ensures { let known = known_by D.held self.now moment in
+            IfOk result (λ shown. IsServed known object instance (got_of shown)) }
     {
         match object {
             Object::Scalar(scalar) => {
                 if instance != 0 {
-                    return Ok(None);
+                    return Ok(Shown::Other(Got::NoInstance));
                 }
-                Ok(Some(self.scalar(alloc, scalar, moment)?))
+                self.scalar(alloc, scalar, moment)
             }
             Object::Column(column) => {
                 let Some(facts) = self.device.facts(instance, moment) else {
-                    return Ok(None);
+                    return Ok(Shown::Other(Got::NoInstance));
                 };
-                Ok(Some(self.column(alloc, column, instance, facts)?))
+                Ok(self.column(column, instance, facts))
             }
         }
     }
 
     /// The value of a scalar.
-    fn scalar(&self, alloc: Global, scalar: Scalar, moment: Moment) -> Result<Value, AllocError>
+    fn scalar(&self, alloc: Global, scalar: Scalar, moment: Moment) -> Result<Shown<'_>, AllocError>
         ensures { let known = known_by D.held self.now moment in
-            IfOk result (λ value. value ≡ scalar_value known scalar) }
+            IfOk result (λ shown. got_of shown ≡ Found (scalar_value known scalar)) }
     {
         let settings = &self.settings;
         let counters = &self.counters;
         Ok(match scalar {
-            Scalar::SysDescr => Value::Octets(settings.descr.try_clone(alloc)?),
-            Scalar::SysObjectId => Value::Name(settings.object_id.try_clone(alloc)?),
-            Scalar::SysUpTime => Value::TimeTicks(moment.sys_up_time()),
-            Scalar::SysContact => self.sys_text(alloc, SysText::Contact)?,
-            Scalar::SysName => self.sys_text(alloc, SysText::SystemName)?,
-            Scalar::SysLocation => self.sys_text(alloc, SysText::Location)?,
-            Scalar::SysServices => Value::Integer(settings.services),
-            Scalar::IfNumber => Value::Integer(self.device.interface_count() as i32),
-            Scalar::SnmpInPkts => Value::Counter32(counters.in_packets),
-            Scalar::SnmpInBadVersions => Value::Counter32(counters.bad_versions),
-            Scalar::SnmpInBadCommunityNames => Value::Counter32(counters.bad_communities),
-            Scalar::SnmpInAsnParseErrs => Value::Counter32(counters.parse_errors),
-            Scalar::SnmpSilentDrops => Value::Counter32(counters.silent_drops),
-            Scalar::SnmpEngineId => Value::Octets(settings.engine.try_clone(alloc)?),
-            Scalar::SnmpEngineBoots => Value::Integer(settings.boots),
-            Scalar::SnmpEngineTime => Value::Integer(moment.engine_time() as i32),
-            Scalar::SnmpEngineMaxMessageSize => Value::Integer(settings.limit),
+            Scalar::SysDescr => Shown::Octets(settings.descr.as_slice()),
+            Scalar::SysObjectId => found(Value::Name(settings.object_id.try_clone(alloc)?)),
+            Scalar::SysUpTime => found(Value::TimeTicks(moment.sys_up_time())),
+            Scalar::SysContact => Shown::Octets(self.device.sys_text(SysText::Contact)),
+            Scalar::SysName => Shown::Octets(self.device.sys_text(SysText::SystemName)),
+            Scalar::SysLocation => Shown::Octets(self.device.sys_text(SysText::Location)),
+            Scalar::SysServices => found(Value::Integer(settings.services)),
+            Scalar::IfNumber => found(Value::Integer(self.device.interface_count() as i32)),
+            Scalar::SnmpInPkts => found(Value::Counter32(counters.in_packets)),
+            Scalar::SnmpInBadVersions => found(Value::Counter32(counters.bad_versions)),
+            Scalar::SnmpInBadCommunityNames => found(Value::Counter32(counters.bad_communities)),
+            Scalar::SnmpInAsnParseErrs => found(Value::Counter32(counters.parse_errors)),
+            Scalar::SnmpSilentDrops => found(Value::Counter32(counters.silent_drops)),
+            Scalar::SnmpEngineId => Shown::Octets(settings.engine.as_slice()),
+            Scalar::SnmpEngineBoots => found(Value::Integer(settings.boots)),
+            Scalar::SnmpEngineTime => found(Value::Integer(moment.engine_time() as i32)),
+            Scalar::SnmpEngineMaxMessageSize => found(Value::Integer(settings.limit)),
         })
-    }
-
-    /// A text of the device, as a value.
-    fn sys_text(&self, alloc: Global, which: SysText) -> Result<Value, AllocError>
-        ensures { IfOk result (λ value. value ≡ Value.Octets ((D.held (map_device self.now)).sys_text which)) }
-    {
-        Ok(Value::Octets(Octets::from_slice(alloc, self.device.sys_text(which))?))
-    }
-
-    /// A text of an interface, as a value.
-    fn text(&self, alloc: Global, index: u32, which: IfText) -> Result<Value, AllocError>
-        requires { Contains (D.held (map_device self.now)).indexes index }
-        ensures { IfOk result (λ value. value ≡ Value.Octets (text_at (D.held (map_device self.now)) index which)) }
-    {
-        Ok(Value::Octets(Octets::from_slice(alloc, self.device.text(index, which))?))
     }
 
     /// The value of a column in the row of an interface with these facts.
-    fn column(
-        &self,
-        alloc: Global,
-        column: Column,
-        index: u32,
-        facts: Facts,
-    ) -> Result<Value, AllocError>
+    fn column(&self, column: Column, index: u32, facts: Facts) -> Shown<'_>
         requires there { Contains (D.held (map_device self.now)).indexes index }
         requires range { index < 2 ^ 31 }
         ensures { let known = known_by D.held self.now 0 in
-            IfOk result (λ value. value ≡ column_value known facts index column) }
+            got_of result ≡ Found (column_value known facts index column) }
     {
-        Ok(match column {
-            Column::IfIndex => Value::Integer(index as i32),
-            Column::IfDescr => self.text(alloc, index, IfText::Descr)?,
-            Column::IfType => Value::Integer(facts.kind),
-            Column::IfMtu => Value::Integer(facts.mtu),
-            Column::IfSpeed => Value::Gauge32(facts.speed.min(0xffff_ffff) as u32),
-            Column::IfPhysAddress => self.text(alloc, index, IfText::Phys)?,
-            Column::IfAdminStatus => Value::Integer(facts.admin.number()),
-            Column::IfOperStatus => Value::Integer(facts.oper.number()),
-            Column::IfLastChange => Value::TimeTicks(facts.last_change),
-            Column::IfInOctets => Value::Counter32(low(facts.in_octets)),
-            Column::IfInUcastPkts => Value::Counter32(low(facts.in_packets)),
-            Column::IfInDiscards => Value::Counter32(facts.in_discards),
-            Column::IfInErrors => Value::Counter32(facts.in_errors),
-            Column::IfInUnknownProtos => Value::Counter32(facts.in_unknown),
-            Column::IfOutOctets => Value::Counter32(low(facts.out_octets)),
-            Column::IfOutUcastPkts => Value::Counter32(low(facts.out_packets)),
-            Column::IfOutDiscards => Value::Counter32(facts.out_discards),
-            Column::IfOutErrors => Value::Counter32(facts.out_errors),
-            Column::IfName => self.text(alloc, index, IfText::ShortName)?,
-            Column::IfHcInOctets => Value::Counter64(facts.in_octets),
-            Column::IfHcInUcastPkts => Value::Counter64(facts.in_packets),
-            Column::IfHcOutOctets => Value::Counter64(facts.out_octets),
-            Column::IfHcOutUcastPkts => Value::Counter64(facts.out_packets),
-            Column::IfHighSpeed => Value::Gauge32(high_speed(facts.speed)),
-            Column::IfAlias => self.text(alloc, index, IfText::Alias)?,
-            Column::IfCounterDiscontinuityTime => Value::TimeTicks(facts.discontinuity),
-        })
+        match column {
+            Column::IfIndex => found(Value::Integer(index as i32)),
+            Column::IfDescr => Shown::Octets(self.device.text(index, IfText::Descr)),
+            Column::IfType => found(Value::Integer(facts.kind)),
+            Column::IfMtu => found(Value::Integer(facts.mtu)),
+            Column::IfSpeed => found(Value::Gauge32(facts.speed.min(0xffff_ffff) as u32)),
+            Column::IfPhysAddress => Shown::Octets(self.device.text(index, IfText::Phys)),
+            Column::IfAdminStatus => found(Value::Integer(facts.admin.number())),
+            Column::IfOperStatus => found(Value::Integer(facts.oper.number())),
+            Column::IfLastChange => found(Value::TimeTicks(facts.last_change)),
+            Column::IfInOctets => found(Value::Counter32(low(facts.in_octets))),
+            Column::IfInUcastPkts => found(Value::Counter32(low(facts.in_packets))),
+            Column::IfInDiscards => found(Value::Counter32(facts.in_discards)),
+            Column::IfInErrors => found(Value::Counter32(facts.in_errors)),
+            Column::IfInUnknownProtos => found(Value::Counter32(facts.in_unknown)),
+            Column::IfOutOctets => found(Value::Counter32(low(facts.out_octets))),
+            Column::IfOutUcastPkts => found(Value::Counter32(low(facts.out_packets))),
+            Column::IfOutDiscards => found(Value::Counter32(facts.out_discards)),
+            Column::IfOutErrors => found(Value::Counter32(facts.out_errors)),
+            Column::IfName => Shown::Octets(self.device.text(index, IfText::ShortName)),
+            Column::IfHcInOctets => found(Value::Counter64(facts.in_octets)),
+            Column::IfHcInUcastPkts => found(Value::Counter64(facts.in_packets)),
+            Column::IfHcOutOctets => found(Value::Counter64(facts.out_octets)),
+            Column::IfHcOutUcastPkts => found(Value::Counter64(facts.out_packets)),
+            Column::IfHighSpeed => found(Value::Gauge32(high_speed(facts.speed))),
+            Column::IfAlias => Shown::Octets(self.device.text(index, IfText::Alias)),
+            Column::IfCounterDiscontinuityTime => found(Value::TimeTicks(facts.discontinuity)),
+        }
     }
+}
+
+/// A variable of this value.
+#[inline(always)]
+fn found<'a>(value: Value) -> Shown<'a>
+    ensures { got_of result ≡ Found value }
+{
+    Shown::Other(Got::Found(value))
 }
 
 /// Returns the served object that a name is under, and what of the name follows the object's own.
@@ -426,19 +341,6 @@ fn is_under(object: Object, name: &[u32]) -> bool
     ensures { IsTrue result → IsPrefix (prefix_of object) name.now }
 {
     name.starts_with(object.prefix())
-}
-
-/// The text of an interface that a column shows, if it shows one.
-fn text_of(column: Column) -> Option<IfText>
-    ensures { (k : AnyKnown) (facts : AnyFacts) (index : ℕ) → IfSome result (λ which. column_value k facts index column ≡ Value.Octets (text_at k.held index which)) }
-{
-    match column {
-        Column::IfDescr => Some(IfText::Descr),
-        Column::IfPhysAddress => Some(IfText::Phys),
-        Column::IfName => Some(IfText::ShortName),
-        Column::IfAlias => Some(IfText::Alias),
-        _ => None,
-    }
 }
 
 /// A count in 32 bits.

@@ -1,15 +1,16 @@
 //! A search for variables by their names, in one view at one moment.
 
-ghost use Rattle.std.specs.Prelude.{◌≡◌, ◌↔◌, ◌++◌, ◌∷◌, [], ◌⊎◌, IfOk, IfSome, IsTrue};
+ghost use Rattle.std.specs.Prelude.{◌≡◌, ◌↔◌, ◌++◌, ◌∷◌, [], ◌⊎◌, Contains, IfOk, IfSome, IsTrue};
+ghost use Rattle.std.specs.Option.{option_map};
 ghost use Rattle.mon_vacm.specs.Borrowed.{view_of};
 ghost use Rattle.mon_mib.specs.declared.got.Got.TheVariants.{NoObject};
 ghost use Rattle.mon_mib.specs.Gaps.{IsLeastInView};
 ghost use Rattle.mon_mib.specs.Held.{IsLeastOf};
-ghost use Rattle.mon_mib.specs.Known.{instances};
+ghost use Rattle.mon_mib.specs.Known.{instances, variable};
 ghost use Rattle.mon_mib.specs.Next.{IsGot, IsNext};
 ghost use Rattle.mon_mib.specs.Objects.{objects, prefix_of};
 ghost use Rattle.mon_mib.specs.Order.{IsFrom};
-ghost use Rattle.mon_mib.specs.Shown.{got_of};
+ghost use Rattle.mon_mib.specs.Shown.{IsNextShown, got_of};
 ghost use Rattle.mon_mib.specs.Search.{Sought, IsSeenIn, known_in};
 
 use crate::device::Device;
@@ -106,37 +107,61 @@ impl<'a, D: Device + Drop> Search<'a, D> {
         ensures next { IfOk result (IsNext objects (known_in D.held self.old) (IsSeenIn self.old) name.now) }
         ensures stays { self.new ≡ self.old }
     {
+        let mut own = name.try_clone(alloc)?;
+        let Some(shown) = self.step(alloc, &mut own)? else {
+            return Ok(None);
+        };
+        match shown.into_got(alloc)? {
+            Got::Found(value) => Ok(Some(Binding { name: own, value })),
+            _ => unreachable!(),
+        }
+    }
+
+    /// Puts the name of the least variable in view that exceeds a name in its place, and returns its
+    /// value, with octets lent where the agent keeps them. If there is none, the name stays.
+    pub fn step(&mut self, alloc: Global, name: &mut Oid) -> Result<Option<Shown<'a>>, AllocError>
+        ensures next { IfOk result (IsNextShown (known_in D.held self.old) (IsSeenIn self.old) name.old name.new) }
+        ensures stays { self.new ≡ self.old }
+    {
+        let Some((object, instance)) = self.find(alloc, name)? else {
+            return Ok(None);
+        };
+        *name = object.name(alloc, instance)?;
+        let mib = self.mib;
+        Ok(Some(mib.show_variable(alloc, object, instance, self.moment)?))
+    }
+
+    /// The object and instance of the least variable in view that exceeds a name.
+    fn find(&mut self, alloc: Global, name: &Oid) -> Result<Option<(Object, u32)>, AllocError>
+        ensures next { IfOk result (λ found. IsNext objects (known_in D.held self.old) (IsSeenIn self.old) name.now
+            (option_map (λ p. variable (known_in D.held self.old) p.0 p.1) found)) }
+        ensures there { IfOk result (λ found. IfSome found (λ p. Contains (instances (D.held self.old.map.device) p.0) p.1)) }
+        ensures stays { self.new ≡ self.old }
+    {
         let place = find_place(name.parts());
         for object in &all_objects()[place..] {
-            let found = self.next_of(alloc, *object, name)?;
-            if let Some(binding) = found {
-                return Ok(Some(binding));
+            let found = self.find_of(alloc, *object, name)?;
+            if let Some(instance) = found {
+                return Ok(Some((*object, instance)));
             }
         }
         Ok(None)
     }
 
-    /// The least variable of an object in view that exceeds a name.
-    fn next_of(
+    /// The instance of the least variable of an object in view that exceeds a name.
+    fn find_of(
         &mut self,
         alloc: Global,
         object: Object,
         name: &Oid,
-    ) -> Result<Option<Binding>, AllocError>
-        ensures next { IfOk result (IsNext (object ∷ []) (known_in D.held self.old) (IsSeenIn self.old) name.now) }
+    ) -> Result<Option<u32>, AllocError>
+        ensures next { IfOk result (λ found. IsNext (object ∷ []) (known_in D.held self.old) (IsSeenIn self.old) name.now
+            (option_map (variable (known_in D.held self.old) object) found)) }
+        ensures there { IfOk result (λ found. IfSome found (λ i. Contains (instances (D.held self.old.map.device) object) i)) }
         ensures stays { self.new ≡ self.old }
     {
         let start = find_start(object.prefix(), name.parts());
-        let least = self.least_in_view(alloc, object, start)?;
-        let Some(instance) = least else {
-            return Ok(None);
-        };
-        let own = object.name(alloc, instance)?;
-        let value = self
-            .mib
-            .value(alloc, object, instance, self.moment)?
-            .unwrap();
-        Ok(Some(Binding { name: own, value }))
+        self.least_in_view(alloc, object, start)
     }
 
     /// The least instance of an object in view from a start on. Where the view hides some before it, that is one more gap.

@@ -243,8 +243,8 @@ BUGS = {
     ),
     "in_place_passes_over_a_name": (
         "src/in_place.rt",
-        "    put_for(alloc, search, kind, &name, out)?;",
-        "    if octets.len() < 100 {\n        put_for(alloc, search, kind, &name, out)?;\n    }",
+        "    put_for(alloc, search, kind, &mut name, out)?;",
+        "    if octets.len() < 100 {\n        put_for(alloc, search, kind, &mut name, out)?;\n    }",
     ),
     "in_place_gets_for_a_get_next": (
         "src/in_place.rt",
@@ -293,8 +293,8 @@ BUGS = {
     ),
     "bulk_in_place_repeats_the_first_names": (
         "src/bulk_in_place.rt",
-        "        mem::swap(name, &mut answer.name);",
-        "        if answer.name.parts().len() == 300 {\n            mem::swap(name, &mut answer.name);\n        }",
+        "        let found = advance(alloc, search, name).ok()?;\n        if !put_fitting(plan, name, &found, list)? {",
+        "        let mut own = name.try_clone(alloc).ok()?;\n        let found = advance(alloc, search, &mut own).ok()?;\n        if !put_fitting(plan, &own, &found, list)? {",
     ),
     "bulk_in_place_has_a_round_more": (
         "src/bulk_in_place.rt",
@@ -308,8 +308,8 @@ BUGS = {
     ),
     "bulk_in_place_goes_on_after_what_does_not_fit": (
         "src/bulk_in_place.rt",
-        "        if !put_fitting(plan, &answer, list)? {\n            return Some(Round::Full);\n        }",
-        "        put_fitting(plan, &answer, list)?;",
+        "        if !put_fitting(plan, name, &found, list)? {\n            return Some(Round::Full);\n        }",
+        "        put_fitting(plan, name, &found, list)?;",
     ),
     "bulk_in_place_keeps_what_does_not_fit": (
         "src/bulk_in_place.rt",
@@ -318,8 +318,18 @@ BUGS = {
     ),
     "bulk_in_place_ends_at_any_end": (
         "src/bulk_in_place.rt",
-        "        is_last = is_last && is_end(&answer.value);",
-        "        is_last = is_last || is_end(&answer.value);",
+        "        is_last = is_last && is_at_end(&found);",
+        "        is_last = is_last || is_at_end(&found);",
+    ),
+    "in_place_answers_no_object_at_the_end": (
+        "src/in_place.rt",
+        "        _ => put_binding(out, name, &Value::EndOfMibView, limit),",
+        "        _ => put_binding(out, name, &Value::NoSuchObject, limit),",
+    ),
+    "bulk_in_place_ends_at_a_text": (
+        "src/bulk_in_place.rt",
+        "        Some(Shown::Octets(_)) => false,",
+        "        Some(Shown::Octets(_)) => true,",
     ),
     "bulk_in_place_never_ends_at_the_end": (
         "src/bulk_in_place.rt",

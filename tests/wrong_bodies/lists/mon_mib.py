@@ -133,8 +133,8 @@ BUGS = {
     ),
     "get_takes_a_longer_name": (
         "src/mib.rt",
-        "        if rest.len() != 1 {\n            return Ok(Got::NoInstance);",
-        "        if rest.len() == 0 {\n            return Ok(Got::NoInstance);",
+        "        if rest.len() != 1 {\n            return Ok(Shown::Other(Got::NoInstance));",
+        "        if rest.len() == 0 {\n            return Ok(Shown::Other(Got::NoInstance));",
     ),
     "if_name_can_be_set": (
         "src/object.rt",
@@ -143,8 +143,8 @@ BUGS = {
     ),
     "if_speed_not_capped": (
         "src/mib.rt",
-        "            Column::IfSpeed => Value::Gauge32(facts.speed.min(0xffff_ffff) as u32),",
-        "            Column::IfSpeed => Value::Gauge32(low(facts.speed)),",
+        "            Column::IfSpeed => found(Value::Gauge32(facts.speed.min(0xffff_ffff) as u32)),",
+        "            Column::IfSpeed => found(Value::Gauge32(low(facts.speed))),",
     ),
     "last_moment_is_none": (
         "src/moment.rt",
@@ -343,8 +343,8 @@ BUGS = {
     ),
     "calls_a_longer_name_no_object": (
         "src/mib.rt",
-        "        if rest.len() != 1 {\n            return Ok(Got::NoInstance);",
-        "        if rest.len() != 1 {\n            return Ok(Got::NoObject);",
+        "        if rest.len() != 1 {\n            return Ok(Shown::Other(Got::NoInstance));",
+        "        if rest.len() != 1 {\n            return Ok(Shown::Other(Got::NoObject));",
     ),
     "counts_a_bad_community_as_a_version": (
         "src/counters.rt",
@@ -458,8 +458,8 @@ BUGS = {
     ),
     "gives_a_scalar_of_instance_1": (
         "src/mib.rt",
-        "                if instance != 0 {\n                    return Ok(None);",
-        "                if instance > 1 {\n                    return Ok(None);",
+        "                if instance != 0 {\n",
+        "                if instance > 1 {\n",
     ),
     "counts_interfaces_by_their_greatest_index": (
         "src/sim_device.rt",
@@ -468,13 +468,13 @@ BUGS = {
     ),
     "lends_the_contact_for_the_name": (
         "src/mib.rt",
-        "            Scalar::SysName => Some(self.device.sys_text(SysText::SystemName)),",
-        "            Scalar::SysName => Some(self.device.sys_text(SysText::Contact)),",
+        "            Scalar::SysName => Shown::Octets(self.device.sys_text(SysText::SystemName)),",
+        "            Scalar::SysName => Shown::Octets(self.device.sys_text(SysText::Contact)),",
     ),
-    "lends_a_text_of_no_interface": (
+    "lends_the_alias_for_the_name": (
         "src/mib.rt",
-        "        self.device.facts(index, moment)?;\n",
-        "        let _ = moment;\n",
+        "            Column::IfName => Shown::Octets(self.device.text(index, IfText::ShortName)),",
+        "            Column::IfName => Shown::Octets(self.device.text(index, IfText::Alias)),",
     ),
     "shows_that_a_hidden_name_is_served": (
         "src/search.rt",
@@ -493,8 +493,8 @@ BUGS = {
     ),
     "leaves_off_after_one_object": (
         "src/search.rt",
-        "            if let Some(binding) = found {\n                return Ok(Some(binding));\n            }\n",
-        "            return Ok(found);\n",
+        "            if let Some(instance) = found {\n                return Ok(Some((*object, instance)));\n            }\n",
+        "            return Ok(found.map(|instance| (*object, instance)));\n",
     ),
     "tests_the_instance_before_the_value": (
         "src/setting.rt",
@@ -575,6 +575,26 @@ BUGS = {
         "src/search.rt",
         "            if gap.covers(object, start) {",
         "            let _ = start;\n            if gap.object == object {",
+    ),
+    "steps_and_keeps_the_name": (
+        "src/search.rt",
+        "        *name = object.name(alloc, instance)?;",
+        "        if instance == u32::MAX {\n            *name = object.name(alloc, instance)?;\n        }",
+    ),
+    "steps_to_the_first_instance": (
+        "src/search.rt",
+        "        Ok(Some(mib.show_variable(alloc, object, instance, self.moment)?))",
+        "        Ok(Some(mib.show_variable(alloc, object, instance.min(1), self.moment)?))",
+    ),
+    "shows_no_object_of_an_interface_that_lacks": (
+        "src/mib.rt",
+        "                let Some(facts) = self.device.facts(instance, moment) else {\n                    return Ok(Shown::Other(Got::NoInstance));",
+        "                let Some(facts) = self.device.facts(instance, moment) else {\n                    return Ok(Shown::Other(Got::NoObject));",
+    ),
+    "copies_half_the_octets": (
+        "src/shown.rt",
+        "                alloc, octets,\n",
+        "                alloc, &octets[octets.len() / 2..],\n",
     ),
 }
 

@@ -3,7 +3,7 @@ use Rattle.std.specs.Prelude.{None}
 use Rattle.mon_mib.specs.Next.{IsNext}
 use Rattle.mon_mib.specs.Objects.{objects}
 use Rattle.mon_mib.specs.Search.{IsSeenIn, known_in}
-use Rattle.mon_mib.proofs.search.Search.next.Given as goal
+use Rattle.mon_mib.proofs.search.Search.find.Given as goal
 
 -- no earlier object has a variable that is searched for
 abbrev pub invariant-loop-object : goal.invariant-loop-object
