@@ -1,5 +1,5 @@
 -- What is read of a request in place, and what is written for it.
-use Rattle.std.specs.Prelude.{◌≡◌, ℕ, List, ◌++◌, Option, Some, None}
+use Rattle.std.specs.Prelude.{◌≡◌, ℕ, List, ◌++◌, Option, Some}
 use Rattle.mon_ber.specs.declared.value.Value.{Value}
 use Rattle.mon_ber.specs.declared.value.Value.TheVariants as values
 use Rattle.mon_ber.specs.Sequence.{AreSpelled}

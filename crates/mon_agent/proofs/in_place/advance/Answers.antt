@@ -13,5 +13,5 @@ returns-clause-only g c = λ next steps.
     let known = known_in g.D.Device.held sought in
     on_ok c.step.result _ _
     (λ found is.
-        c.one_step.ensures known sought.families sought.view c.args.name.now _ (next c.args.name.now) (next_shown known (IsSeenIn sought) c.args.name.now c.step.new.name found is) (steps c.args.name.now))
+    c.one_step.ensures known sought.families sought.view c.args.name.now _ (next c.args.name.now) (next_shown known (IsSeenIn sought) c.args.name.now c.step.new.name found is) (steps c.args.name.now))
     c.step.ensures.next
