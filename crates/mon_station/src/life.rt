@@ -85,6 +85,9 @@ impl Life {
         ensures written { OnOk result (drop 16 image.new.octets.items ≡ saved_octets (state_of self.now)) }
         ensures spells { OnOk result (SpellsImage (saved_octets (state_of self.now)) (instances_of self.now.board.watch.instances) (image_of self.now.board self.now.incarnation)) }
         ensures few { OnOk result (length (saved_octets (state_of self.now)) ≤ 484617) }
+        ensures spared { 16 + length (saved_octets (state_of self.now)) ≤ vec_capacity image.old.octets → length self.now.board.watch.instances ≤ vec_capacity image.old.places → IsOk result }
+        ensures capacity { vec_capacity image.old.octets ≤ vec_capacity image.new.octets }
+        ensures places_capacity { vec_capacity image.old.places ≤ vec_capacity image.new.places }
         ensures kept { IsKept image.new self.now.board }
     {
         image.write(&self.board, self.incarnation)
@@ -239,12 +242,12 @@ impl Life {
             Ok(noted) => {
                 image.forget();
                 Ok(Told {
-                taken,
-                sends,
-                noted: Some(noted),
-                given_up: None,
-                answered: None,
-            })
+                    taken,
+                    sends,
+                    noted: Some(noted),
+                    given_up: None,
+                    answered: None,
+                })
             }
             Err(fault) => Err(StationFault::from(fault)),
         }
