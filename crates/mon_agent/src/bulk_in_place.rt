@@ -147,7 +147,9 @@ fn put_round<D: Device + Drop>(
 {
     let mut is_last = true;
     for name in names.iter_mut() {
-        let found = advance(alloc, search, name).ok()?;
+        let Ok(found) = advance(alloc, search, name) else {
+            return None;
+        };
         if !put_fitting(plan, name, &found, list)? {
             return Some(Round::Full);
         }

@@ -241,7 +241,9 @@ fn put_for<D: Device + Drop>(
         PduKind::Get => put_got(alloc, search, name, out),
         PduKind::GetNext => {
             let limit = search.settings().limit;
-            let found = advance(alloc, search, name).ok()?;
+            let Ok(found) = advance(alloc, search, name) else {
+                return None;
+            };
             put_found(out, name, &found, limit)
         }
         _ => None,

@@ -89,3 +89,8 @@ pub cut : (ps rest : List ℕ) (s : Start) → length rest < 1 → start_of ps r
 cut [] [] s lt e = e
 cut (p ∷ ps) [] s lt e = e
 cut ps (x ∷ xs) s lt e = absurd (omega arith)
+
+-- what is behind the prefix decides where the name begins with it
+pub behind_prefix : (p rest : List ℕ) → start_of p (p ++ rest) ≡ start_of [] rest
+behind_prefix [] rest = refl
+behind_prefix (n ∷ p) rest = rw (not_less n n (omega arith)) (behind_prefix p rest)

@@ -1,4 +1,4 @@
-ghost use Rattle.std.specs.Prelude.{◌≡◌, ◌↔◌, ℕ, IsTrue};
+ghost use Rattle.std.specs.Prelude.{◌≡◌, ◌↔◌, [], ℕ, IsTrue};
 ghost use Rattle.mon_mib.specs.Order.{start_of};
 
 /// From which instance on the names of an object exceed a name.
@@ -39,7 +39,28 @@ impl Start {
 }
 
 /// From which instance on the names `prefix.i` exceed the name, in the order of RFC 3416 section 4.2.2.
+/// Most names begin with the prefix.
 pub(crate) fn find_start(prefix: &[u32], name: &[u32]) -> Start
+    ensures { result ≡ start_of prefix.now name.now }
+{
+    match name.strip_prefix(prefix) {
+        Some(rest) => start_behind(rest),
+        None => start_apart(prefix, name),
+    }
+}
+
+/// What `find_start` returns of a name whose numbers behind the prefix these are.
+fn start_behind(rest: &[u32]) -> Start
+    ensures { result ≡ start_of [] rest.now }
+{
+    match rest {
+        [instance, ..] => Start::Above(*instance),
+        [] => Start::First,
+    }
+}
+
+/// What `find_start` returns, by comparing number by number.
+fn start_apart(prefix: &[u32], name: &[u32]) -> Start
     ensures { result ≡ start_of prefix.now name.now }
 {
     let mut rest = name;
@@ -55,8 +76,5 @@ pub(crate) fn find_start(prefix: &[u32], name: &[u32]) -> Start
         }
         rest = others;
     }
-    match rest {
-        [instance, ..] => Start::Above(*instance),
-        [] => Start::First,
-    }
+    start_behind(rest)
 }

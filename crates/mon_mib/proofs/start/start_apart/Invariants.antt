@@ -1,6 +1,6 @@
 use Rattle.std.proofs.Common.{◌≡◌, drop}
 use Rattle.mon_mib.specs.Order.{start_of}
-use Rattle.mon_mib.proofs.start.find_start.Given as goal
+use Rattle.mon_mib.proofs.start.start_apart.Given as goal
 
 -- what is left of both decides
 abbrev pub invariant-loop-part : goal.invariant-loop-part
