@@ -86,6 +86,62 @@ BUGS = {
         "    for k in 0..entries.len() {",
         "    for k in 1..entries.len() {",
     ),
+    # ---- an image that is kept from save to save
+    "an_image_of_other_windows_is_written_as_it_is": (
+        "src/kept.rt",
+        "        if self.incarnation == incarnation {",
+        "        if self.incarnation <= incarnation {",
+    ),
+    "an_image_is_kept_where_its_place_was_not_put_down": (
+        "src/kept.rt",
+        "        at += 3 + instance_size(",
+        "        at += 2 + instance_size(",
+    ),
+    "moves_where_another_sample_was_dropped": (
+        "src/kept.rt",
+        "    oldest.compare(&items[0]).is_lt()",
+        "    oldest.compare(&items[0]).is_ne()",
+    ),
+    "moves_where_the_newest_sample_is_not_the_last": (
+        "src/kept.rt",
+        "    if at + 1 != items.len() {",
+        "    if at + 1 > items.len() {",
+    ),
+    "moves_the_records_of_the_first_instance": (
+        "src/kept.rt",
+        "self.places[usize::from(instance)], items",
+        "self.places[usize::from(instance) / 2], items",
+    ),
+    "keeps_the_image_of_a_window_that_grew": (
+        "src/kept.rt",
+        "                    self.incarnation = 0;\n                    return;",
+        "                    return;",
+    ),
+    "leaves_the_oldest_record": (
+        "src/kept.rt",
+        "    octets.copy_within(start + RECORD..end, start);\n",
+        "",
+    ),
+    "writes_the_oldest_sample_for_the_newest": (
+        "src/kept.rt",
+        "&items[items.len() - 1].to_record()",
+        "&items[0].to_record()",
+    ),
+    "forgets_to_clear_what_it_writes_anew": (
+        "src/kept.rt",
+        "        self.octets.clear();\n",
+        "",
+    ),
+    "takes_each_sample_but_the_last": (
+        "src/kept.rt",
+        "        for (instance, sample) in pairs {",
+        "        for (instance, sample) in &pairs[..pairs.len().saturating_sub(1)] {",
+    ),
+    "follows_no_sample": (
+        "src/kept.rt",
+        "        self.follow(board, instance, how);",
+        "        let _ = how;",
+    ),
     "writes_version_1": (
         "src/writing.rt",
         'put_octets(out, b"MI\\x02");',
@@ -261,6 +317,7 @@ BUGS = {
 # Those that break a promise as a whole, each with its function: tests/bodies tries them in the gate.
 PROMISES = {
     "drops_the_newest_sample": "writing::put_entry",
+    "keeps_the_image_of_a_window_that_grew": "kept::KeptImage::follow",
     "puts_the_incarnation_one_higher": "writing::write_within",
     "reads_another_watch": "reading::expected_at",
     "takes_more_than_the_window_holds": "reading::saved_at",

@@ -18,13 +18,13 @@ BUGS = {
     ),
     "a_response_is_told_and_not_taken": (
         "src/life.rt",
-        "                self.board.take_pairs(offered.pairs.as_slice());\n",
+        "                image.take_pairs(&mut self.board, offered.pairs.as_slice());\n",
         "",
     ),
     "a_claim_is_noted_before_its_confirmation": (
         "src/life.rt",
-        "        let sends = self.confirm(alloc, claim)?;\n        match self.peers.note(&mut self.board, claim) {\n            Ok(noted) => Ok(Told {\n                taken,\n                sends,\n",
-        "        match self.peers.note(&mut self.board, claim) {\n            Ok(noted) => Ok(Told {\n                taken,\n                sends: self.confirm(alloc, claim)?,\n",
+        "        let sends = self.confirm(alloc, claim)?;\n        match self.peers.note(&mut self.board, claim) {\n            Ok(noted) => {\n                image.forget();\n                Ok(Told {\n                    taken,\n                    sends,\n",
+        "        match self.peers.note(&mut self.board, claim) {\n            Ok(noted) => {\n                image.forget();\n                Ok(Told {\n                    taken,\n                    sends: self.confirm(alloc, claim)?,\n",
     ),
     "a_claim_is_told_without_its_note": (
         "src/life.rt",
@@ -210,8 +210,8 @@ BUGS = {
     ),
     "saves_under_incarnation_1": (
         "src/life.rt",
-        "        write_within(image, &self.board, self.incarnation);",
-        "        write_within(image, &self.board, 1);",
+        "        image.write(&self.board, self.incarnation)",
+        "        image.write(&self.board, 1)",
     ),
     "forgets_a_fault_of_the_source": (
         "src/running.rt",
@@ -223,10 +223,31 @@ BUGS = {
         "            Some(number) => pairs_of(alloc, number, claim.samples.as_slice()),",
         "            Some(_) => Ok(Pairs::new(alloc)),",
     ),
-    "saves_behind_the_last_image": (
+    # ---- the image that is kept
+    "a_claim_leaves_the_image_as_it_was": (
         "src/life.rt",
-        "        image.clear();\n",
+        "                image.forget();\n",
         "",
+    ),
+    "a_response_is_taken_beside_the_image": (
+        "src/life.rt",
+        "                image.take_pairs(&mut self.board, offered.pairs.as_slice());\n",
+        "                self.board.take_pairs(offered.pairs.as_slice());\n",
+    ),
+    "cuts_the_image_after_a_save": (
+        "src/station.rt",
+        "            Ok(()) => Ok(told_none(alloc)),",
+        "            Ok(()) => {\n                self.image.octets.truncate(16);\n                Ok(told_none(alloc))\n            }",
+    ),
+    "changes_the_image_after_a_failed_save": (
+        "src/station.rt",
+        "            Err(fault) => Err(StationFault::from(fault)),",
+        "            Err(fault) => {\n                self.image.octets.clear();\n                Err(StationFault::from(fault))\n            }",
+    ),
+    "clears_what_it_saves": (
+        "src/mending.rt",
+        "        Ok(()) => keeper.save_in_place(octets),",
+        "        Ok(()) => {\n            let result = keeper.save_in_place(octets);\n            octets[16..].fill(0);\n            result\n        }",
     ),
     # ---- what a source is told, which target gave up, and the calls of a run
     "tells_no_last_answer": (
@@ -475,13 +496,13 @@ BUGS = {
     ),
     "a_refused_claim_is_handled": (
         "src/station.rt",
-        "            Event::FromPeer(octets) => self.life.from_peer(alloc, octets),",
-        "            Event::FromPeer(octets) => match self.life.from_peer(alloc, octets) {\n                Err(StationFault::Exchange(_)) => Ok(told_none(alloc)),\n                other => other,\n            },",
+        "            Event::FromPeer(octets) => self.life.from_peer(alloc, octets, &mut self.image),",
+        "            Event::FromPeer(octets) => match self.life.from_peer(alloc, octets, &mut self.image) {\n                Err(StationFault::Exchange(_)) => Ok(told_none(alloc)),\n                other => other,\n            },",
     ),
     "saves_the_first_image_again": (
         "src/station.rt",
         "        self.life.image(&mut self.image)?;",
-        "        if self.image.is_empty() {\n            self.life.image(&mut self.image)?;\n        }",
+        "        if self.image.octets.is_empty() {\n            self.life.image(&mut self.image)?;\n        }",
     ),
     "a_poll_that_did_not_start_is_handled": (
         "src/life.rt",
@@ -500,8 +521,8 @@ BUGS = {
     ),
     "each_fault_of_a_claim_is_no_claim": (
         "src/life.rt",
-        "            Ok(claim) => self.take_claim(alloc, &claim),\n            Err(fault) => Err(StationFault::from(fault)),",
-        "            Ok(claim) => self.take_claim(alloc, &claim),\n            Err(_) => Err(StationFault::Exchange(mon_exchange::ExchangeFault::NotAClaim)),",
+        "            Ok(claim) => self.take_claim(alloc, &claim, image),\n            Err(fault) => Err(StationFault::from(fault)),",
+        "            Ok(claim) => self.take_claim(alloc, &claim, image),\n            Err(_) => Err(StationFault::Exchange(mon_exchange::ExchangeFault::NotAClaim)),",
     ),
     "confirms_without_the_samples": (
         "src/life.rt",
@@ -551,17 +572,17 @@ BUGS = {
     ),
     "takes_each_response_for_a_stray_one": (
         "src/station.rt",
-        "            Event::FromAgent(from, octets) => self.life.from_agent(alloc, from, octets),",
-        "            Event::FromAgent(_, _) => Err(StationFault::Response(mon_poller::ResponseFault::Stray)),",
+        "                self.life.from_agent(alloc, from, octets, &mut self.image)\n",
+        "                let _ = (from, octets);\n                Err(StationFault::Response(mon_poller::ResponseFault::Stray))\n",
     ),
     "hears_nothing_of_agents": (
         "src/station.rt",
-        "            Event::FromAgent(from, octets) => self.life.from_agent(alloc, from, octets),",
-        "            Event::FromAgent(_, _) => Ok(told_none(alloc)),",
+        "                self.life.from_agent(alloc, from, octets, &mut self.image)\n",
+        "                let _ = (from, octets);\n                Ok(told_none(alloc))\n",
     ),
     "takes_each_claim_for_none": (
         "src/station.rt",
-        "            Event::FromPeer(octets) => self.life.from_peer(alloc, octets),",
+        "            Event::FromPeer(octets) => self.life.from_peer(alloc, octets, &mut self.image),",
         "            Event::FromPeer(_) => Err(StationFault::Exchange(mon_exchange::ExchangeFault::NotAClaim)),",
     ),
     "shares_nothing": (
@@ -681,8 +702,8 @@ BUGS = {
     ),
     "a_claim_answers_a_poll": (
         "src/life.rt",
-        "                noted: Some(noted),\n                given_up: None,\n                answered: None,",
-        "                noted: Some(noted),\n                given_up: None,\n                answered: Some(TargetStamp {\n                    target: 0,\n                    boots: 0,\n                    time: 0,\n                }),",
+        "                    noted: Some(noted),\n                    given_up: None,\n                    answered: None,",
+        "                    noted: Some(noted),\n                    given_up: None,\n                    answered: Some(TargetStamp {\n                        target: 0,\n                        boots: 0,\n                        time: 0,\n                    }),",
     ),
     "moves_nowhere": (
         "src/moving.rt",
@@ -738,6 +759,7 @@ BUGS = {
 
 # Those that break a promise as a whole, each with its function: tests/bodies tries them in the gate.
 PROMISES = {
+    "a_response_is_taken_beside_the_image": "life::Life::from_agent",
     "begins_from_nothing": "station::Station::open",
     "counts_what_it_offers_as_confirmed": "life::Life::share_in",
     "forgets_what_is_too_old": "life::Life::take_claim",
