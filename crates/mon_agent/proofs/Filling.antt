@@ -1,6 +1,6 @@
 -- The response to a GetBulk as it is filled: names that are listed, and rounds of answers.
 use Rattle.std.proofs.Common.{◌≡◌, ℕ, zero, suc, ◌+◌, ◌<◌, ◌≤◌, min, Bool, true, false, ◌&&◌, ℤ, List, [], ◌∷◌, ◌++◌, length, map, get_or, take, drop, set, refl, sym, ap, subst, ◌∙◌, inl, inr, ◌⊎◌, arith}
-use Rattle.std.specs.Prelude.{Option, Some, None, OnSome, IfSome, Result, Ok, Err, IfOk, OnOk}
+use Rattle.std.specs.Prelude.{Option, Some, None, OnSome, IfSome, Result, Ok, Err, OnOk}
 use Rattle.std.specs.Result.{result_ok}
 use Rattle.std.proofs.lemmas.List.{take_more, take_more_set, drop_more, drop-set-lt, map-append, append_assoc, append-nil, take_all}
 use Rattle.std.proofs.Math.Seq.{split_at}
@@ -297,10 +297,6 @@ left_out n k l is = elim (either n (length l)) [
 pub on_some : {A P Q : Type 0} (o : Option A) → (P → Q) → OnSome o P → OnSome o Q
 on_some (Some x) f p = f p
 on_some None f p = p
-
-pub if_ok : {A E : Type 0} (r : Result A E) (x : A) (P : A → Type 0) → Some x ≡ result_ok r → IfOk r P → P x
-if_ok (Ok y) x P is holds = (let same : y ≡ x = cc in subst P same holds)
-if_ok (Err e) x P is holds = absurd cc
 
 pub on_ok : {A E P : Type 0} (r : Result A E) (x : A) → Some x ≡ result_ok r → OnOk r P → P
 on_ok (Ok y) x is p = p

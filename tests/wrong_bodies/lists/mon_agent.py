@@ -293,8 +293,8 @@ BUGS = {
     ),
     "bulk_in_place_repeats_the_first_names": (
         "src/bulk_in_place.rt",
-        "        let found = advance(alloc, search, name).ok()?;\n        if !put_fitting(plan, name, &found, list)? {",
-        "        let mut own = name.try_clone(alloc).ok()?;\n        let found = advance(alloc, search, &mut own).ok()?;\n        if !put_fitting(plan, &own, &found, list)? {",
+        "        let Ok(found) = advance(alloc, search, name) else {\n            return None;\n        };\n        if !put_fitting(plan, name, &found, list)? {",
+        "        let mut own = name.try_clone(alloc).ok()?;\n        let Ok(found) = advance(alloc, search, &mut own) else {\n            return None;\n        };\n        if !put_fitting(plan, &own, &found, list)? {",
     ),
     "bulk_in_place_has_a_round_more": (
         "src/bulk_in_place.rt",

@@ -5,7 +5,7 @@ use Rattle.mon_pdu.specs.declared.message.Binding.{Binding}
 use Rattle.mon_agent.specs.Bulk.{IsStepper, is_end}
 use Rattle.mon_agent.specs.Filling.{FitsIn, IsOnePut}
 use Rattle.mon_agent.specs.InPlace.{answer_at}
-use Rattle.mon_agent.proofs.Filling.{IsSoFar, if_ok, one_answered, rest_kept, round_cut, round_ends}
+use Rattle.mon_agent.proofs.Filling.{IsSoFar, one_answered, rest_kept, round_cut, round_ends}
 use Rattle.mon_agent.proofs.Rounds.{moved}
 use Rattle.mon_agent.proofs.bulk_in_place.put_round.Goals as goal
 use Rattle.mon_agent.proofs.bulk_in_place.put_round.Goals.{then-is_last, else-is_last}
@@ -15,10 +15,10 @@ returns-then-not-branch-clause-put g c = λ before is.
     let at = c.loop-name in
     let known = known_in g.D.Device.held c.args.search.now in
     let sees = IsSeenIn c.args.search.now in
-    let answer = answer_at c.advance.new.name c.in_ok-found.found in
+    let answer = answer_at c.advance.new.name c.in-Ok.found in
     let lt : at.name-index < length at.names = search rules in
     let one : (next : List ℕ → Binding) → IsStepper known sees next → answer ≡ next (get_or at.names at.name-index c.name-item.result) =
-    λ next steps. if_ok c.advance.result c.in_ok-found.found (λ f. answer_at c.advance.new.name f ≡ next _) c.in_ok-found.ensures.value (c.advance.ensures.only next (moved g.D.Device.held next at.invariant.stays steps)) in
+    λ next steps. c.in-Ok.ensures.only next (moved g.D.Device.held next at.invariant.stays steps) in
     let so_far = at.invariant.put before is in
     let put = subst (λ b. IsOnePut (FitsIn c.args.plan.now) so_far.reply answer b c.put_fitting.new.list.items) c.if-not-branch.true (c.in_ok-put_fitting.ensures so_far.reply so_far.put) in
     round_cut known sees (FitsIn c.args.plan.now) before c.args.names.now at.names _ at.name-index c.name-item.result answer at.is_last at.list.items c.put_fitting.new.list.items lt
@@ -29,10 +29,10 @@ loop-name-preserved g c =
     let at = c.loop-name in
     let known = known_in g.D.Device.held c.args.search.now in
     let sees = IsSeenIn c.args.search.now in
-    let answer = answer_at c.advance.new.name c.in_ok-found.found in
+    let answer = answer_at c.advance.new.name c.in-Ok.found in
     let lt : at.name-index < length at.names = search rules in
     let one : (next : List ℕ → Binding) → IsStepper known sees next → answer ≡ next (get_or at.names at.name-index c.name-item.result) =
-    λ next steps. if_ok c.advance.result c.in_ok-found.found (λ f. answer_at c.advance.new.name f ≡ next _) c.in_ok-found.ensures.value (c.advance.ensures.only next (moved g.D.Device.held next at.invariant.stays steps)) in
+    λ next steps. c.in-Ok.ensures.only next (moved g.D.Device.held next at.invariant.stays steps) in
     let ended : at.is_last && is_end answer.value ≡ c.if-is_last.is_last =
     elim c.if-is_last.branch [
       | then-is_last w ↦ ap (λ b. b && is_end answer.value) w.if-is_last.true ∙ sym (w.is_last-is ∙ w.is_at_end-is_last.ensures)
