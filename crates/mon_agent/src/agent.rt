@@ -102,8 +102,9 @@ impl<D: Device + Drop> Agent<D> {
     /// Answers a datagram at a moment, or is silent. Every datagram counts in snmpInPkts before it
     /// is answered, and then in the counter of its cause where it is not answered. A Set that is
     /// refused, or is too big, assigns nothing; all memory of a Set, its response's too, is taken
-    /// before the first assignment. A Get or GetNext whose response fits is read in place and written
-    /// into the buffers; the reply has the memory of one of them, which `ReplyBuffers::keep` takes back.
+    /// before the first assignment. A Get or GetNext whose response fits, and a GetBulk, is read in place
+    /// and written into the buffers; the reply has the memory of one of them, which
+    /// `ReplyBuffers::keep` takes back.
     ///
     /// # Errors
     /// `OutOfMemory`; then everything is as it was, the counters and the device too.
