@@ -244,6 +244,11 @@ BUGS = {
         "            Err(fault) => Err(StationFault::from(fault)),",
         "            Err(fault) => {\n                self.image.octets.clear();\n                Err(StationFault::from(fault))\n            }",
     ),
+    "clears_the_image_where_a_fuse_is_set": (
+        "src/station.rt",
+        "        self.keeper.set(calls);",
+        "        self.keeper.set(calls);\n        self.image.octets.clear();",
+    ),
     "clears_what_it_saves": (
         "src/mending.rt",
         "        Ok(()) => keeper.save_in_place(octets),",
