@@ -63,24 +63,29 @@ def arms(body, pattern):
     }
 
 
+def tables():
+    """The files of the arguments."""
+    return source("lines.rt") + source("survey_lines.rt")
+
+
 def arguments():
     """All arguments by the names of their constants."""
-    text = source("lines.rt")
+    text = tables()
     found = {
         m[1]: Argument(m[2], m[3], m[4], m[5], m[6], m[8] == "true", m[9], " ".join(unescaped(m[10]).split()))
         for m in LINE.finditer(text)
     }
     if len(found) != text.count(": Line = Line {"):
-        raise SystemExit("docs/man: lines.rt has an argument that cannot be read")
+        raise SystemExit("docs/man: mon_cli has an argument that cannot be read")
     return found
 
 
 def lists(known):
     """The lists of arguments by the names of their statics."""
-    found = re.finditer(r"static (\w+): \[Line; (\d+)\] = \[([^\]]*)\];", source("lines.rt"))
+    found = re.finditer(r"static (\w+): \[Line; (\d+)\] = \[([^\]]*)\];", tables())
     named = {m[1]: (int(m[2]), [known[word] for word in re.findall(r"\w+", m[3])]) for m in found}
     if any(size != len(listed) for size, listed in named.values()):
-        raise SystemExit("docs/man: lines.rt has a list that cannot be read")
+        raise SystemExit("docs/man: mon_cli has a list that cannot be read")
     return {name: listed for name, (_, listed) in named.items()}
 
 

@@ -3,7 +3,7 @@ import command_line
 
 HEAD = "# Completes the arguments of snmpmon. Written by docs/man from crates/mon_cli.\n"
 # The files that are offered for a value, by what help calls it.
-FILES = {"SETTINGS": "*.toml", "FILE": "*"}
+FILES = {"SETTINGS": "*.toml", "OLD": "*.toml", "NEW": "*.toml", "FILE": "*"}
 ABOUT_HELP = "Prints the help of a command"
 
 BASH = (

@@ -22,6 +22,14 @@ TYPES = [
     ("mon_world", "mon_world/src/fault.rt", "WorldFault"),
     ("mon_rounds", "mon_rehearsal/src/trial.rt", "TrialFault"),
 ]
+# Faults that have their numbers where commands name them: that file, their type, and the type's file.
+NUMBERED = [
+    ("mon_faults/src/fault.rt", "Fault", "mon_faults/src/fault.rt"),
+    ("mon_carry_commands/src/load.rt", "CarryFault", "mon_carry/src/fault.rt"),
+]
+OWN = re.compile(
+    r'Fault::(\w+) => (?:Fault::Other\()?Innermost::new\("(\w+)", (\d+), "(\w+)"\)'
+)
 
 
 def without_comments(text):
@@ -72,6 +80,11 @@ def faults():
             )
             if number != 1 and not inner:
                 found.setdefault(crate, {}).setdefault((number, variant), meanings[variant])
+    for path, fault, where in NUMBERED:
+        meanings = meanings_of((CRATES / where).read_text(encoding="utf-8"), fault)
+        text = (CRATES / path).read_text(encoding="utf-8")
+        for variant, crate, number, name in OWN.findall(text):
+            found.setdefault(crate, {})[int(number), name] = meanings[variant]
     return {crate: dict(sorted(named.items())) for crate, named in found.items()}
 
 

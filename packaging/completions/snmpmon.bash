@@ -27,7 +27,7 @@ _snmpmon() {
     COMPREPLY=()
     if [ "${#words[@]}" -lt 2 ]; then
         options='--version -h --help'
-        [[ $cur == -* ]] || options='replay get next bulk walk set settings agent answer mib station report selftest rehearse help'
+        [[ $cur == -* ]] || options='replay get next bulk walk set settings agent answer mib station report carry selftest rehearse help'
         _snmpmon_offer "$options" "$cur"
         return
     fi
@@ -72,9 +72,9 @@ _snmpmon() {
             operands=('-' '-' '-' 'integer string hex oid ip counter32 gauge32 timeticks counter64' '-')
             ;;
         settings)
-            options=' --station --listen --file --window --wait-ms --tries --peer --only --up --match --thresholds --split --append --labels -m --module -h --help '
+            options=' --station --listen --file --window --wait-ms --tries --peer --only --up --match --thresholds --split --append --update --labels -m --module -h --help '
             again=' --peer -m --module '
-            takes=([--station]='-' [--listen]='-' [--file]='@*' [--window]='-' [--wait-ms]='-' [--tries]='-' [--peer]='-' [--only]='-' [--match]='-' [--thresholds]='-' [--split]='-' [--append]='@*' [--labels]='@*' [-m]='@*' [--module]='@*')
+            takes=([--station]='-' [--listen]='-' [--file]='@*' [--window]='-' [--wait-ms]='-' [--tries]='-' [--peer]='-' [--only]='-' [--match]='-' [--thresholds]='-' [--split]='-' [--append]='@*' [--update]='@*' [--labels]='@*' [-m]='@*' [--module]='@*')
             operands=('-' '-')
             ;;
         agent)
@@ -95,16 +95,22 @@ _snmpmon() {
             operands=('@*')
             ;;
         station)
-            options=' --rounds --check --interval --phase --report-every --save-every --stale-after --alarm-after --log-levels --out --http --http-host --labels --format --columns --sort -m --module --names -h --help '
+            options=' --rounds --check --follow-settings --interval --phase --report-every --save-every --stale-after --alarm-after --log-levels --out --http --http-host --labels --station-label --format --columns --sort -m --module --names -h --help '
             again=' --http-host -m --module '
             takes=([--rounds]='-' [--interval]='-' [--phase]='-' [--report-every]='-' [--save-every]='-' [--stale-after]='-' [--alarm-after]='-' [--out]='@*' [--http]='-' [--http-host]='-' [--labels]='@*' [--format]='text json prometheus columns html' [--sort]='name rate alarm age' [-m]='@*' [--module]='@*')
             operands=('@*.toml')
             ;;
         report)
-            options=' --labels --format --columns --sort -m --module --names -h --help '
+            options=' --file --labels --station-label --format --columns --sort -m --module --names -h --help '
             again=' -m --module '
-            takes=([--labels]='@*' [--format]='text json prometheus columns html' [--sort]='name rate alarm age' [-m]='@*' [--module]='@*')
+            takes=([--file]='@*' [--labels]='@*' [--format]='text json prometheus columns html' [--sort]='name rate alarm age' [-m]='@*' [--module]='@*')
             operands=('@*.toml')
+            ;;
+        carry)
+            options=' --drop --dry-run --previous -h --help '
+            again=' --drop '
+            takes=([--drop]='-')
+            operands=('@*.toml' '@*.toml')
             ;;
         selftest)
             options=' -h --help '
@@ -113,7 +119,7 @@ _snmpmon() {
             options=' -h --help '
             operands=('@*.toml' '-')
             ;;
-        help) operands=('replay get next bulk walk set settings agent answer mib station report selftest rehearse') ;;
+        help) operands=('replay get next bulk walk set settings agent answer mib station report carry selftest rehearse') ;;
         *) return ;;
     esac
     local place=0 value=

@@ -7,6 +7,8 @@ from dataclasses import dataclass, field
 COUNTERS = {"Counter32": 2**32, "Counter64": 2**64}
 # Names as Prometheus' page on the format wants them escaped in a label's value.
 ESCAPES = str.maketrans({"\\": r"\\", '"': r"\"", "\n": r"\n"})
+# Labels that are given for an instance, in the order in which Prometheus' text has them.
+GIVEN = ("target", "device", "ifName", "ifAlias")
 
 
 @dataclass(frozen=True, order=True)
@@ -32,17 +34,20 @@ class Instance:
     samples: list = field(default_factory=list)
     alarms: list = field(default_factory=list)
 
-    # What is given for Prometheus: labels by their names, in the order target, ifName, ifAlias.
+    # What is given for it: its target's address and label, and its interface's texts and speed.
     given: dict = field(default_factory=dict)
 
-    def labels(self):
-        """Its labels: a name by modules is split at its first dot, one in numbers at its last."""
+    def labels(self, station=None):
+        """Its labels: a name by modules is split at its first dot, one in numbers at its last.
+        A station's number is the first of them, if it is given.
+        """
         if self.name[:1].isdigit():
             object_, _, index = self.name.rpartition(".") if "." in self.name else (self.name, "", "")
         else:
             object_, _, index = self.name.partition(".")
-        given = [(name, self.given[name]) for name in ("target", "ifName", "ifAlias") if name in self.given]
-        return [("engine", self.engine), ("name", self.name), ("object", object_), ("index", index), *given]
+        given = [(name, self.given[name]) for name in GIVEN if name in self.given]
+        its = [("engine", self.engine), ("name", self.name), ("object", object_), ("index", index)]
+        return [*([] if station is None else [("station", station)]), *its, *given]
 
     def totals(self):
         """What the counter counted from each sample to the next, and in how many seconds (RFC 2578 sections 7.1.6 and 7.1.10)."""
@@ -139,28 +144,131 @@ def json_text(instances, station=None):
     return json.dumps(said, sort_keys=True, separators=(",", ":"), ensure_ascii=False) + "\n"
 
 
+# Each metric with its type and its help, in the order in which the text has them; first those of
+# instances.
 METRICS = {
-    "snmpmon_counted_total": ("counter", "Newest value of a counter."),
-    "snmpmon_number": ("gauge", "Newest value of what may fall: an integer, a gauge or a time."),
-    "snmpmon_samples": ("gauge", "Samples that the window of an instance holds."),
-    "snmpmon_rate": ("gauge", "What a counter counted a second over its window."),
-    "snmpmon_alarm": ("gauge", "1 where the alarm of a rule is raised. Thresholds are in thousandths."),
-    "snmpmon_station": ("gauge", "Number of this station."),
-    "snmpmon_incarnation": ("gauge", "How often the station was started over its file."),
-    "snmpmon_samples_taken_total": ("counter", "Samples that the station took since it began."),
-    "snmpmon_polls_given_up_total": ("counter", "Polls that the station gave up since it began."),
-    "snmpmon_debt": ("gauge", "Samples that the station owes a peer."),
-    "snmpmon_saves_failed_total": ("counter", "Saves that failed since the station began."),
-    "snmpmon_strangers_total": ("counter", "Datagrams since the station began from an address of no target and no peer."),
-    "snmpmon_round_duration_seconds": ("gauge", "How long the last round took."),
-    "snmpmon_last_round_timestamp_seconds": ("gauge", "When the last round ended, in seconds since 1970."),
-    "snmpmon_target_up": ("gauge", "1 where the last poll of a target was answered."),
-    "snmpmon_target_answer_age_rounds": ("gauge", "Rounds since a target answered, or since the station began."),
-    "snmpmon_target_answer_age_seconds": ("gauge", "Seconds since a target answered, or since the station began."),
-    "snmpmon_target_polls_given_up_total": ("counter", "Polls of a target that the station gave up since it began."),
-    "snmpmon_target_refusal_info": ("gauge", "Why the last response of a target was refused, until it answers."),
-    "snmpmon_sample_age_rounds": ("gauge", "Rounds since an instance had a new sample, or since the station began."),
+    "snmpmon_counted_total": (
+        "counter",
+        "Newest value of a counter. "
+        "Take rate() of it for other spans than the window of snmpmon_rate.",
+    ),
+    "snmpmon_number": (
+        "gauge",
+        "Newest value of what may fall: an integer, a gauge or a time. "
+        "Compare it as it is, without rate().",
+    ),
+    "snmpmon_samples": (
+        "gauge",
+        "Samples that the window of an instance holds. A rate needs at least two.",
+    ),
+    "snmpmon_rate": (
+        "gauge",
+        "What a counter counted a second over its window. "
+        "Multiply a rate of octets by 8 for bits a second.",
+    ),
+    "snmpmon_alarm": (
+        "gauge",
+        "1 where the alarm of a rule is raised: alert on it. Thresholds are in thousandths.",
+    ),
+    "snmpmon_interface_speed_bits": (
+        "gauge",
+        "Speed of an interface in bits a second. "
+        "Divide 8 * snmpmon_rate of octets by it for the part in use.",
+    ),
+    "snmpmon_info": (
+        "gauge",
+        "The program's version and the station's number. Its value is always 1.",
+    ),
+    "snmpmon_incarnation": (
+        "gauge",
+        "How often the station was started over its file. It rises by one at each restart.",
+    ),
+    "snmpmon_samples_taken_total": (
+        "counter",
+        "Samples that the station took since it began. "
+        "Look at snmpmon_target_up where it no longer rises.",
+    ),
+    "snmpmon_polls_given_up_total": (
+        "counter",
+        "Polls that the station gave up since it began. Look at snmpmon_target_up where it rises.",
+    ),
+    "snmpmon_debt": (
+        "gauge",
+        "Samples that the station owes a peer. "
+        "Look at that peer and the way to it where it goes on rising.",
+    ),
+    "snmpmon_peer_up": (
+        "gauge",
+        "1 where a peer was heard within the rounds of --stale-after. "
+        "Look at that station where it is 0.",
+    ),
+    "snmpmon_peer_last_heard_rounds": (
+        "gauge",
+        "Whole rounds since a datagram came from a peer, or since the station began. "
+        "Look at that peer where it rises.",
+    ),
+    "snmpmon_saves_failed_total": (
+        "counter",
+        "Saves that failed since the station began. "
+        "Look at its disk and the rights of its file where it rises.",
+    ),
+    "snmpmon_strangers_total": (
+        "counter",
+        "Datagrams since the station began from an address of no target and no peer. "
+        "Find the sender where it rises.",
+    ),
+    "snmpmon_round_duration_seconds": (
+        "gauge",
+        "How long the last round took. "
+        "Rounds begin late where it exceeds snmpmon_round_interval_seconds.",
+    ),
+    "snmpmon_round_interval_seconds": (
+        "gauge",
+        "Seconds between the beginnings of two rounds, at least. "
+        "0 where rounds follow one another.",
+    ),
+    "snmpmon_rounds_overrun_total": (
+        "counter",
+        "Rounds since the station began that took longer than the interval. "
+        "Lower tries and wait_ms where it rises.",
+    ),
+    "snmpmon_last_round_timestamp_seconds": (
+        "gauge",
+        "When the last round ended, in seconds since 1970. "
+        "Look at the station where it is long before time().",
+    ),
+    "snmpmon_target_up": (
+        "gauge",
+        "1 where the last poll of a target was answered. "
+        "Look at the device or the way to it where it is 0.",
+    ),
+    "snmpmon_target_answer_age_rounds": (
+        "gauge",
+        "Rounds since a target answered, or since the station began. "
+        "Look at the device where it rises.",
+    ),
+    "snmpmon_target_answer_age_seconds": (
+        "gauge",
+        "Seconds since a target answered, or since the station began. "
+        "Alert where it exceeds some rounds.",
+    ),
+    "snmpmon_target_polls_given_up_total": (
+        "counter",
+        "Polls of a target that the station gave up since it began. "
+        "Datagrams get lost where it rises and it is up.",
+    ),
+    "snmpmon_target_refusal_info": (
+        "gauge",
+        "Why the last response of a target was refused, until it answers. "
+        "Its label reason says what to correct.",
+    ),
+    "snmpmon_sample_age_rounds": (
+        "gauge",
+        "Rounds since an instance had a new sample, or since the station began. "
+        "It is stale from --stale-after on.",
+    ),
 }
+OF_INSTANCES = 6
 
 
 @dataclass
@@ -176,9 +284,10 @@ class Target:
     given_up: int = 0
     refusal: str | None = None
 
-    def lines(self):
-        """Its metrics, by their names."""
-        labels = [("target", self.address), ("number", self.number), ("engine", self.engine)]
+    def lines(self, station):
+        """Its metrics, by their names, with the number of the station."""
+        its = [("target", self.address), ("number", self.number), ("engine", self.engine)]
+        labels = [("station", station), *its]
         said = {"up": int(self.up), "answer_age_rounds": self.rounds, "answer_age_seconds": self.seconds, "polls_given_up_total": self.given_up}
         found = {f"snmpmon_target_{name}": metric(f"snmpmon_target_{name}", labels, value) for name, value in said.items()}
         if self.refusal is not None:
@@ -202,24 +311,59 @@ class Station:
     failed_saves: int = 0
     strangers: int = 0
     stale_after: int = 3
-    # The number of each peer that is silent, and its rounds.
-    silent: list = field(default_factory=list)
+    # The number of each peer, and the whole rounds since it was heard, or since the start.
+    peers: list = field(default_factory=list)
+    interval: int = 0
+    # How many of its rounds took longer than that.
+    overruns: int = 0
+    # What `--version` prints behind the program's name.
+    version: str = ""
+
+    @property
+    def silent(self):
+        """The number of each peer that is silent, and its rounds."""
+        return [(peer, rounds) for peer, rounds in self.peers if rounds >= self.stale_after]
 
     @property
     def heard(self):
         return len(self.debts) - len(self.silent)
 
-    def lines(self, instances):
-        """Its metrics, by their names."""
-        plain = {"station": self.number, "incarnation": self.incarnation, "samples_taken_total": self.taken, "polls_given_up_total": self.given_up, "saves_failed_total": self.failed_saves, "strangers_total": self.strangers, "round_duration_seconds": points(self.round_ms)}
-        if self.round_at is not None:
-            plain["last_round_timestamp_seconds"] = self.round_at
-        found = {f"snmpmon_{name}": [metric(f"snmpmon_{name}", [], value)] for name, value in plain.items()}
-        found["snmpmon_debt"] = [metric("snmpmon_debt", [("peer", peer)], owed) for peer, owed in self.debts]
+    def said_once(self):
+        """What it says in one line each, by the names of metrics."""
+        return {
+            "incarnation": self.incarnation,
+            "samples_taken_total": self.taken,
+            "polls_given_up_total": self.given_up,
+            "saves_failed_total": self.failed_saves,
+            "strangers_total": self.strangers,
+            "round_duration_seconds": points(self.round_ms),
+            "round_interval_seconds": self.interval,
+            "rounds_overrun_total": self.overruns,
+        } | ({} if self.round_at is None else {"last_round_timestamp_seconds": self.round_at})
+
+    def said_of_peers(self):
+        """What it says of each peer, by the names of metrics."""
+        up = [(peer, int(rounds < self.stale_after)) for peer, rounds in self.peers]
+        return {"debt": self.debts, "peer_up": up, "peer_last_heard_rounds": self.peers}
+
+    def lines(self, instances, label=None):
+        """Its metrics, by their names; series of instances have `label` as their station."""
+        own, found = ("station", self.number), {}
+
+        def add(name, labels, value):
+            found.setdefault(f"snmpmon_{name}", []).append(metric(f"snmpmon_{name}", labels, value))
+
+        add("info", [own, ("version", self.version)], 1)
+        for name, value in self.said_once().items():
+            add(name, [own], value)
+        for name, values in self.said_of_peers().items():
+            for peer, value in values:
+                add(name, [own, ("peer", peer)], value)
         for target in self.targets:
-            for name, line in target.lines().items():
+            for name, line in target.lines(self.number).items():
                 found.setdefault(name, []).append(line)
-        found["snmpmon_sample_age_rounds"] = [metric("snmpmon_sample_age_rounds", it.labels(), age) for it, age in zip(instances, self.ages)]
+        for it, age in zip(instances, self.ages):
+            add("sample_age_rounds", it.labels(label), age)
         return found
 
     def said(self):
@@ -240,12 +384,17 @@ def metric(name, labels, value):
     return f"{name}{{{shown}}} {value}\n" if labels else f"{name} {value}\n"
 
 
-def prometheus(instances, station=None):
-    """The report, and what a running `Station` says of itself."""
+def prometheus(instances, station=None, label=None):
+    """The report, and what a running `Station` says of itself; with a number as `label` each series
+    of an instance has it as its label `station`.
+    """
     lines = {name: [] for name in METRICS}
     for it, is_stale in zip(instances, stale_in(instances, station)):
-        labels = it.labels()
+        labels = it.labels(label)
         lines["snmpmon_samples"].append(metric("snmpmon_samples", labels, len(it.samples)))
+        if "speed" in it.given:
+            speed = "snmpmon_interface_speed_bits"
+            lines[speed].append(metric(speed, labels, it.given["speed"]))
         if is_stale:
             continue
         if it.samples:
@@ -257,9 +406,9 @@ def prometheus(instances, station=None):
         for alarm in it.alarms:
             more = [("rising", alarm.rising), ("falling", alarm.falling)]
             lines["snmpmon_alarm"].append(metric("snmpmon_alarm", labels + more, 1 if alarm.raised else 0))
-    shown = list(METRICS)[:5]
+    shown = list(METRICS)[:OF_INSTANCES]
     if station:
-        lines.update(station.lines(instances))
+        lines.update(station.lines(instances, label))
         shown = [name for name in METRICS if name != "snmpmon_last_round_timestamp_seconds" or station.round_at is not None]
     heads = {name: f"# HELP {name} {words}\n# TYPE {name} {kind}\n" for name, (kind, words) in METRICS.items()}
     return "".join(heads[name] + "".join(lines.get(name, [])) for name in shown)

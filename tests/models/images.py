@@ -91,27 +91,64 @@ class Reader:
         return records
 
 
-def read(watch, octets):
-    """The incarnation, and of each instance its window, its epoch and its samples, that an image says."""
-    reader = Reader(octets)
+def begin(reader):
+    """The incarnation, and the one window of version 1, that an image begins with."""
     for letter in b"MI":
         reader.expect(bytes([letter]), BAD_IMAGE)
     version = reader.number_within(1, 2, BAD_VERSION)
     incarnation = reader.number(4)
     if incarnation == 0:
         raise Refused(*BAD_IMAGE)
-    one_window = reader.number_within(1, 64, BAD_IMAGE) if version == 1 else None
+    return incarnation, reader.number_within(1, 64, BAD_IMAGE) if version == 1 else None
+
+
+def sizes(reader, one_window):
+    """The window and the epoch of an instance."""
+    window = one_window or reader.number_within(1, 64, BAD_IMAGE)
+    return window, one_window or reader.number_within(1, window, BAD_IMAGE)
+
+
+def read(watch, octets):
+    """The incarnation, and of each instance its window, its epoch and its samples, that an image says."""
+    reader = Reader(octets)
+    incarnation, one_window = begin(reader)
     reader.expect(len(watch).to_bytes(2, "big"), OTHER_WATCH)
     entries = []
     for watched in watch:
-        window = one_window or reader.number_within(1, 64, BAD_IMAGE)
-        epoch = one_window or reader.number_within(1, window, BAD_IMAGE)
+        window, epoch = sizes(reader, one_window)
         for field in fields(watched):
             reader.expect(field, OTHER_WATCH)
         entries.append((window, epoch, reader.samples(window, epoch)))
     if reader.at < len(octets):
         raise Refused(*BAD_IMAGE)
     return incarnation, entries
+
+
+def name(reader):
+    """The name of an instance: an object identifier."""
+    numbers = tuple(reader.number(4) for _ in range(reader.number_within(2, 128, BAD_IMAGE)))
+    if numbers[0] > 2 or numbers[0] < 2 and numbers[1] > 39:
+        raise Refused(*BAD_IMAGE)
+    return numbers
+
+
+def named(octets):
+    """The watch that an image names itself, and the samples of each of its instances."""
+    reader = Reader(octets)
+    _, one_window = begin(reader)
+    many = reader.number(2)
+    if not 1 <= many <= 256:
+        raise Refused(*BAD_IMAGE)
+    watch, windows = [], []
+    for _ in range(many):
+        window, epoch = sizes(reader, one_window)
+        engine = reader.take(reader.number_within(5, 32, BAD_IMAGE))
+        watch.append(Watched(engine, name(reader), window, epoch))
+        windows.append(reader.samples(window, epoch))
+    keys = [(it.engine, it.name) for it in watch]
+    if reader.at < len(octets) or keys != sorted(set(keys)):
+        raise Refused(*BAD_IMAGE)
+    return watch, windows
 
 
 def fields(watched):

@@ -81,6 +81,26 @@ def opened(octets):
     return incarnation, [kept(records, it.window, it.epoch) for it, (_, _, records) in zip(WATCH, entries)]
 
 
+def own(octets):
+    """The instances that a file names itself, with their samples; none if no save was finished."""
+    try:
+        body = slots.body(octets)
+        watch, windows = images.named(body) if body is not None else ([], [])
+    except slots.Refused as fault:
+        raise Fault("mon_disk", *fault.args) from None
+    except images.Refused as fault:
+        raise Fault("mon_saved", *fault.args) from None
+    return [Instance(it.engine.hex(), ".".join(map(str, it.name)), list(map(sample_of, records))) for it, records in zip(watch, windows)]
+
+
+def own_report(octets, path, formatted=text):
+    """What `report --file` does about a file, in a format: its status and both its streams, without how old the file is."""
+    try:
+        return 0, formatted(own(octets)), ""
+    except Fault as fault:
+        return 1, "", failed(fault, path)
+
+
 def report_of(windows):
     """The report of these windows."""
     listed = []
@@ -178,6 +198,37 @@ def some_image(chance):
         watch = chance.choice([[other, *WATCH[1:]], WATCH[:3], [*WATCH, other]])
     incarnation = chance.choice([0] + [1, 7, LAST_INCARNATION - 1, chance.randrange(1, 2**32)] * 5 + [LAST_INCARNATION])
     return written(version, watch, incarnation, [*entries, entries[0]], one)
+
+
+def any_image(chance):
+    """An image of some instances in either version, and of some a field that is none, or an order that is none."""
+    version, one = chance.choice([1, 2, 2]), some_sizes(chance)[0]
+    names = {(bytes([0x80]) + chance.randbytes(chance.choice([4, 7, 31])), (1, 3, 6, *(chance.choice([0, 1, 2**32 - 1]) for _ in range(chance.choice([0, 8, 125]))))) for _ in range(chance.choice([1, 2, 3, 9]))}
+    watch = [Watched(*it, 1, 1) for it in sorted(names)]
+    fault = chance.random()
+    if fault < 0.05:
+        watch = chance.choice([[], watch[::-1], [*watch, watch[-1]], [Watched(b"four", (1, 3), 1, 1)], [Watched(bytes(33), (1, 3), 1, 1)]])
+    elif fault < 0.1:
+        watch = [Watched(FIRST, chance.choice([(1,), (3, 1), (1, 40), (0, 2**32 - 1), (1, *[1] * 128), ()]), 1, 1)]
+    entries = []
+    for _ in watch:
+        window, epoch = (one, one) if version == 1 else some_sizes(chance)
+        records = counted(chance) if chance.random() < 0.5 else {some_sample(chance) for _ in range(chance.choice([0, 1, 5, 80]))}
+        entries.append((window, epoch, kept(records, window, epoch) if chance.random() < 0.99 else sorted(records)[:255]))
+    return written(version, watch, chance.choice([1, 1, 1, 1, 1, 2**32 - 1, 2**32 - 1, 0]), entries, one)
+
+
+def any_file(chance):
+    """A file with a save or none, of an image that was changed perhaps, which is short, too long or damaged perhaps."""
+    octets = bytes(SIZE)
+    for _ in range(chance.choice([0, 1, 1, 1, 2, 3])):
+        octets = slots.saved(octets, any_image(chance))
+    if chance.random() < 0.2 and octets[0] == OPEN:
+        image = changed_image(any_image(chance), chance)
+        octets = slots.saved(octets, image[:LONGEST])
+    if chance.random() < 0.2:
+        octets = chance.choice([octets[: chance.randrange(SIZE)], octets + b"x", octets[:1] + bytes(8) + octets[9:], bytes([OPEN]) + octets[1:]])
+    return octets
 
 
 def turned(octets, chance):

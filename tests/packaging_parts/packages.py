@@ -14,11 +14,22 @@ INSTALLED = [
     "share/man/man5/snmpmon-formats.5",
     "share/bash-completion/completions/snmpmon",
     "share/zsh/site-functions/_snmpmon",
-    "share/snmpmon/grafana.json",
+    "share/snmpmon/grafana/overview.json",
+    "share/snmpmon/grafana/device.json",
+    "share/snmpmon/grafana/interface.json",
+    "share/snmpmon/grafana/stations.json",
+    "share/snmpmon/prometheus/prometheus.yml",
+    "share/snmpmon/prometheus/alertmanager.yml",
+    "share/snmpmon/prometheus/snmpmon-rules.yml",
+    "share/snmpmon/prometheus/snmpmon-alerts.yml",
+    "share/snmpmon/prometheus/snmpmon-tests.yml",
+    "share/snmpmon/prometheus/targets/edge.yml",
     "share/doc/snmpmon/LICENSE",
     "share/doc/snmpmon/OPERATING.md",
     "share/doc/snmpmon/examples/station.toml",
     "lib/systemd/system/snmpmon@.service",
+    "lib/systemd/system/snmpmon-settings@.service",
+    "lib/systemd/system/snmpmon-settings@.path",
 ]
 
 
@@ -86,11 +97,13 @@ def try_install(program):
             build["commit"],
             ran("git", "-C", TOP, "rev-parse", "HEAD").strip(),
         )
-        unit = (to / "lib/systemd/system/snmpmon@.service").read_text()
-        holds(
-            "the unit runs another program than the installed one",
-            "\nExecStart=/opt/snmpmon/bin/snmpmon station " in unit,
-        )
+        for name in ("snmpmon@", "snmpmon-settings@"):
+            unit = (to / f"lib/systemd/system/{name}.service").read_text()
+            holds(
+                f"{name}.service runs another program than the installed one",
+                "\nExecStart=/opt/snmpmon/bin/snmpmon station " in unit
+                and "/usr/bin/snmpmon" not in unit,
+            )
 
 
 def try_tarball(program):

@@ -8,6 +8,7 @@ from pathlib import Path
 from packaging_parts.common import PACKAGING, TOP, holds, need, ran, same
 
 UNIT = PACKAGING / "snmpmon@.service"
+UNITS = ["snmpmon@edge.service", "snmpmon-settings@edge.service", "snmpmon-settings@edge.path"]
 
 
 def try_verify(_):
@@ -16,22 +17,25 @@ def try_verify(_):
     with tempfile.TemporaryDirectory() as folder:
         units = Path(folder) / "usr/lib/systemd/system"
         shutil.copytree("/usr/lib/systemd/system", units, symlinks=True)
-        shutil.copy(UNIT, units)
-        program = Path(folder) / "usr/bin/snmpmon"
-        program.parent.mkdir(parents=True)
-        program.touch(0o755)
-        same(
-            "what systemd-analyze verify says",
-            ran(
-                "systemd-analyze",
-                "verify",
-                "--man=no",
-                "--recursive-errors=no",
-                f"--root={folder}",
-                "snmpmon@edge.service",
-            ),
-            "",
-        )
+        for unit in UNITS:
+            shutil.copy(PACKAGING / unit.replace("edge", ""), units)
+        for name in ("usr/bin/snmpmon", "usr/bin/systemctl", "bin/sh"):
+            program = Path(folder) / name
+            program.parent.mkdir(parents=True, exist_ok=True)
+            program.touch(0o755)
+        for unit in UNITS:
+            same(
+                f"what systemd-analyze verify says of {unit}",
+                ran(
+                    "systemd-analyze",
+                    "verify",
+                    "--man=no",
+                    "--recursive-errors=no",
+                    f"--root={folder}",
+                    unit,
+                ),
+                "",
+            )
 
 
 def try_security(_):

@@ -58,6 +58,7 @@ its_name lists commands.Answer = refl
 its_name lists commands.Mib = refl
 its_name lists commands.Station = refl
 its_name lists commands.Report = refl
+its_name lists commands.Carry = refl
 its_name lists commands.SelfTest = refl
 its_name lists commands.Rehearse = refl
 
@@ -268,12 +269,13 @@ fits lists commands.Next = (tt, (tt, (tt, (tt, (tt, tt)))))
 fits lists commands.Bulk = (tt, (tt, (tt, (tt, (tt, ((λ v e. or_false _ e, by_sign), ((λ v e. or_false _ e, by_sign), tt)))))))
 fits lists commands.Walk = (tt, (tt, (tt, ((λ v e. or_false _ e, by_sign), (tt, (tt, tt))))))
 fits lists commands.Set = (tt, (tt, (tt, (tt, (tt, (tt, (tt, tt)))))))
-fits lists commands.Settings = (tt, (tt, ((λ v e. or_false _ e, by_sign), (tt, (tt, ((λ v e. or_false _ e, by_sign), ((λ v e. or_false _ e, by_sign), ((λ v e. or_false _ e, by_sign), (tt, (tt, (tt, (tt, (tt, (tt, (tt, (tt, (tt, tt)))))))))))))))))
+fits lists commands.Settings = (tt, (tt, ((λ v e. or_false _ e, by_sign), (tt, (tt, ((λ v e. or_false _ e, by_sign), ((λ v e. or_false _ e, by_sign), ((λ v e. or_false _ e, by_sign), (tt, (tt, (tt, (tt, (tt, (tt, (tt, (tt, (tt, (tt, tt))))))))))))))))))
 fits lists commands.Agent = (tt, ((λ v e. or_false _ e, by_sign), ((λ v e. or_false _ e, by_sign), tt)))
 fits lists commands.Answer = (tt, ((λ v e. or_false _ e, by_sign), ((λ v e. or_false _ e, by_itself), ((λ v e. or_false _ e, by_itself), ((λ v e. or_false _ e, by_sign), (tt, (tt, tt)))))))
 fits lists commands.Mib = (tt, (tt, tt))
-fits lists commands.Station = (tt, ((λ v e. or_false _ e, by_sign), (tt, ((λ v e. or_false _ e, by_sign), ((λ v e. or_false _ e, by_sign), ((λ v e. or_false _ e, by_sign), ((λ v e. or_false _ e, by_sign), ((λ v e. or_false _ e, by_sign), ((λ v e. or_false _ e, by_sign), (tt, (tt, (tt, (tt, (tt, (tt, (tt, (tt, (tt, (tt, tt)))))))))))))))))))
-fits lists commands.Report = (tt, (tt, (tt, (tt, (tt, (tt, (tt, tt)))))))
+fits lists commands.Station = (tt, ((λ v e. or_false _ e, by_sign), (tt, (tt, ((λ v e. or_false _ e, by_sign), ((λ v e. or_false _ e, by_sign), ((λ v e. or_false _ e, by_sign), ((λ v e. or_false _ e, by_sign), ((λ v e. or_false _ e, by_sign), ((λ v e. or_false _ e, by_sign), (tt, (tt, (tt, (tt, (tt, (tt, (tt, (tt, (tt, (tt, (tt, tt)))))))))))))))))))))
+fits lists commands.Report = (tt, (tt, (tt, (tt, (tt, (tt, (tt, (tt, (tt, tt)))))))))
+fits lists commands.Carry = (tt, (tt, (tt, (tt, (tt, tt)))))
 fits lists commands.SelfTest = tt
 fits lists commands.Rehearse = (tt, ((λ v e. or_false _ e, by_sign), tt))
 
@@ -291,6 +293,7 @@ wanted lists commands.Answer = refl
 wanted lists commands.Mib = refl
 wanted lists commands.Station = refl
 wanted lists commands.Report = refl
+wanted lists commands.Carry = refl
 wanted lists commands.SelfTest = refl
 wanted lists commands.Rehearse = refl
 
@@ -308,6 +311,7 @@ leaves lists commands.Answer = (refl, refl)
 leaves lists commands.Mib = (refl, refl)
 leaves lists commands.Station = (refl, refl)
 leaves lists commands.Report = (refl, refl)
+leaves lists commands.Carry = (refl, refl)
 leaves lists commands.SelfTest = (refl, refl)
 leaves lists commands.Rehearse = (refl, refl)
 
@@ -353,6 +357,7 @@ finds commands.Answer = refl
 finds commands.Mib = refl
 finds commands.Station = refl
 finds commands.Report = refl
+finds commands.Carry = refl
 finds commands.SelfTest = refl
 finds commands.Rehearse = refl
 

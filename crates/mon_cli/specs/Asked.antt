@@ -29,6 +29,8 @@ use Rattle.mon_cli.specs.declared.meaning.MibArgs.{MibArgs}
 use Rattle.mon_cli.specs.declared.meaning.StationArgs.{StationArgs}
 use Rattle.mon_cli.specs.declared.meaning.Scene.{Scene}
 use Rattle.mon_cli.specs.declared.meaning.SettingsArgs.{SettingsArgs}
+use Rattle.mon_cli.specs.declared.meaning.ReportArgs.{ReportArgs}
+use Rattle.mon_cli.specs.declared.meaning.CarryArgs.{CarryArgs}
 use Rattle.mon_cli.specs.declared.meaning.Timing.{Timing}
 use Rattle.mon_cli.specs.declared.meaning.Asked.{Asked}
 use Rattle.mon_cli.specs.declared.meaning.Asked.TheVariants as asked
@@ -96,6 +98,7 @@ abbrev pub IsPrinted : List Row → Printed → Type 0
 IsPrinted rows p = IsFormat (is_on (codes "columns") rows) (text_in (codes "format") rows) p.format
     × (p.chosen ≡ names_format rows)
     × IsSort (first_of (codes "sort") rows) p.sort
+    × (p.station_label ≡ is_on (codes "station-label") rows)
     × IsNamed rows p.named
 
 -- a replay's report is printed where any of these was given
@@ -148,6 +151,7 @@ IsMib rows w = (w.file.now ≡ text_in (codes "FILE") rows) × (texts w.modules.
 abbrev pub IsStation : List Row → StationArgs → Type 0
 IsStation rows w = IsSettings rows w.settings
     × (w.checks ≡ is_on (codes "check") rows)
+    × (w.follows ≡ is_on (codes "follow-settings") rows)
     × IsTiming rows w.timing
     × IsNumberOr 32 3 (one_of (codes "stale-after") rows) w.stale_after
     × IsNumberOr 32 1 (one_of (codes "alarm-after") rows) w.alarm_after
@@ -175,8 +179,24 @@ IsSurvey rows w = (w.address.now ≡ text_in (codes "ADDRESS") rows)
     × (option_map (λ o. o.now) w.thresholds ≡ first_of (codes "thresholds") rows)
     × (option_map (λ o. o.now) w.split ≡ first_of (codes "split") rows)
     × (option_map (λ o. o.now) w.append ≡ first_of (codes "append") rows)
+    × (option_map (λ o. o.now) w.update ≡ first_of (codes "update") rows)
     × (option_map (λ o. o.now) w.labels ≡ first_of (codes "labels") rows)
     × (texts w.modules.now ≡ all_in (codes "module") rows)
+
+-- the arguments of `report`
+abbrev pub IsSaved : List Row → ReportArgs → Type 0
+IsSaved rows w = (option_map (λ o. o.now) w.settings ≡ first_of (codes "SETTINGS") rows)
+    × (option_map (λ o. o.now) w.file ≡ first_of (codes "file") rows)
+    × (option_map (λ o. o.now) w.labels ≡ first_of (codes "labels") rows)
+    × IsPrinted rows w.printed
+
+-- the arguments of `carry`
+abbrev pub IsCarry : List Row → CarryArgs → Type 0
+IsCarry rows w = (w.old.now ≡ text_in (codes "OLD") rows)
+    × (w.new.now ≡ text_in (codes "NEW") rows)
+    × (texts w.dropped.now ≡ all_in (codes "drop") rows)
+    × (w.dry_run ≡ is_on (codes "dry-run") rows)
+    × (w.previous ≡ is_on (codes "previous") rows)
 
 -- what the rows of a command's arguments ask for
 abbrev pub Says : Choice → List Row → Asked → Type 0
@@ -195,8 +215,8 @@ Says commands.Agent rows (asked.Agent w) = IsAgent rows w
 Says commands.Answer rows (asked.Answer w) = IsAnswer rows w
 Says commands.Mib rows (asked.Mib w) = IsMib rows w
 Says commands.Station rows (asked.Station w) = IsStation rows w
-Says commands.Report rows (asked.Report w) =
-    IsSettings rows w.settings × (option_map (λ o. o.now) w.labels ≡ first_of (codes "labels") rows) × IsPrinted rows w.printed
+Says commands.Report rows (asked.Report w) = IsSaved rows w
+Says commands.Carry rows (asked.Carry w) = IsCarry rows w
 Says commands.SelfTest rows asked.SelfTest = ⊤
 Says commands.Rehearse rows (asked.Rehearse w) = IsSettings rows w.settings × IsNumberOr 32 1 (one_of (codes "K") rows) w.stations
 Says _ rows _ = ⊥
@@ -279,6 +299,16 @@ LacksRounds _ = ⊥
 abbrev pub LacksInterval : Asked → Type 0
 LacksInterval (asked.Station w) = IsSome w.timing.phase × (w.timing.interval ≡ 0)
 LacksInterval _ = ⊥
+
+-- a report of saved windows that is given no settings and no file, or both
+abbrev pub LacksSource : Asked → Type 0
+LacksSource (asked.Report w) = is_some w.settings ≡ is_some w.file
+LacksSource _ = ⊥
+
+-- a report of saved windows whose series get the station's number, and no settings that have the number
+abbrev pub LacksNumber : Asked → Type 0
+LacksNumber (asked.Report w) = (w.printed.station_label ≡ true) × (w.settings ≡ None)
+LacksNumber _ = ⊥
 
 -- a report whose rows are sorted and which is no table
 abbrev pub SortsNoTable : Printed → Type 0

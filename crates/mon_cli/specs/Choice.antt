@@ -17,10 +17,13 @@ word_of commands.Answer = codes "answer"
 word_of commands.Mib = codes "mib"
 word_of commands.Station = codes "station"
 word_of commands.Report = codes "report"
+word_of commands.Carry = codes "carry"
 word_of commands.SelfTest = codes "selftest"
 word_of commands.Rehearse = codes "rehearse"
 
 -- the commands, in the order of the list in help
 abbrev pub choices : List Choice
-choices = commands.Replay ∷ commands.Get ∷ commands.Next ∷ commands.Bulk ∷ commands.Walk ∷ commands.Set ∷ commands.Settings ∷ commands.Agent
-    ∷ commands.Answer ∷ commands.Mib ∷ commands.Station ∷ commands.Report ∷ commands.SelfTest ∷ commands.Rehearse ∷ []
+choices = commands.Replay ∷ commands.Get ∷ commands.Next ∷ commands.Bulk ∷ commands.Walk
+    ∷ commands.Set ∷ commands.Settings ∷ commands.Agent ∷ commands.Answer ∷ commands.Mib
+    ∷ commands.Station ∷ commands.Report ∷ commands.Carry ∷ commands.SelfTest ∷ commands.Rehearse
+    ∷ []

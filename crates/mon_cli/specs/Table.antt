@@ -41,6 +41,10 @@ lettered c id value = record { id = id; form = Short c; takes = One value; neede
 abbrev pub needed : Argument → Argument
 needed a = record a { needed = true }
 
+-- the argument may be left out
+abbrev pub or_none : Argument → Argument
+or_none a = record a { needed = false }
+
 -- the option has a letter too
 abbrev pub or_letter : ℕ → Argument → Argument
 or_letter c a = record a { form = Both c }
@@ -99,6 +103,7 @@ arguments commands.Settings = addressed
     ∷ option (codes "thresholds") Text
     ∷ option (codes "split") Text
     ∷ option (codes "append") Text
+    ∷ option (codes "update") Text
     ∷ option (codes "labels") Text
     ∷ or_letter 109 (repeated (codes "module")) ∷ []
 arguments commands.Agent = settings ∷ boots ∷ needed (option (codes "count") (up_to 1 4294967295)) ∷ []
@@ -111,6 +116,7 @@ arguments commands.Mib = word (codes "FILE") Text ∷ or_letter 109 (repeated (c
 arguments commands.Station = settings
     ∷ option (codes "rounds") (up_to 1 1000000)
     ∷ flag (codes "check")
+    ∷ flag (codes "follow-settings")
     ∷ option (codes "interval") (up_to 1 86400)
     ∷ option (codes "phase") (up_to 0 86399)
     ∷ option (codes "report-every") (up_to 1 1000000)
@@ -122,8 +128,17 @@ arguments commands.Station = settings
     ∷ option (codes "http") Text
     ∷ repeated (codes "http-host")
     ∷ option (codes "labels") Text
+    ∷ flag (codes "station-label")
     ∷ sorted
-arguments commands.Report = settings ∷ option (codes "labels") Text ∷ sorted
+arguments commands.Report = or_none settings
+    ∷ option (codes "file") Text
+    ∷ option (codes "labels") Text
+    ∷ flag (codes "station-label")
+    ∷ sorted
+arguments commands.Carry = word (codes "OLD") Text ∷ word (codes "NEW") Text
+    ∷ repeated (codes "drop")
+    ∷ flag (codes "dry-run")
+    ∷ flag (codes "previous") ∷ []
 arguments commands.SelfTest = []
 arguments commands.Rehearse = settings ∷ word (codes "K") (up_to 1 16) ∷ []
 

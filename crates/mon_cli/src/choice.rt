@@ -18,6 +18,7 @@ pub enum Choice {
     Mib,
     Station,
     Report,
+    Carry,
     SelfTest,
     Rehearse,
 }
@@ -41,6 +42,7 @@ impl Choice {
             "mib" => Some(Choice::Mib),
             "station" => Some(Choice::Station),
             "report" => Some(Choice::Report),
+            "carry" => Some(Choice::Carry),
             "selftest" => Some(Choice::SelfTest),
             "rehearse" => Some(Choice::Rehearse),
             _ => None,
@@ -64,6 +66,7 @@ impl Choice {
             Choice::Mib => "mib",
             Choice::Station => "station",
             Choice::Report => "report",
+            Choice::Carry => "carry",
             Choice::SelfTest => "selftest",
             Choice::Rehearse => "rehearse",
         }

@@ -6,12 +6,13 @@ mod lines;
 mod matches;
 mod meaning;
 mod parser;
+mod survey_lines;
 mod texts;
 
 pub use choice::Choice;
 pub use matches::read_command;
 pub use meaning::{
-    AgentArgs, AnswerArgs, Asked, BulkArgs, MibArgs, Named, Printed, RehearseArgs, ReplayArgs,
-    ReportArgs, Request, Scene, SetArgs, SettingsArgs, StationArgs, Timing, WalkArgs,
+    AgentArgs, AnswerArgs, Asked, BulkArgs, CarryArgs, MibArgs, Named, Printed, RehearseArgs,
+    ReplayArgs, ReportArgs, Request, Scene, SetArgs, SettingsArgs, StationArgs, Timing, WalkArgs,
 };
 pub use parser::{VERSION, read};

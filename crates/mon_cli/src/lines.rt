@@ -5,6 +5,7 @@ ghost use Rattle.mon_cli.specs.Line.{argument_of};
 ghost use Rattle.mon_cli.specs.Table.{arguments};
 
 use crate::choice::Choice;
+use crate::survey_lines::SURVEY;
 
 /// What a value must be.
 #[derive(Clone, Copy)]
@@ -119,7 +120,7 @@ const SORT: Line = Line {
 --columns; by name if not given",
 };
 
-const MODULE: Line = Line {
+pub(crate) const MODULE: Line = Line {
     id: "module",
     form: Form::Both('m'),
     takes: Takes::Each(Value::Text),
@@ -151,7 +152,7 @@ const NAMES: Line = Line {
 give them, in place of numbers",
 };
 
-const ADDRESS: Line = Line {
+pub(crate) const ADDRESS: Line = Line {
     id: "ADDRESS",
     form: Form::Place,
     takes: Takes::One(Value::Text),
@@ -160,7 +161,7 @@ const ADDRESS: Line = Line {
     help: "The agent's address, a.b.c.d:port",
 };
 
-const COMMUNITY: Line = Line {
+pub(crate) const COMMUNITY: Line = Line {
     id: "COMMUNITY",
     form: Form::Place,
     takes: Takes::One(Value::Text),
@@ -333,6 +334,16 @@ and what else limits the station, and starts
 nothing",
 };
 
+const FOLLOW_SETTINGS: Line = Line {
+    id: "follow-settings",
+    form: Form::Long,
+    takes: Takes::Nothing,
+    needed: false,
+    shown: "",
+    help: "Ends with status 4 after a save once SETTINGS
+changed, so that the station is started anew",
+};
+
 const INTERVAL: Line = Line {
     id: "interval",
     form: Form::Long,
@@ -451,6 +462,85 @@ ifIndex, for Prometheus' text, the page, the table,
 and a station's lines of alarms",
 };
 
+const STATION_LABEL: Line = Line {
+    id: "station-label",
+    form: Form::Long,
+    takes: Takes::Nothing,
+    needed: false,
+    shown: "",
+    help: "Gives each series of an instance the label station,
+this station's number, in Prometheus' text; for
+files of several stations in one folder of
+node_exporter",
+};
+
+const SAVED_SETTINGS: Line = Line {
+    id: "SETTINGS",
+    form: Form::Place,
+    takes: Takes::One(Value::Text),
+    needed: false,
+    shown: "SETTINGS",
+    help: "The settings of the station, a TOML file",
+};
+
+const LOST_FILE: Line = Line {
+    id: "file",
+    form: Form::Long,
+    takes: Takes::One(Value::Text),
+    needed: false,
+    shown: "FILE",
+    help: "Prints what is saved in FILE, whose settings are
+lost, without alarms; in place of SETTINGS",
+};
+
+const OLD_SETTINGS: Line = Line {
+    id: "OLD",
+    form: Form::Place,
+    takes: Takes::One(Value::Text),
+    needed: true,
+    shown: "OLD",
+    help: "The settings whose station's file is read",
+};
+
+const NEW_SETTINGS: Line = Line {
+    id: "NEW",
+    form: Form::Place,
+    takes: Takes::One(Value::Text),
+    needed: true,
+    shown: "NEW",
+    help: "The settings whose station's file is written",
+};
+
+const DROP: Line = Line {
+    id: "drop",
+    form: Form::Long,
+    takes: Takes::Each(Value::Text),
+    needed: false,
+    shown: "ENGINE",
+    help: "Carries no window of the agent of this engine id,
+in hex digits; may be repeated",
+};
+
+const DRY_RUN: Line = Line {
+    id: "dry-run",
+    form: Form::Long,
+    takes: Takes::Nothing,
+    needed: false,
+    shown: "",
+    help: "Prints what would be carried, and writes nothing",
+};
+
+const PREVIOUS: Line = Line {
+    id: "previous",
+    form: Form::Long,
+    takes: Takes::Nothing,
+    needed: false,
+    shown: "",
+    help: "OLD belongs to the file of NEW, which is replaced
+and kept as FILE.previous; where nothing is to be
+carried, nothing is done",
+};
+
 const STATIONS: Line = Line {
     id: "K",
     form: Form::Place,
@@ -458,149 +548,6 @@ const STATIONS: Line = Line {
     needed: true,
     shown: "K",
     help: "How many stations, 1 to 16",
-};
-
-const OWN_NUMBER: Line = Line {
-    id: "station",
-    form: Form::Long,
-    takes: Takes::One(Value::Number(1, 4_294_967_295)),
-    needed: false,
-    shown: "NUMBER",
-    help: "The station's number, 1 to 4294967295; 1 if not
-given",
-};
-
-const LISTEN: Line = Line {
-    id: "listen",
-    form: Form::Long,
-    takes: Takes::One(Value::Text),
-    needed: false,
-    shown: "ADDRESS",
-    help: "Where the station listens, a.b.c.d:port;
-0.0.0.0:16101 if not given",
-};
-
-const SAVED_FILE: Line = Line {
-    id: "file",
-    form: Form::Long,
-    takes: Takes::One(Value::Text),
-    needed: false,
-    shown: "FILE",
-    help: "The station's file; station.mon if not given",
-};
-
-const WINDOW: Line = Line {
-    id: "window",
-    form: Form::Long,
-    takes: Takes::One(Value::Number(1, 64)),
-    needed: false,
-    shown: "SAMPLES",
-    help: "How many samples a window keeps, 1 to 64; 32 if
-not given",
-};
-
-const WAIT_MS: Line = Line {
-    id: "wait-ms",
-    form: Form::Long,
-    takes: Takes::One(Value::Number(1, 60_000)),
-    needed: false,
-    shown: "MILLISECONDS",
-    help: "A round goes on after so many milliseconds without
-a datagram, 1 to 60000; 1000 if not given",
-};
-
-const TRIES: Line = Line {
-    id: "tries",
-    form: Form::Long,
-    takes: Takes::One(Value::Number(1, 8)),
-    needed: false,
-    shown: "TRIES",
-    help: "How often a poll is sent in all, 1 to 8; 3 if not
-given",
-};
-
-const PEER: Line = Line {
-    id: "peer",
-    form: Form::Long,
-    takes: Takes::Each(Value::Text),
-    needed: false,
-    shown: "N=ADDRESS",
-    help: "Another station that shares with this one: its
-number, and where it listens; given as often as
-wanted",
-};
-
-const ONLY: Line = Line {
-    id: "only",
-    form: Form::Long,
-    takes: Takes::One(Value::Text),
-    needed: false,
-    shown: "KINDS",
-    help: "The kinds of counters, with commas between them:
-octets, packets, errors, discards; octets,errors
-if not given",
-};
-
-const UP: Line = Line {
-    id: "up",
-    form: Form::Long,
-    takes: Takes::Nothing,
-    needed: false,
-    shown: "",
-    help: "Takes only interfaces that are up",
-};
-
-const MATCH: Line = Line {
-    id: "match",
-    form: Form::Long,
-    takes: Takes::One(Value::Text),
-    needed: false,
-    shown: "TEXT",
-    help: "Takes only interfaces whose name or alias
-contains TEXT",
-};
-
-const THRESHOLDS: Line = Line {
-    id: "thresholds",
-    form: Form::Long,
-    takes: Takes::One(Value::Text),
-    needed: false,
-    shown: "PERCENT",
-    help: "Writes an alarm on each counter of octets, raised
-at this percentage of the interface's speed: 1 to
-100, as 80 or 80%",
-};
-
-const SPLIT: Line = Line {
-    id: "split",
-    form: Form::Long,
-    takes: Takes::One(Value::Text),
-    needed: false,
-    shown: "FOLDER",
-    help: "Writes a file of settings into FOLDER for each 256
-counters, with ports and files counted up, and
-prints their names",
-};
-
-const APPEND: Line = Line {
-    id: "append",
-    form: Form::Long,
-    takes: Takes::One(Value::Text),
-    needed: false,
-    shown: "FILE",
-    help: "Prints the settings in FILE with the agent's
-targets at their end; names are shown as there",
-};
-
-const WRITTEN_LABELS: Line = Line {
-    id: "labels",
-    form: Form::Long,
-    takes: Takes::One(Value::Text),
-    needed: false,
-    shown: "FILE",
-    help: "Writes the interfaces' names and aliases to FILE,
-for Prometheus' labels; with --append they go to
-the end of FILE",
 };
 
 /// The arguments before any command.
@@ -624,36 +571,17 @@ static WALK: [Line; 6] = [ADDRESS, COMMUNITY, NAME, AT_ONCE, MODULE, NAMES];
 
 static SET: [Line; 7] = [ADDRESS, COMMUNITY, NAME, KIND, VALUE, MODULE, NAMES];
 
-static SURVEY: [Line; 17] = [
-    ADDRESS,
-    COMMUNITY,
-    OWN_NUMBER,
-    LISTEN,
-    SAVED_FILE,
-    WINDOW,
-    WAIT_MS,
-    TRIES,
-    PEER,
-    ONLY,
-    UP,
-    MATCH,
-    THRESHOLDS,
-    SPLIT,
-    APPEND,
-    WRITTEN_LABELS,
-    MODULE,
-];
-
 static AGENT: [Line; 3] = [AGENT_SETTINGS, BOOTS, COUNT];
 
 static ANSWER: [Line; 7] = [AGENT_SETTINGS, BOOTS, AT, FUSES, TIMES, MODULE, NAMES];
 
 static MIB: [Line; 2] = [FILE, MODULE];
 
-static STATION: [Line; 19] = [
+static STATION: [Line; 21] = [
     SETTINGS,
     ROUNDS,
     CHECK,
+    FOLLOW_SETTINGS,
     INTERVAL,
     PHASE,
     REPORT_EVERY,
@@ -665,6 +593,7 @@ static STATION: [Line; 19] = [
     HTTP,
     HTTP_HOST,
     LABELS,
+    STATION_LABEL,
     FORMAT,
     COLUMNS,
     SORT,
@@ -672,7 +601,19 @@ static STATION: [Line; 19] = [
     NAMES,
 ];
 
-static SAVED: [Line; 7] = [SETTINGS, LABELS, FORMAT, COLUMNS, SORT, MODULE, NAMES];
+static SAVED: [Line; 9] = [
+    SAVED_SETTINGS,
+    LOST_FILE,
+    LABELS,
+    STATION_LABEL,
+    FORMAT,
+    COLUMNS,
+    SORT,
+    MODULE,
+    NAMES,
+];
+
+static CARRY: [Line; 5] = [OLD_SETTINGS, NEW_SETTINGS, DROP, DRY_RUN, PREVIOUS];
 
 static REHEARSE: [Line; 2] = [SETTINGS, STATIONS];
 
@@ -692,6 +633,7 @@ pub(crate) fn lines_of(choice: Choice) -> &'static [Line]
         Choice::Mib => MIB.as_slice(),
         Choice::Station => STATION.as_slice(),
         Choice::Report => SAVED.as_slice(),
+        Choice::Carry => CARRY.as_slice(),
         Choice::SelfTest => &[],
         Choice::Rehearse => REHEARSE.as_slice(),
     }

@@ -3,7 +3,7 @@
 ghost use Rattle.std.specs.Prelude.{◌≡◌, ◌≢◌, IfNone, IfSome, codes, option_map};
 ghost use Rattle.clap.specs.Words.{first_of, found_of, one_of, rows_of, subcommand_rows_of};
 ghost use Rattle.clap.specs.Walk.{texts};
-ghost use Rattle.mon_cli.specs.Asked.{AreAllowed, AreThere, AsksFor, IsAgent, IsAnswer, IsFormat, IsInteger, IsNamed, IsNumber, IsNumberOr, IsPrinted, IsRequest, IsScene, IsSort, IsStation, IsSurvey, IsTiming, IsTimingIn, IsWithin, Says, all_in, is_on, names_format, text_in, wants_report};
+ghost use Rattle.mon_cli.specs.Asked.{AreAllowed, AreThere, AsksFor, IsAgent, IsAnswer, IsFormat, IsInteger, IsNamed, IsNumber, IsNumberOr, IsCarry, IsPrinted, IsRequest, IsSaved, IsScene, IsSort, IsStation, IsSurvey, IsTiming, IsTimingIn, IsWithin, Says, all_in, is_on, names_format, text_in, wants_report};
 ghost use Rattle.mon_cli.specs.Program.{IsParse};
 ghost use Rattle.mon_cli.specs.SortWord.{sort_word};
 ghost use Rattle.mon_cli.specs.Table.{arguments};
@@ -12,8 +12,8 @@ ghost use Rattle.mon_cli.specs.declared.meaning.Asked.TheVariants as asked;
 
 use crate::choice::Choice;
 use crate::meaning::{
-    AgentArgs, AnswerArgs, Asked, BulkArgs, MibArgs, Named, Printed, RehearseArgs, ReplayArgs,
-    ReportArgs, Request, Scene, SetArgs, SettingsArgs, StationArgs, Timing, WalkArgs,
+    AgentArgs, AnswerArgs, Asked, BulkArgs, CarryArgs, MibArgs, Named, Printed, RehearseArgs,
+    ReplayArgs, ReportArgs, Request, Scene, SetArgs, SettingsArgs, StationArgs, Timing, WalkArgs,
 };
 use clap::ArgMatches;
 use mon_formats::{Format, Sort};
@@ -151,6 +151,7 @@ fn read_printed<'m, 'a>(matches: &'m ArgMatches<'a>) -> Printed<'m, 'a>
         format: format(matches),
         chosen: names_format(matches),
         sort: sort(matches),
+        station_label: is_on(matches, "station-label"),
         named: read_named(matches),
     }
 }
@@ -232,6 +233,7 @@ fn station<'m, 'a>(matches: &'m ArgMatches<'a>) -> StationArgs<'m, 'a>
     StationArgs {
         settings: text(matches, "SETTINGS"),
         checks: is_on(matches, "check"),
+        follows: is_on(matches, "follow-settings"),
         timing: timing(matches),
         stale_after: number_or(matches, "stale-after", USUAL_ROUNDS),
         alarm_after: number_or(matches, "alarm-after", 1),
@@ -266,8 +268,34 @@ fn survey<'m, 'a>(matches: &'m ArgMatches<'a>) -> SettingsArgs<'m, 'a>
         thresholds: find_value(matches, "thresholds"),
         split: find_value(matches, "split"),
         append: find_value(matches, "append"),
+        update: find_value(matches, "update"),
         labels: find_value(matches, "labels"),
         modules: all(matches, "module"),
+    }
+}
+
+/// Returns the station whose saved windows are reported.
+fn saved<'m, 'a>(matches: &'m ArgMatches<'a>) -> ReportArgs<'m, 'a>
+    ensures { IsSaved (rows_of (found_of matches.now)) result }
+{
+    ReportArgs {
+        settings: find_value(matches, "SETTINGS"),
+        file: find_value(matches, "file"),
+        labels: find_value(matches, "labels"),
+        printed: read_printed(matches),
+    }
+}
+
+/// Returns the stations between which windows are carried.
+fn carry<'m, 'a>(matches: &'m ArgMatches<'a>) -> CarryArgs<'m, 'a>
+    ensures { IsCarry (rows_of (found_of matches.now)) result }
+{
+    CarryArgs {
+        old: text(matches, "OLD"),
+        new: text(matches, "NEW"),
+        dropped: all(matches, "drop"),
+        dry_run: is_on(matches, "dry-run"),
+        previous: is_on(matches, "previous"),
     }
 }
 
@@ -327,11 +355,8 @@ fn asked_by<'m, 'a>(choice: Choice, matches: &'m ArgMatches<'a>) -> Asked<'m, 'a
         Choice::Agent => Asked::Agent(agent(matches)),
         Choice::Answer => Asked::Answer(answer(matches)),
         Choice::Station => Asked::Station(station(matches)),
-        Choice::Report => Asked::Report(ReportArgs {
-            settings: text(matches, "SETTINGS"),
-            labels: find_value(matches, "labels"),
-            printed: read_printed(matches),
-        }),
+        Choice::Report => Asked::Report(saved(matches)),
+        Choice::Carry => Asked::Carry(carry(matches)),
         Choice::Rehearse => Asked::Rehearse(RehearseArgs {
             settings: text(matches, "SETTINGS"),
             stations: number_or(matches, "K", 1),

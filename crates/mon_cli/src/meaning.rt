@@ -1,7 +1,7 @@
 //! What the arguments ask for.
 
 ghost use Rattle.std.specs.Prelude.{◌↔◌, IsTrue};
-ghost use Rattle.mon_cli.specs.Asked.{LacksColumns, LacksInterval, LacksRounds, SortsNoTable};
+ghost use Rattle.mon_cli.specs.Asked.{LacksColumns, LacksInterval, LacksNumber, LacksRounds, LacksSource, SortsNoTable};
 
 use mon_formats::{Format, Sort};
 
@@ -21,6 +21,9 @@ pub struct Printed<'m, 'a> {
     pub chosen: bool,
     /// The order of the rows of a table, if the arguments say so.
     pub sort: Option<Sort>,
+    /// `true` if each series of an instance has the station's number as its label `station` in
+    /// Prometheus' text; `false` for a command without such a flag.
+    pub station_label: bool,
     pub named: Named<'m, 'a>,
 }
 
@@ -134,6 +137,9 @@ pub struct SettingsArgs<'m, 'a> {
     pub split: Option<&'a str>,
     /// The file of the settings whose targets come first, if the arguments say so.
     pub append: Option<&'a str>,
+    /// The file of the settings whose targets of the agent are brought up to date, if the arguments
+    /// say so.
+    pub update: Option<&'a str>,
     /// The file of the interfaces' texts, if one is written.
     pub labels: Option<&'a str>,
     /// The files of the modules that give names, in the order of the command line.
@@ -176,6 +182,8 @@ pub struct StationArgs<'m, 'a> {
     pub settings: &'a str,
     /// `true` if only its limits are printed.
     pub checks: bool,
+    /// `true` if it ends once its settings changed.
+    pub follows: bool,
     pub timing: Timing,
     /// From how many rounds without a new sample on Prometheus' format leaves an instance out.
     pub stale_after: u32,
@@ -198,11 +206,28 @@ pub struct StationArgs<'m, 'a> {
 /// The station whose windows `report` prints.
 #[derive(Clone, Copy)]
 pub struct ReportArgs<'m, 'a> {
-    /// The file of its settings.
-    pub settings: &'a str,
+    /// The file of its settings, if the arguments say so.
+    pub settings: Option<&'a str>,
+    /// Its file, whose settings are lost, if the arguments say so.
+    pub file: Option<&'a str>,
     /// The file of labels of interfaces, if the arguments say so.
     pub labels: Option<&'a str>,
     pub printed: Printed<'m, 'a>,
+}
+
+/// The stations between which `carry` carries windows.
+#[derive(Clone, Copy)]
+pub struct CarryArgs<'m, 'a> {
+    /// The file of the old settings.
+    pub old: &'a str,
+    /// The file of the new settings.
+    pub new: &'a str,
+    /// The engine ids whose windows are not carried, each in hex digits.
+    pub dropped: &'m [&'a str],
+    /// `true` if nothing is written.
+    pub dry_run: bool,
+    /// `true` if the new station's file is replaced, to which the old settings belong.
+    pub previous: bool,
 }
 
 /// The stations that `rehearse` makes.
@@ -231,6 +256,7 @@ pub enum Asked<'m, 'a> {
     Mib(MibArgs<'m, 'a>),
     Station(StationArgs<'m, 'a>),
     Report(ReportArgs<'m, 'a>),
+    Carry(CarryArgs<'m, 'a>),
     SelfTest,
     Rehearse(RehearseArgs<'a>),
 }
@@ -252,6 +278,27 @@ impl Asked<'_, '_> {
     {
         match self {
             Asked::Station(words) => words.timing.phase.is_some() && words.timing.interval == 0,
+            _ => false,
+        }
+    }
+
+    /// Returns `true` if `report` is given neither settings nor a file, or both.
+    pub fn lacks_source(&self) -> bool
+        ensures { IsTrue result ↔ LacksSource self.now }
+    {
+        match self {
+            Asked::Report(words) => words.settings.is_some() == words.file.is_some(),
+            _ => false,
+        }
+    }
+
+    /// Returns `true` if `report` must label series by the station's number, and is given no settings,
+    /// which have the number.
+    pub fn lacks_number(&self) -> bool
+        ensures { IsTrue result ↔ LacksNumber self.now }
+    {
+        match self {
+            Asked::Report(words) => words.printed.station_label && words.settings.is_none(),
             _ => false,
         }
     }

@@ -129,7 +129,7 @@ fn one<'a>(alloc: Global, lists: Lists<'a>, choice: Choice) -> Result<Command<'a
 }
 
 /// The commands, in the order of the list in help.
-const CHOICES: [Choice; 14] = [
+const CHOICES: [Choice; 15] = [
     Choice::Replay,
     Choice::Get,
     Choice::Next,
@@ -142,6 +142,7 @@ const CHOICES: [Choice; 14] = [
     Choice::Mib,
     Choice::Station,
     Choice::Report,
+    Choice::Carry,
     Choice::SelfTest,
     Choice::Rehearse,
 ];

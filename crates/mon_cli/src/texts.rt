@@ -142,9 +142,18 @@ targets of this agent and their alarms; options of the station are FILE's own.
 An engine id that FILE has ends it with 10 SameEngine, more than 64 targets in
 all with 11 TooManyTargets.
 
+With --update the settings in FILE are brought up to date with the agent. The
+objects and alarms of an interface that is gone are taken out, an interface whose
+index changed is polled at the new index, and new interfaces get targets, and
+alarms with --thresholds, at the end. All else stays, octet by octet, also
+windows, thresholds and labels that were set by hand. Each change is a line on
+standard error: `+ gi0/7` is new, `- gi0/3` is gone, and `gi0/2: index 2 is 5 now`
+got another number. `carry` then takes the windows over.
+
 Examples: snmpmon settings 127.0.0.1:16100 public > station.toml
           snmpmon settings 127.0.0.1:16100 public --up --only octets,packets --thresholds 80% > station.toml
-          snmpmon settings 127.0.0.1:16110 public --append station.toml > both.toml";
+          snmpmon settings 127.0.0.1:16110 public --append station.toml > both.toml
+          snmpmon settings 127.0.0.1:16100 public --update station.toml > new.toml";
 
 const AGENT_MORE: &str =
     "Reads SETTINGS, a TOML file (examples/agent.toml explains each key), listens at
@@ -212,7 +221,8 @@ written and a last save that failed end the command with status 1 once all
 rounds are done. A signal ends it at once, without a save: with --save-every a
 station without a peer then lacks what it took since the last one. --check
 prints how long a round may take and the limits of these settings, and starts
-nothing.
+nothing. When SETTINGS changes while the station runs, a line says so; with
+--follow-settings it then ends with status 4 after a save.
 
 Standard error says where it listens and by which incarnation, which alarms are
 raised at the start, which are raised or cleared later, and for each round which
@@ -236,7 +246,9 @@ Examples: snmpmon station examples/station.toml --rounds 6 --interval 10
 const REPORT_FILE_MORE: &str =
     "Reads SETTINGS as `station` does, and prints for each instance a line of what is
 saved in the station's file, as `replay --report` does, with the alarms at its
-end. The station is not started: its incarnation stays.
+end. The station is not started: its incarnation stays. --file prints a file
+whose settings are lost by what it holds itself, without alarms. --station-label
+needs SETTINGS, which have the station's number.
 
 --format json prints an object, --format prometheus the text that Prometheus
 reads, --format html a page for a browser, --columns a table for people, whose
@@ -248,7 +260,31 @@ page and the table have ifName and ifAlias of each interface that FILE lists.
 Examples: snmpmon report examples/station.toml
           snmpmon report examples/station.toml --columns --sort rate
           snmpmon report examples/station.toml --columns --names -m examples/served.mib
-          snmpmon report examples/station.toml --format html > page.html";
+          snmpmon report examples/station.toml --format html > page.html
+          snmpmon report --file station.mon";
+
+const CARRY_MORE: &str =
+    "Reads the settings OLD and NEW as `station` does, and the file of OLD, which is
+only read. Writes the file of NEW, which must not be there, or hold no save: for
+each instance that both watch (engine id and name) what NEW keeps of its window,
+and an empty window for each other one. The incarnation is one more. If it is
+killed, the file of NEW holds nothing or all of it. It prints what was carried:
+
+  carried 240 of 256 instances, 15,360 samples; 16 new, 4 gone
+
+--drop leaves out an agent, say one that was restarted and did not raise its
+snmpEngineBoots. With --dry-run nothing is written.
+
+With --previous OLD and NEW may name one file, and OLD are the settings that it
+belongs to. It is replaced by what is carried, and kept as FILE.previous. Nothing
+is done if OLD or FILE is not there, or if both watch the same.
+
+A file of NEW that holds a save ends it with a fault, and so does a file of OLD
+that is damaged or of other instances; both files stay as they were.
+
+Examples: snmpmon carry old.toml new.toml --dry-run
+          snmpmon carry old.toml new.toml
+          snmpmon carry --previous station.toml.previous station.toml";
 
 const SELFTEST_MORE: &str =
     "Polls an agent in memory three times, saves what was taken, finds it again, and
@@ -298,6 +334,7 @@ pub(crate) fn about<'a>(choice: Choice) -> &'a str {
         Choice::Mib => "Prints the names that a module defines",
         Choice::Station => "Polls agents, and keeps, shares and saves what they answer",
         Choice::Report => "Prints the report of what a station has saved",
+        Choice::Carry => "Carries saved windows over to changed settings",
         Choice::SelfTest => "Tries a station in memory on an agent in memory",
         Choice::Rehearse => "Makes the steps of a script with stations in memory",
     }
@@ -318,6 +355,7 @@ pub(crate) fn more<'a>(choice: Choice) -> &'a str {
         Choice::Mib => MIB_MORE,
         Choice::Station => STATION_MORE,
         Choice::Report => REPORT_FILE_MORE,
+        Choice::Carry => CARRY_MORE,
         Choice::SelfTest => SELFTEST_MORE,
         Choice::Rehearse => REHEARSE_MORE,
     }

@@ -28,6 +28,7 @@ fn plain() -> Printed<'static, 'static>
         format: Format::Text,
         chosen: false,
         sort: None,
+        station_label: false,
         named,
     }
 }

@@ -4,7 +4,7 @@ use Rattle.std.specs.Global.{Global, Vec}
 use Rattle.std.specs.Prelude.{Option, Ok, Err, String}
 use Rattle.mon_cli.specs.declared.meaning.Printed.{Printed}
 use Rattle.mon_console.specs.Files.{IsText}
-use Rattle.mon_console.specs.Labelled.{AreLabels, AreLabelled, IsLabelled}
+use Rattle.mon_console.specs.Labelled.{AreLabels, AreLabelled, IsLabelled, numbered_by}
 use Rattle.mon_console.specs.Naming.{AreJoinedFromAll, AreNames, others}
 use Rattle.mon_console.specs.Printing.{IsPrinting, IsPrintingBy}
 use Rattle.mon_console.specs.Settings.{AreBoth, Both, AreModuleFiles, AreSettings, IsStationBy, IsStationFile, IsStationText}
@@ -86,20 +86,20 @@ module _ (printed : Printed) where
 
   -- what follows the settings where instances get labels
   abbrev pub Labelled : Option (List ℕ) → StationSettings × Printing → List AtHost → Both → Type 0
-  Labelled labels both = Then (AreLabels labels) (λ all. Quietly (AreLabelled both.0 both.1 all))
+  Labelled labels both = Then (AreLabels labels) (λ all. Quietly (AreLabelled both.0 (numbered_by printed both) all))
 
   pub no_labels : (path : List ℕ) (labels : Option (List ℕ)) (both : StationSettings × Printing) (failure : Failure) (before read after : Option (List AtHost))
       → GoesOnBy (λ log. IsStationFile path printed log (Ok both)) before read → GoesOnBy (λ log. AreLabels labels log (Err failure)) read after
       → GoesOnBy (λ log. IsLabelled path labels printed log (Err failure)) before after
   no_labels path labels both failure before read after first second =
       then_follows (IsStationFile path printed) (Labelled labels) (Ok both) (Err failure) before read after first
-      (then_fails (AreLabels labels) (λ all. Quietly (AreLabelled both.0 both.1 all)) failure read after second)
+      (then_fails (AreLabels labels) (λ all. Quietly (AreLabelled both.0 (numbered_by printed both) all)) failure read after second)
 
   pub after_labels : (path : List ℕ) (labels : Option (List ℕ)) (both : StationSettings × Printing) (all : Labels) (result : Both) (before read after : Option (List AtHost))
       → GoesOnBy (λ log. IsStationFile path printed log (Ok both)) before read → GoesOnBy (λ log. AreLabels labels log (Ok all)) read after
-      → AreLabelled both.0 both.1 all result
+      → AreLabelled both.0 (numbered_by printed both) all result
       → GoesOnBy (λ log. IsLabelled path labels printed log result) before after
   after_labels path labels both all result before read after first second is =
       then_follows (IsStationFile path printed) (Labelled labels) (Ok both) result before read after first
-      (then_follows (AreLabels labels) (λ all. Quietly (AreLabelled both.0 both.1 all)) (Ok all) result read after after second
-      (quietly (AreLabelled both.0 both.1 all) result after is))
+      (then_follows (AreLabels labels) (λ all. Quietly (AreLabelled both.0 (numbered_by printed both) all)) (Ok all) result read after after second
+      (quietly (AreLabelled both.0 (numbered_by printed both) all) result after is))

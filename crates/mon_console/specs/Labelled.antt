@@ -1,10 +1,10 @@
 -- The settings of a station, and the labels of its instances.
-use Rattle.std.specs.Prelude.{◌≡◌, ℕ, List, [], false, map, Option, Some, None, Result, Ok, Err, String, codes, option_map, string_bytes}
+use Rattle.std.specs.Prelude.{◌≡◌, ℕ, Bool, List, [], true, false, map, Option, Some, None, Result, Ok, Err, String, codes, option_map, string_bytes}
 use Rattle.std.specs.Global.{Global}
 use Rattle.mon_cli.specs.declared.meaning.Printed.{Printed}
 use Rattle.mon_console.specs.Failure.{IsMemory}
 use Rattle.mon_console.specs.Files.{IsText}
-use Rattle.mon_console.specs.Printing.{with_labels}
+use Rattle.mon_console.specs.Printing.{numbered, with_labels}
 use Rattle.mon_console.specs.Settings.{Both, IsStationFile}
 use Rattle.mon_console.specs.declared.failure.Failure.{Failure}
 use Rattle.mon_console.specs.declared.printing.Printing.{Printing}
@@ -61,8 +61,19 @@ AreLabelled settings printing labels (Ok both) = (both.0 ≡ settings)
     × AreLabelsOf settings labels (map given both.1.labels.items)
 AreLabelled settings printing labels (Err failure) = IsMemory failure
 
--- The settings in a file, and how reports are printed: with labels. After the files of the settings
--- that of the labels of interfaces is read, if one is given.
+-- a station's number, if series are to have it as a label
+abbrev pub number_if : (is_label : Bool) → ℕ → Option ℕ
+number_if true number = Some number
+number_if false number = None
+
+-- how reports of these settings are printed: in Prometheus' text each series of an instance has the
+-- station's number as a label just if the arguments ask for it
+abbrev pub numbered_by : Printed → StationSettings × Printing → Printing
+numbered_by printed both = numbered (number_if printed.station_label both.0.core.station) both.1
+
+-- The settings in a file, and how reports are printed: with labels, of which the arguments ask for the
+-- station's number. After the files of the settings that of the labels of interfaces is read, if one is
+-- given.
 abbrev pub IsLabelled : List ℕ → Option (List ℕ) → Printed → List AtHost → Both → Type 0
 IsLabelled path labels printed = Then (IsStationFile path printed) (λ both.
-    Then (AreLabels labels) (λ all. Quietly (AreLabelled both.0 both.1 all)))
+    Then (AreLabels labels) (λ all. Quietly (AreLabelled both.0 (numbered_by printed both) all)))

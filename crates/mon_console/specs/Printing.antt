@@ -21,7 +21,7 @@ shown_names false names = None
 
 -- a table with rows in this order, or by name if none is given
 abbrev pub presented : Option Sort → Presentation
-presented sort = record { label = None; file_age = None; sort = unwrap_or sort Name }
+presented sort = record { label = None; file_age = None; sort = unwrap_or sort Name; station = None }
 
 -- reports in the format of the arguments, without labels
 abbrev pub IsPrintingBy : Printed → List Definition → Result Printing Failure → Type 0
@@ -42,6 +42,11 @@ IsPrinting printed names files = Then
 -- reports with these labels of the instances, and with that of the station
 abbrev pub with_labels : Vec InstanceLabels → Option (String Global) → Printing → Printing
 with_labels labels label p = record p { labels = labels; presentation = record p.presentation { label = label } }
+
+-- reports in which each series of an instance has this number of a station as a label in Prometheus'
+-- text, if there is one
+abbrev pub numbered : Option ℕ → Printing → Printing
+numbered number p = record p { presentation = record p.presentation { station = number } }
 
 -- reports of a file whose last change is this old in seconds, if that is known
 abbrev pub aged : Option ℕ → Printing → Printing

@@ -1,7 +1,7 @@
 //! Labels of the instances of a station, for reports and lines, and its own.
 
 ghost use Rattle.std.specs.Prelude.{◌≡◌, IfOk, Some, map, option_map, string_bytes};
-ghost use Rattle.mon_console.specs.Labelled.{AreLabelled, AreLabels, AreLabelsOf, AreSaid, IsLabelled, IsOfLabels};
+ghost use Rattle.mon_console.specs.Labelled.{AreLabelled, AreLabels, AreLabelsOf, AreSaid, IsLabelled, IsOfLabels, number_if};
 ghost use Rattle.mon_host.specs.Log.{GoesOnBy};
 ghost use Rattle.mon_labels.specs.Given.{given};
 ghost use Rattle.mon_udp.specs.Addr.{addr_text};
@@ -22,7 +22,8 @@ use std::alloc::{AllocError, Global};
 
 /// Returns what the file of a station's settings says, and how its reports are printed: with the
 /// station's label, with the addresses and the labels of the targets as labels, and with those of
-/// interfaces that are in the file of labels, if one is given.
+/// interfaces that are in the file of labels, if one is given. If the arguments ask for it, series have
+/// the station's number as a label.
 pub fn read_labelled_station<H: Host>(
     alloc: Global,
     host: &mut H,
@@ -35,7 +36,15 @@ pub fn read_labelled_station<H: Host>(
 {
     let (settings, printing) = read_station_file(alloc, host, path, printed)?;
     let labels = labels_in(alloc, host, labels)?;
-    labelled(alloc, settings, printing, &labels)
+    let number = number_if(printed.station_label, settings.core.station());
+    labelled(alloc, settings, printing.with_station(number), &labels)
+}
+
+/// Returns a station's number, if series are to have it as a label.
+fn number_if(is_label: bool, number: u32) -> Option<u32>
+    ensures { result ≡ number_if is_label number }
+{
+    if is_label { Some(number) } else { None }
 }
 
 /// Adds labels to how reports are printed: that of the station, the addresses and the labels of the
@@ -117,7 +126,14 @@ fn address_text(alloc: Global, target: &Target) -> Result<String, AllocError>
 }
 
 /// Reads the labels in a file, if one is given.
-fn labels_in<H: Host>(alloc: Global, host: &mut H, path: Option<&str>) -> Result<Labels, Failure>
+///
+/// # Errors
+/// The file could not be read, its octets are no text, or the text says no labels.
+pub fn labels_in<H: Host>(
+    alloc: Global,
+    host: &mut H,
+    path: Option<&str>,
+) -> Result<Labels, Failure>
     ensures { GoesOnBy (λ log. AreLabels (option_map (λ p. p.now) path.entry) log result)
         (H.log host.old) (H.log host.new) }
 {

@@ -20,7 +20,7 @@ pub use files::{
     print, publish_file, read_input, read_input_text, read_part, read_text, replace_file,
     write_file,
 };
-pub use labels::read_labelled_station;
+pub use labels::{labels_in, read_labelled_station};
 pub use mon_faults::Fault;
 pub use naming::{
     KnownNames, asked_for, known_names, known_names_in, name_failure, names_of, no_module,

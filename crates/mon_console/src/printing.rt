@@ -2,7 +2,7 @@
 
 ghost use Rattle.std.specs.Prelude.{◌≡◌, ◌↔◌, [], IfOk, IsTrue, None, is_some, option_map, string_bytes};
 ghost use Rattle.mon_board.specs.Board.{window_of};
-ghost use Rattle.mon_console.specs.Printing.{IsPrinting, aged, presented, shown_names, with_labels};
+ghost use Rattle.mon_console.specs.Printing.{IsPrinting, aged, numbered, presented, shown_names, with_labels};
 ghost use Rattle.mon_console.specs.Shown.{shown_by};
 ghost use Rattle.mon_host.specs.Log.{GoesOnBy};
 ghost use Rattle.mon_formats.specs.Changes.{change_line, instance_text};
@@ -75,7 +75,7 @@ impl Printing {
     }
 
     /// How reports are printed with these labels of the instances, and with that of the station.
-    pub(crate) fn with_labels(self, labels: Vec<InstanceLabels>, label: Option<String>) -> Self
+    pub fn with_labels(self, labels: Vec<InstanceLabels>, label: Option<String>) -> Self
         ensures { result ≡ with_labels labels label self }
     {
         let Printing {
@@ -101,6 +101,16 @@ impl Printing {
     {
         let mut printing = self;
         printing.presentation.file_age = file_age;
+        printing
+    }
+
+    /// How reports are printed in which each series of an instance has this number of a station as its
+    /// label `station` in Prometheus' text, if there is one.
+    pub(crate) fn with_station(self, station: Option<u32>) -> Self
+        ensures { result ≡ numbered station self }
+    {
+        let mut printing = self;
+        printing.presentation.station = station;
         printing
     }
 
@@ -211,6 +221,7 @@ fn presented(sort: Option<Sort>) -> Presentation
         label: None,
         file_age: None,
         sort: sort.unwrap_or(Sort::Name),
+        station: None,
     }
 }
 

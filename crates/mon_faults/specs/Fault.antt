@@ -17,7 +17,7 @@ use Rattle.mon_station.specs.declared.fault.StationFault.{StationFault}
 use Rattle.mon_station.specs.declared.fault.StationFault.TheVariants as of_station
 use Rattle.mon_station.specs.Fault as station
 use Rattle.mon_faults.specs.declared.fault.Fault.{Fault}
-use Rattle.mon_faults.specs.declared.fault.Fault.TheVariants.{App, Names, Text, Settings, Device, Keeper, Image, Station, Other}
+use Rattle.mon_faults.specs.declared.fault.Fault.TheVariants.{App, Names, Text, Settings, Device, Keeper, Image, Station, SettingsChanged, Other}
 
 -- the innermost of nested faults: the crate whose it is, and its number and name there
 abbrev pub innermost_of : Fault → station.Told
@@ -29,6 +29,8 @@ innermost_of (Device f) = record { part = codes "mon_mib"; number = device.numbe
 innermost_of (Keeper f) = record { part = codes "mon_disk"; number = disk.number_of f; name = disk.name_of f }
 innermost_of (Image f) = record { part = codes "mon_saved"; number = saved.number_of f; name = saved.name_of f }
 innermost_of (Station f) = station.innermost_of f
+innermost_of SettingsChanged =
+    record { part = codes "mon_station_commands"; number = 2; name = codes "SettingsChanged" }
 innermost_of (Other i) = record { part = i.part.now; number = i.number; name = i.name.now }
 
 -- a station's fault as a command's: a fault of its file is the file's own
@@ -77,4 +79,5 @@ lasts (Device f) = false
 lasts (Keeper f) = keeper_lasts f
 lasts (Image f) = is_no_memory (saved.number_of f)
 lasts (Station f) = station_lasts f
+lasts SettingsChanged = false
 lasts (Other i) = is_no_memory i.number

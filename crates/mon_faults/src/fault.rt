@@ -39,6 +39,9 @@ pub enum Fault {
     /// Of a station.
     #[error("{0}")]
     Station(StationFault),
+    /// Of a station that ends since its settings changed, to be started with them.
+    #[error("the settings changed: the station is to be started with them")]
+    SettingsChanged,
     /// Of a crate that few commands call: its line.
     #[error("{0}")]
     Other(Innermost),
@@ -60,6 +63,7 @@ impl Fault {
             Fault::Keeper(fault) => Innermost::new("mon_disk", fault.number(), fault.name()),
             Fault::Image(fault) => Innermost::new("mon_saved", fault.number(), fault.name()),
             Fault::Station(fault) => fault.innermost(),
+            Fault::SettingsChanged => Innermost::new("mon_station_commands", 2, "SettingsChanged"),
             Fault::Other(innermost) => innermost,
         }
     }
@@ -81,7 +85,7 @@ impl Fault {
             Fault::Image(fault) => is_no_memory(fault.number()),
             Fault::Station(fault) => matches!(fault, StationFault::NoMoreIncarnations),
             Fault::Other(innermost) => is_no_memory(innermost.number),
-            Fault::Device(_) => false,
+            Fault::Device(_) | Fault::SettingsChanged => false,
         }
     }
 }

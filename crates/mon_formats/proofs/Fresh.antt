@@ -42,29 +42,29 @@ pub one_stale : (limit : ℕ) (ages : List ℕ) (es : List Labelled) (i : ℕ) �
 one_stale limit ages es i lt h =
     let on : suc i ≡ i + 1 = omega arith in step_stale limit ages es i lt h ∙ (λ k. fresh limit (drop (on k) ages) (drop (on k) es))
 
-no_lines : (shown : List ℕ → List ℕ) (ages : List ℕ) → age_lines shown ages [] ≡ []
-no_lines shown [] = refl
-no_lines shown (a ∷ ages) = refl
+no_lines : (labels : Labelled → List ℕ) (ages : List ℕ) → age_lines labels ages [] ≡ []
+no_lines labels [] = refl
+no_lines labels (a ∷ ages) = refl
 
 -- from the end on there are no ages
-pub ages_end : (shown : List ℕ → List ℕ) (ages : List ℕ) (es : List Labelled) (i : ℕ) → min (length es) (length ages) ≤ i
-    → age_lines shown (drop i ages) (drop i es) ≡ []
-ages_end shown [] es i past = λ k. age_lines shown (drop_all i [] (omega arith) k) (drop i es)
-ages_end shown (a ∷ ages) [] i past = (λ k. age_lines shown (drop i (a ∷ ages)) (drop_all i [] (omega arith) k)) ∙ no_lines shown (drop i (a ∷ ages))
-ages_end shown (a ∷ ages) (e ∷ es) zero past = absurd (omega (arith, past))
-ages_end shown (a ∷ ages) (e ∷ es) (suc i) past = ages_end shown ages es i (omega (arith, past))
+pub ages_end : (labels : Labelled → List ℕ) (ages : List ℕ) (es : List Labelled) (i : ℕ) → min (length es) (length ages) ≤ i
+    → age_lines labels (drop i ages) (drop i es) ≡ []
+ages_end labels [] es i past = λ k. age_lines labels (drop_all i [] (omega arith) k) (drop i es)
+ages_end labels (a ∷ ages) [] i past = (λ k. age_lines labels (drop i (a ∷ ages)) (drop_all i [] (omega arith) k)) ∙ no_lines labels (drop i (a ∷ ages))
+ages_end labels (a ∷ ages) (e ∷ es) zero past = absurd (omega (arith, past))
+ages_end labels (a ∷ ages) (e ∷ es) (suc i) past = ages_end labels ages es i (omega (arith, past))
 
-next_age : (shown : List ℕ → List ℕ) (ages : List ℕ) (es : List Labelled) (i : ℕ) (e : Labelled) → i < length es → i < length ages
-    → age_lines shown (drop i ages) (drop i es) ≡ age_line shown (get_or es i e) (get_or ages i 0) ++ age_lines shown (drop (suc i) ages) (drop (suc i) es)
-next_age shown [] es i e lt inside = absurd (omega arith)
-next_age shown (a ∷ ages) [] i e lt inside = absurd (omega arith)
-next_age shown (a ∷ ages) (x ∷ es) zero e lt inside = refl
-next_age shown (a ∷ ages) (x ∷ es) (suc i) e lt inside = next_age shown ages es i e (omega arith) (omega arith)
+next_age : (labels : Labelled → List ℕ) (ages : List ℕ) (es : List Labelled) (i : ℕ) (e : Labelled) → i < length es → i < length ages
+    → age_lines labels (drop i ages) (drop i es) ≡ age_line labels (get_or es i e) (get_or ages i 0) ++ age_lines labels (drop (suc i) ages) (drop (suc i) es)
+next_age labels [] es i e lt inside = absurd (omega arith)
+next_age labels (a ∷ ages) [] i e lt inside = absurd (omega arith)
+next_age labels (a ∷ ages) (x ∷ es) zero e lt inside = refl
+next_age labels (a ∷ ages) (x ∷ es) (suc i) e lt inside = next_age labels ages es i e (omega arith) (omega arith)
 
 -- an instance's age comes before the others'
-pub one_age : (shown : List ℕ → List ℕ) (ages : List ℕ) (es : List Labelled) (i : ℕ) (e : Labelled) → i < length es → i < length ages
-    → age_lines shown (drop i ages) (drop i es) ≡ age_line shown (get_or es i e) (get_or ages i 0) ++ age_lines shown (drop (i + 1) ages) (drop (i + 1) es)
-one_age shown ages es i e lt inside =
+pub one_age : (labels : Labelled → List ℕ) (ages : List ℕ) (es : List Labelled) (i : ℕ) (e : Labelled) → i < length es → i < length ages
+    → age_lines labels (drop i ages) (drop i es) ≡ age_line labels (get_or es i e) (get_or ages i 0) ++ age_lines labels (drop (i + 1) ages) (drop (i + 1) es)
+one_age labels ages es i e lt inside =
     let on : suc i ≡ i + 1 = omega arith in
-    next_age shown ages es i e lt inside
-    ∙ (λ k. age_line shown (get_or es i e) (get_or ages i 0) ++ age_lines shown (drop (on k) ages) (drop (on k) es))
+    next_age labels ages es i e lt inside
+    ∙ (λ k. age_line labels (get_or es i e) (get_or ages i 0) ++ age_lines labels (drop (on k) ages) (drop (on k) es))

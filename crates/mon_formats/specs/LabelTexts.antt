@@ -2,15 +2,15 @@
 use Rattle.std.specs.Prelude.{◌≡◌, ℕ, List, map}
 use Rattle.std.specs.Global.{Vec}
 use Rattle.mon_report.specs.Report.{Entry}
-use Rattle.mon_page.specs.Labelled.{Labelled}
-use Rattle.mon_formats.specs.Prometheus.{instance_labels}
+use Rattle.mon_page.specs.declared.extras.InstanceLabels.{InstanceLabels}
+use Rattle.mon_page.specs.Labelled.{Labelled, labelled}
 
--- the instances are these entries, and these are the texts of their labels
-pub record HaveLabels (shown : List ℕ → List ℕ) (all : List Labelled) (entries : List Entry)
+-- the instances are these entries with what is given for them, and these are the texts of the labels that a function has for them
+pub record HaveLabels (labels : Labelled → List ℕ) (all : List Labelled) (entries : List Entry) (given : List InstanceLabels)
     (texts : List (Vec ℕ)) : Type 0 where
-  pub are : map (λ i. i.0) all ≡ entries
-  pub texts_are : map (instance_labels shown) all ≡ map (λ t. t.items) texts
+  pub are : all ≡ labelled given entries
+  pub texts_are : map labels all ≡ map (λ t. t.items) texts
 
--- the labels of these instances, by texts that were made
-abbrev pub AreLabelTexts : (List ℕ → List ℕ) → List Labelled → List Entry → Vec (Vec ℕ) → Type 0
-AreLabelTexts shown all entries texts = HaveLabels shown all entries texts.items
+-- the labels of these entries with what is given for them, by texts that were made
+abbrev pub AreLabelTexts : (labels : Labelled → List ℕ) → List Entry → (given : List InstanceLabels) → Vec (Vec ℕ) → Type 0
+AreLabelTexts labels entries given texts = HaveLabels labels (labelled given entries) entries given texts.items

@@ -1,6 +1,7 @@
 -- A report as Prometheus reads it: the text exposition format, version 0.0.4. Each metric has a line `# HELP`, a line `# TYPE`, and then
--- its lines together.
-use Rattle.std.specs.Prelude.{ℕ, ℤ, Bool, true, false, List, [], ◌∷◌, ◌++◌, Option, Some, None, codes, decimal, length, ◌==◌, if◌then◌else◌, slice_index, String, string_bytes}
+-- its lines together. What a running station says of itself has its number as the label `station`. The series of instances have that
+-- label just if a number is given for it: the reports of several stations on the same devices then have no series in common.
+use Rattle.std.specs.Prelude.{ℕ, ℤ, Bool, true, false, not, List, [], ◌∷◌, ◌++◌, Option, Some, None, codes, decimal, length, ◌==◌, if◌then◌else◌, slice_index, String, string_bytes}
 use Rattle.std.specs.Char.{is_ascii_digit}
 use Rattle.std.specs.Fmt.{signed_decimal}
 use Rattle.std.specs.List.{after_first, before_first, flat_map}
@@ -18,11 +19,14 @@ use Rattle.mon_page.specs.Freshness.{fresh}
 use Rattle.mon_page.specs.Labelled.{Labelled}
 use Rattle.mon_page.specs.declared.extras.InstanceLabels.{InstanceLabels}
 use Rattle.mon_page.specs.declared.figures.Figures.{Figures}
+use Rattle.mon_page.specs.declared.figures.PeerFigures.{PeerFigures}
 use Rattle.mon_page.specs.declared.figures.TargetFigures.{TargetFigures}
 use Rattle.mon_formats.specs.declared.prometheus.metric.Metric.{Metric}
-use Rattle.mon_formats.specs.declared.prometheus.metric.Metric.TheVariants.{Counted, Number, Samples, Rate, Alarm}
+use Rattle.mon_formats.specs.declared.prometheus.metric.Metric.TheVariants.{Counted, Number, Samples, Rate, Alarm, Speed}
+use Rattle.mon_formats.specs.declared.prometheus.peer.PeerMetric.{PeerMetric}
+use Rattle.mon_formats.specs.declared.prometheus.peer.PeerMetric.TheVariants.{PeerUp, LastHeard}
 use Rattle.mon_formats.specs.declared.prometheus.station.StationMetric.{StationMetric}
-use Rattle.mon_formats.specs.declared.prometheus.station.StationMetric.TheVariants.{Station, Incarnation, Taken, GivenUp, Debt, FailedSaves, Strangers, Duration, LastRound, Age}
+use Rattle.mon_formats.specs.declared.prometheus.station.StationMetric.TheVariants.{Info, Incarnation, Taken, GivenUp, Debt, FailedSaves, Strangers, Duration, Interval, Overruns, LastRound, Age}
 use Rattle.mon_formats.specs.declared.prometheus.target.TargetMetric.{TargetMetric}
 use Rattle.mon_formats.specs.declared.prometheus.target.TargetMetric.TheVariants.{Up, Rounds, Seconds, PollsGivenUp, Refusal}
 use Rattle.mon_page.specs.Cells.{newest_of, value_of, rate_of}
@@ -65,14 +69,16 @@ name_of Number = codes "snmpmon_number"
 name_of Samples = codes "snmpmon_samples"
 name_of Rate = codes "snmpmon_rate"
 name_of Alarm = codes "snmpmon_alarm"
+name_of Speed = codes "snmpmon_interface_speed_bits"
 
--- what it is, in a sentence
+-- what it is, and what to do with it
 abbrev pub help_of : Metric → List ℕ
-help_of Counted = codes "Newest value of a counter."
-help_of Number = codes "Newest value of what may fall: an integer, a gauge or a time."
-help_of Samples = codes "Samples that the window of an instance holds."
-help_of Rate = codes "What a counter counted a second over its window."
-help_of Alarm = codes "1 where the alarm of a rule is raised. Thresholds are in thousandths."
+help_of Counted = codes "Newest value of a counter. Take rate() of it for other spans than the window of snmpmon_rate."
+help_of Number = codes "Newest value of what may fall: an integer, a gauge or a time. Compare it as it is, without rate()."
+help_of Samples = codes "Samples that the window of an instance holds. A rate needs at least two."
+help_of Rate = codes "What a counter counted a second over its window. Multiply a rate of octets by 8 for bits a second."
+help_of Alarm = codes "1 where the alarm of a rule is raised: alert on it. Thresholds are in thousandths."
+help_of Speed = codes "Speed of an interface in bits a second. Divide 8 * snmpmon_rate of octets by it for the part in use."
 
 -- its type
 abbrev pub type_of : Metric → List ℕ
@@ -81,6 +87,7 @@ type_of Number = codes "gauge"
 type_of Samples = codes "gauge"
 type_of Rate = codes "gauge"
 type_of Alarm = codes "gauge"
+type_of Speed = codes "gauge"
 
 -- one more label with its value
 unfoldable pub more_label : List ℕ → List ℕ → List ℕ
@@ -111,19 +118,31 @@ abbrev pub label_if : {A : Type 0} → List ℕ → Option (String A) → List �
 label_if label None = []
 label_if label (Some value) = more_label label (string_bytes value)
 
--- the labels that are given for an instance: its target's address, and its interface's ifName and ifAlias
+-- the labels that are given for an instance: its target's address and label, and its interface's ifName and ifAlias
 unfoldable pub joined_labels : InstanceLabels → List ℕ
-joined_labels l = label_if (codes "target") l.target ++ label_if (codes "ifName") l.if_name ++ label_if (codes "ifAlias") l.if_alias
+joined_labels l =
+    label_if (codes "target") l.target ++ label_if (codes "device") l.device ++ label_if (codes "ifName") l.if_name
+    ++ label_if (codes "ifAlias") l.if_alias
 
 -- those labels, where any are given
 abbrev pub given_labels : Option InstanceLabels → List ℕ
 given_labels None = []
 given_labels (Some l) = joined_labels l
 
--- the labels of an instance: its engine id in hex digits, its name as it is shown, its object and index, and what is given for it
-unfoldable pub instance_labels : (List ℕ → List ℕ) → Labelled → List ℕ
-instance_labels shown i =
-    label_text (codes "engine") (encode_lower i.0.engine) ++ more_label (codes "name") (shown i.0.name)
+-- the number of a station as a label
+unfoldable pub station_label : (station : ℕ) → List ℕ
+station_label station = label_text (codes "station") (decimal station)
+
+-- what the labels of an instance begin with: the number of the station, if it is given
+abbrev pub before_labels : (station : Option ℕ) → List ℕ
+before_labels None = []
+before_labels (Some station) = station_label station ++ codes ","
+
+-- the labels of an instance: the number of the station, if it is given; its engine id in hex digits, its name as it is shown, its object
+-- and index, and what is given for it
+unfoldable pub instance_labels : (station : Option ℕ) → (shown : List ℕ → List ℕ) → Labelled → List ℕ
+instance_labels station shown i =
+    before_labels station ++ label_text (codes "engine") (encode_lower i.0.engine) ++ more_label (codes "name") (shown i.0.name)
     ++ object_labels (object_and_index (shown i.0.name)) ++ given_labels i.1
 
 -- a threshold as one more label
@@ -166,31 +185,45 @@ state_digit (Raised boots time) = codes "1"
 abbrev pub alarm_line : List ℕ → AnAlarm → List ℕ
 alarm_line labels alarm = metric_line (name_of Alarm) (alarm_labels labels alarm.rule) (state_digit alarm.state)
 
--- the lines of a metric for an instance with these labels
-abbrev pub lines_of : Metric → List ℕ → Entry → List ℕ
-lines_of Counted labels e = counted_line labels (newest_of e.items)
-lines_of Number labels e = number_line labels (newest_of e.items)
-lines_of Samples labels e = samples_line labels e.items
-lines_of Rate labels e = rate_line labels (rate_of e.items)
-lines_of Alarm labels e = flat_map (alarm_line labels) e.alarms
+-- the speed of an instance's interface in bits a second, if the labels that are given for it have one
+abbrev pub speed_of : Option InstanceLabels → Option ℕ
+speed_of None = None
+speed_of (Some l) = l.speed
 
--- the lines of a metric for an instance whose name is shown so
-abbrev pub entry_lines : Metric → (List ℕ → List ℕ) → Labelled → List ℕ
-entry_lines metric shown i = lines_of metric (instance_labels shown i) i.0
+-- that speed
+abbrev pub speed_line : List ℕ → Option ℕ → List ℕ
+speed_line labels None = []
+speed_line labels (Some bits) = metric_line (name_of Speed) labels (decimal bits)
+
+-- the lines of a metric for an instance with these labels
+abbrev pub lines_of : Metric → List ℕ → Labelled → List ℕ
+lines_of Counted labels i = counted_line labels (newest_of i.0.items)
+lines_of Number labels i = number_line labels (newest_of i.0.items)
+lines_of Samples labels i = samples_line labels i.0.items
+lines_of Rate labels i = rate_line labels (rate_of i.0.items)
+lines_of Alarm labels i = flat_map (alarm_line labels) i.0.alarms
+lines_of Speed labels i = speed_line labels (speed_of i.1)
+
+-- the lines of a metric for an instance whose labels a function has
+abbrev pub entry_lines : Metric → (Labelled → List ℕ) → Labelled → List ℕ
+entry_lines metric labels i = lines_of metric (labels i) i
 
 -- a metric: what it is, and its lines of all instances
-unfoldable pub metric_text : Metric → (List ℕ → List ℕ) → List Labelled → List ℕ
-metric_text metric shown instances = head_text (name_of metric) (help_of metric) (type_of metric) ++ flat_map (entry_lines metric shown) instances
+unfoldable pub metric_text : Metric → (Labelled → List ℕ) → List Labelled → List ℕ
+metric_text metric labels instances =
+    head_text (name_of metric) (help_of metric) (type_of metric) ++ flat_map (entry_lines metric labels) instances
 
--- all lines of the instances, metric by metric: of each how many samples it has, and the values, rates and alarms of some
-unfoldable pub instances_text : (List ℕ → List ℕ) → List Labelled → List Labelled → List ℕ
-instances_text shown all some =
-    metric_text Counted shown some ++ metric_text Number shown some ++ metric_text Samples shown all ++ metric_text Rate shown some
-    ++ metric_text Alarm shown some
+-- all lines of the instances, metric by metric: of each how many samples it has and how fast its interface is, and the values, rates and
+-- alarms of some
+unfoldable pub instances_text : (Labelled → List ℕ) → (all some : List Labelled) → List ℕ
+instances_text labels all some =
+    metric_text Counted labels some ++ metric_text Number labels some ++ metric_text Samples labels all ++ metric_text Rate labels some
+    ++ metric_text Alarm labels some ++ metric_text Speed labels all
 
+-- ---- the station itself
 -- what a metric of the station itself is called
 abbrev pub station_name : StationMetric → List ℕ
-station_name Station = codes "snmpmon_station"
+station_name Info = codes "snmpmon_info"
 station_name Incarnation = codes "snmpmon_incarnation"
 station_name Taken = codes "snmpmon_samples_taken_total"
 station_name GivenUp = codes "snmpmon_polls_given_up_total"
@@ -198,25 +231,29 @@ station_name Debt = codes "snmpmon_debt"
 station_name FailedSaves = codes "snmpmon_saves_failed_total"
 station_name Strangers = codes "snmpmon_strangers_total"
 station_name Duration = codes "snmpmon_round_duration_seconds"
+station_name Interval = codes "snmpmon_round_interval_seconds"
+station_name Overruns = codes "snmpmon_rounds_overrun_total"
 station_name LastRound = codes "snmpmon_last_round_timestamp_seconds"
 station_name Age = codes "snmpmon_sample_age_rounds"
 
--- what it is, in a sentence
+-- what it is, and what to do with it
 abbrev pub station_help : StationMetric → List ℕ
-station_help Station = codes "Number of this station."
-station_help Incarnation = codes "How often the station was started over its file."
-station_help Taken = codes "Samples that the station took since it began."
-station_help GivenUp = codes "Polls that the station gave up since it began."
-station_help Debt = codes "Samples that the station owes a peer."
-station_help FailedSaves = codes "Saves that failed since the station began."
-station_help Strangers = codes "Datagrams since the station began from an address of no target and no peer."
-station_help Duration = codes "How long the last round took."
-station_help LastRound = codes "When the last round ended, in seconds since 1970."
-station_help Age = codes "Rounds since an instance had a new sample, or since the station began."
+station_help Info = codes "The program's version and the station's number. Its value is always 1."
+station_help Incarnation = codes "How often the station was started over its file. It rises by one at each restart."
+station_help Taken = codes "Samples that the station took since it began. Look at snmpmon_target_up where it no longer rises."
+station_help GivenUp = codes "Polls that the station gave up since it began. Look at snmpmon_target_up where it rises."
+station_help Debt = codes "Samples that the station owes a peer. Look at that peer and the way to it where it goes on rising."
+station_help FailedSaves = codes "Saves that failed since the station began. Look at its disk and the rights of its file where it rises."
+station_help Strangers = codes "Datagrams since the station began from an address of no target and no peer. Find the sender where it rises."
+station_help Duration = codes "How long the last round took. Rounds begin late where it exceeds snmpmon_round_interval_seconds."
+station_help Interval = codes "Seconds between the beginnings of two rounds, at least. 0 where rounds follow one another."
+station_help Overruns = codes "Rounds since the station began that took longer than the interval. Lower tries and wait_ms where it rises."
+station_help LastRound = codes "When the last round ended, in seconds since 1970. Look at the station where it is long before time()."
+station_help Age = codes "Rounds since an instance had a new sample, or since the station began. It is stale from --stale-after on."
 
 -- its type
 abbrev pub station_type : StationMetric → List ℕ
-station_type Station = codes "gauge"
+station_type Info = codes "gauge"
 station_type Incarnation = codes "gauge"
 station_type Taken = codes "counter"
 station_type GivenUp = codes "counter"
@@ -224,6 +261,8 @@ station_type Debt = codes "gauge"
 station_type FailedSaves = codes "counter"
 station_type Strangers = codes "counter"
 station_type Duration = codes "gauge"
+station_type Interval = codes "gauge"
+station_type Overruns = codes "counter"
 station_type LastRound = codes "gauge"
 station_type Age = codes "gauge"
 
@@ -231,26 +270,86 @@ station_type Age = codes "gauge"
 abbrev pub station_head : StationMetric → List ℕ
 station_head metric = head_text (station_name metric) (station_help metric) (station_type metric)
 
--- a metric of one line without labels
-unfoldable pub plain_metric : StationMetric → ℕ → List ℕ
-plain_metric metric value = station_head metric ++ station_name metric ++ codes " " ++ decimal value ++ codes "\n"
+-- the line of a metric that has no label but the station's number
+abbrev pub station_line : (station : ℕ) → StationMetric → List ℕ → List ℕ
+station_line station metric value = metric_line (station_name metric) (station_label station) value
+
+-- a metric of that line
+unfoldable pub plain_metric : (station : ℕ) → StationMetric → ℕ → List ℕ
+plain_metric station metric value = station_head metric ++ station_line station metric (decimal value)
+
+-- the program's version
+abbrev pub version : List ℕ
+version = codes "0.1.0"
+
+-- which program and which station it is: the version is one more label
+unfoldable pub info_text : (station : ℕ) → List ℕ
+info_text station = station_head Info ++ metric_line (station_name Info) (station_label station ++ more_label (codes "version") version) (codes "1")
 
 -- how long the last round took: milliseconds, written as seconds with three digits after the point
-unfoldable pub duration_text : ℕ → List ℕ
-duration_text milliseconds = station_head Duration ++ station_name Duration ++ codes " " ++ rate_text (Some milliseconds) ++ codes "\n"
+unfoldable pub duration_text : (station milliseconds : ℕ) → List ℕ
+duration_text station milliseconds = station_head Duration ++ station_line station Duration (rate_text (Some milliseconds))
 
 -- when the last round ended, in seconds since 1970; nothing before the end of the first one
-abbrev pub last_round_if : Option ℕ → List ℕ
-last_round_if None = []
-last_round_if (Some seconds) = plain_metric LastRound seconds
+abbrev pub last_round_if : (station : ℕ) → Option ℕ → List ℕ
+last_round_if station None = []
+last_round_if station (Some seconds) = plain_metric station LastRound seconds
+
+-- what a station says of its rounds: how long the last one took, how long one may take, how many took longer, and when the last one
+-- ended
+unfoldable pub rounds_text : Figures → List ℕ
+rounds_text f =
+    duration_text f.station f.round_ms ++ plain_metric f.station Interval f.interval ++ plain_metric f.station Overruns f.overruns
+    ++ last_round_if f.station f.round_at
+
+-- ---- peers
+-- the labels of a peer: the station's number, and the peer's
+unfoldable pub peer_labels : (station peer : ℕ) → List ℕ
+peer_labels station peer = station_label station ++ more_label (codes "peer") (decimal peer)
 
 -- how many samples the station owes a peer, by the peer's number
-abbrev pub debt_line : ℕ × ℕ → List ℕ
-debt_line d = metric_line (station_name Debt) (label_text (codes "peer") (decimal d.0)) (decimal d.1)
+abbrev pub debt_line : (station : ℕ) → ℕ × ℕ → List ℕ
+debt_line station d = metric_line (station_name Debt) (peer_labels station d.0) (decimal d.1)
 
 -- the debts to all peers
-unfoldable pub debts_text : List (ℕ × ℕ) → List ℕ
-debts_text debts = station_head Debt ++ flat_map debt_line debts
+unfoldable pub debts_text : (station : ℕ) → List (ℕ × ℕ) → List ℕ
+debts_text station debts = station_head Debt ++ flat_map (debt_line station) debts
+
+-- 1 for true, 0 for false
+abbrev pub one_if : Bool → ℕ
+one_if true = 1
+one_if false = 0
+
+-- what a metric of a peer is called
+abbrev pub peer_name : PeerMetric → List ℕ
+peer_name PeerUp = codes "snmpmon_peer_up"
+peer_name LastHeard = codes "snmpmon_peer_last_heard_rounds"
+
+-- what it is, and what to do with it
+abbrev pub peer_help : PeerMetric → List ℕ
+peer_help PeerUp = codes "1 where a peer was heard within the rounds of --stale-after. Look at that station where it is 0."
+peer_help LastHeard = codes "Whole rounds since a datagram came from a peer, or since the station began. Look at that peer where it rises."
+
+-- the first two lines of a metric of peers: its value may fall
+abbrev pub peer_head : PeerMetric → List ℕ
+peer_head metric = head_text (peer_name metric) (peer_help metric) (codes "gauge")
+
+-- what a metric says of a peer
+abbrev pub peer_value : PeerMetric → PeerFigures → ℕ
+peer_value PeerUp p = one_if (not p.silent)
+peer_value LastHeard p = p.rounds
+
+-- the line of a metric for a peer
+abbrev pub peer_line : (station : ℕ) → PeerMetric → PeerFigures → List ℕ
+peer_line station metric p = metric_line (peer_name metric) (peer_labels station p.station) (decimal (peer_value metric p))
+
+-- a metric with a line for each peer
+unfoldable pub peer_metric : (station : ℕ) → PeerMetric → List PeerFigures → List ℕ
+peer_metric station metric peers = peer_head metric ++ flat_map (peer_line station metric) peers
+
+-- what a station says of its peers, metric by metric
+unfoldable pub peers_text : (station : ℕ) → List PeerFigures → List ℕ
+peers_text station peers = peer_metric station PeerUp peers ++ peer_metric station LastHeard peers
 
 -- ---- targets
 -- what a metric of a target is called
@@ -261,13 +360,13 @@ target_name Seconds = codes "snmpmon_target_answer_age_seconds"
 target_name PollsGivenUp = codes "snmpmon_target_polls_given_up_total"
 target_name Refusal = codes "snmpmon_target_refusal_info"
 
--- what it is, in a sentence
+-- what it is, and what to do with it
 abbrev pub target_help : TargetMetric → List ℕ
-target_help Up = codes "1 where the last poll of a target was answered."
-target_help Rounds = codes "Rounds since a target answered, or since the station began."
-target_help Seconds = codes "Seconds since a target answered, or since the station began."
-target_help PollsGivenUp = codes "Polls of a target that the station gave up since it began."
-target_help Refusal = codes "Why the last response of a target was refused, until it answers."
+target_help Up = codes "1 where the last poll of a target was answered. Look at the device or the way to it where it is 0."
+target_help Rounds = codes "Rounds since a target answered, or since the station began. Look at the device where it rises."
+target_help Seconds = codes "Seconds since a target answered, or since the station began. Alert where it exceeds some rounds."
+target_help PollsGivenUp = codes "Polls of a target that the station gave up since it began. Datagrams get lost where it rises and it is up."
+target_help Refusal = codes "Why the last response of a target was refused, until it answers. Its label reason says what to correct."
 
 -- its type
 abbrev pub target_type : TargetMetric → List ℕ
@@ -281,16 +380,12 @@ target_type Refusal = codes "gauge"
 abbrev pub target_head : TargetMetric → List ℕ
 target_head metric = head_text (target_name metric) (target_help metric) (target_type metric)
 
--- the labels of a target: where its agent is reached, its number, which keeps targets at one address apart, and its engine id in hex digits
-unfoldable pub target_labels : TargetFigures → List ℕ
-target_labels t =
-    label_text (codes "target") (string_bytes t.address) ++ codes "," ++ label_text (codes "number") (decimal t.number)
-    ++ codes "," ++ label_text (codes "engine") (encode_lower t.engine.items)
-
--- 1 for true, 0 for false
-abbrev pub one_if : Bool → ℕ
-one_if true = 1
-one_if false = 0
+-- the labels of a target: the station's number, where the target's agent is reached, its number, which keeps targets at one address
+-- apart, and its engine id in hex digits
+unfoldable pub target_labels : (station : ℕ) → TargetFigures → List ℕ
+target_labels station t =
+    station_label station ++ more_label (codes "target") (string_bytes t.address) ++ more_label (codes "number") (decimal t.number)
+    ++ more_label (codes "engine") (encode_lower t.engine.items)
 
 -- what a metric says of a target
 abbrev pub target_value : TargetMetric → TargetFigures → ℕ
@@ -301,54 +396,57 @@ target_value PollsGivenUp t = t.given_up
 target_value Refusal t = 1
 
 -- the line of a metric for a target
-abbrev pub target_line : TargetMetric → TargetFigures → List ℕ
-target_line metric t = metric_line (target_name metric) (target_labels t) (decimal (target_value metric t))
+abbrev pub target_line : (station : ℕ) → TargetMetric → TargetFigures → List ℕ
+target_line station metric t = metric_line (target_name metric) (target_labels station t) (decimal (target_value metric t))
 
 -- a metric with a line for each target
-unfoldable pub target_metric : TargetMetric → List TargetFigures → List ℕ
-target_metric metric targets = target_head metric ++ flat_map (target_line metric) targets
+unfoldable pub target_metric : (station : ℕ) → TargetMetric → List TargetFigures → List ℕ
+target_metric station metric targets = target_head metric ++ flat_map (target_line station metric) targets
 
 -- why a target's last response was refused, as one more label of a line
-unfoldable pub reason_line : {A : Type 0} → TargetFigures → String A → List ℕ
-reason_line t reason = metric_line (target_name Refusal) (target_labels t ++ codes "," ++ label_text (codes "reason") (string_bytes reason)) (codes "1")
+unfoldable pub reason_line : {A : Type 0} → (station : ℕ) → TargetFigures → String A → List ℕ
+reason_line station t reason =
+    metric_line (target_name Refusal) (target_labels station t ++ more_label (codes "reason") (string_bytes reason)) (codes "1")
 
 -- that line, where there is a reason
-abbrev pub reason_if : {A : Type 0} → TargetFigures → Option (String A) → List ℕ
-reason_if t None = []
-reason_if t (Some reason) = reason_line t reason
+abbrev pub reason_if : {A : Type 0} → (station : ℕ) → TargetFigures → Option (String A) → List ℕ
+reason_if station t None = []
+reason_if station t (Some reason) = reason_line station t reason
 
 -- the refusals of all targets that have one
-unfoldable pub refusals_text : List TargetFigures → List ℕ
-refusals_text targets = target_head Refusal ++ flat_map (λ t. reason_if t t.refusal) targets
+unfoldable pub refusals_text : (station : ℕ) → List TargetFigures → List ℕ
+refusals_text station targets = target_head Refusal ++ flat_map (λ t. reason_if station t t.refusal) targets
 
 -- what a station says of its targets, metric by metric
-unfoldable pub targets_text : List TargetFigures → List ℕ
-targets_text targets =
-    target_metric Up targets ++ target_metric Rounds targets ++ target_metric Seconds targets ++ target_metric PollsGivenUp targets ++ refusals_text targets
+unfoldable pub targets_text : (station : ℕ) → List TargetFigures → List ℕ
+targets_text station targets =
+    target_metric station Up targets ++ target_metric station Rounds targets ++ target_metric station Seconds targets
+    ++ target_metric station PollsGivenUp targets ++ refusals_text station targets
 
--- what a station says of itself since its start: its number and its incarnation, how many samples it took and how many polls it gave up, by the
--- number of each peer how many samples it owes that peer, how many saves failed, how many datagrams strangers sent, how long the last round
--- took and when it ended, and what it says of each target
+-- what a station says of itself since its start, by its number: the program's version and its incarnation, how many samples it took and
+-- how many polls it gave up, by the number of each peer how many samples it owes that peer and when the peer was heard, how many saves
+-- failed, how many datagrams strangers sent, and what it says of its rounds and of each target
 unfoldable pub station_text : Figures → List ℕ
 station_text f =
-    plain_metric Station f.station ++ plain_metric Incarnation f.incarnation ++ plain_metric Taken f.taken ++ plain_metric GivenUp f.given_up
-    ++ debts_text f.debts.items ++ plain_metric FailedSaves f.failed_saves ++ plain_metric Strangers f.strangers ++ duration_text f.round_ms
-    ++ last_round_if f.round_at ++ targets_text f.targets.items
+    info_text f.station ++ plain_metric f.station Incarnation f.incarnation ++ plain_metric f.station Taken f.taken
+    ++ plain_metric f.station GivenUp f.given_up ++ debts_text f.station f.debts.items ++ peers_text f.station f.peers.items
+    ++ plain_metric f.station FailedSaves f.failed_saves ++ plain_metric f.station Strangers f.strangers
+    ++ rounds_text f ++ targets_text f.station f.targets.items
 
 -- ---- ages of instances
 -- the line of an instance that had no new sample in this many rounds
-abbrev pub age_line : (List ℕ → List ℕ) → Labelled → ℕ → List ℕ
-age_line shown i age = metric_line (station_name Age) (instance_labels shown i) (decimal age)
+abbrev pub age_line : (Labelled → List ℕ) → Labelled → ℕ → List ℕ
+age_line labels i age = metric_line (station_name Age) (labels i) (decimal age)
 
 -- the lines of instances with these ages, for as many as have one
-abbrev pub age_lines : (List ℕ → List ℕ) → List ℕ → List Labelled → List ℕ
-age_lines shown [] is = []
-age_lines shown (age ∷ ages) [] = []
-age_lines shown (age ∷ ages) (i ∷ is) = age_line shown i age ++ age_lines shown ages is
+abbrev pub age_lines : (Labelled → List ℕ) → List ℕ → List Labelled → List ℕ
+age_lines labels [] is = []
+age_lines labels (age ∷ ages) [] = []
+age_lines labels (age ∷ ages) (i ∷ is) = age_line labels i age ++ age_lines labels ages is
 
 -- the ages of all instances
-unfoldable pub ages_text : (List ℕ → List ℕ) → List ℕ → List Labelled → List ℕ
-ages_text shown ages instances = station_head Age ++ age_lines shown ages instances
+unfoldable pub ages_text : (Labelled → List ℕ) → List ℕ → List Labelled → List ℕ
+ages_text labels ages instances = station_head Age ++ age_lines labels ages instances
 
 -- the instances whose values are reported: of a running station those that are fresh, else all
 abbrev pub fresh_by : Option Figures → List Labelled → List Labelled
@@ -356,11 +454,15 @@ fresh_by None instances = instances
 fresh_by (Some f) instances = fresh f.stale_after f.ages.items instances
 
 -- nothing if there is no station
-abbrev pub station_text_if : (List ℕ → List ℕ) → List Labelled → Option Figures → List ℕ
-station_text_if shown instances None = []
-station_text_if shown instances (Some f) = station_text f ++ ages_text shown f.ages.items instances
+abbrev pub station_text_if : (Labelled → List ℕ) → List Labelled → Option Figures → List ℕ
+station_text_if labels instances None = []
+station_text_if labels instances (Some f) = station_text f ++ ages_text labels f.ages.items instances
 
--- The instances, metric by metric, and then the station, where there is one. Values, rates and alarms are those of fresh instances: so
--- Prometheus marks what is left out as stale by itself.
-unfoldable pub prometheus_report : (List ℕ → List ℕ) → List Labelled → Option Figures → List ℕ
-prometheus_report shown instances station = instances_text shown instances (fresh_by station instances) ++ station_text_if shown instances station
+-- The instances by their labels, metric by metric, and then the station, if there is one. Values, rates and alarms are those of fresh
+-- instances: so Prometheus marks what is left out as stale by itself.
+abbrev pub report_by : (Labelled → List ℕ) → List Labelled → Option Figures → List ℕ
+report_by labels instances figures = instances_text labels instances (fresh_by figures instances) ++ station_text_if labels instances figures
+
+-- that report, with the number that each series of an instance has as its label `station`, if it is given
+unfoldable pub prometheus_report : (station : Option ℕ) → (shown : List ℕ → List ℕ) → List Labelled → Option Figures → List ℕ
+prometheus_report station shown instances figures = report_by (instance_labels station shown) instances figures

@@ -47,10 +47,16 @@ impl Format {
     }
 }
 
-/// Makes the report of instances in a format, with their names as `names` has them. All but
-/// the lines of text also have what the station says of itself. Prometheus' text has the labels, and a
-/// page and a table have the ifName and the ifAlias among them and are made as the presentation says.
-/// The buffer's octets are dropped, and its capacity is used again.
+/// Makes the report of instances in a format, with their names as `names` has them. The buffer's
+/// octets are dropped, and its capacity is used again. Which extras matter to which format:
+///
+/// | Extras | Formats |
+/// |---|---|
+/// | `station` | all but the lines of text |
+/// | `labels` | Prometheus' text, a table and a page |
+/// | `presentation.label`, `presentation.file_age` | a page |
+/// | `presentation.sort` | a table |
+/// | `presentation.station` | Prometheus' text: each series of an instance has it as a label |
 ///
 /// # Errors
 /// `AllocError` if there is no memory for it.

@@ -15,3 +15,6 @@ pub use format::{Format, format_report};
 pub use mon_page::{
     Extras, Figures, InstanceLabels, PeerFigures, Presentation, Sort, TargetFigures,
 };
+
+/// The program's version, as Prometheus' text has it.
+pub const VERSION: &str = "0.1.0";

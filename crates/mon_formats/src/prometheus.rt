@@ -1,6 +1,7 @@
 //! A report as Prometheus reads it.
 
-ghost use Rattle.std.specs.Prelude.{◌≡◌, ◌<◌, ◌++◌, [], IfOk, List, OnOk, Some, decimal, get_or, length, option_map, slice_get, ℕ};
+ghost use Rattle.std.specs.Prelude.{◌≡◌, ◌<◌, ◌++◌, [], IfOk, List, OnOk, Some, decimal};
+ghost use Rattle.std.specs.Prelude.{get_or, length, option_map, slice_get, ℕ};
 ghost use Rattle.std.specs.Fmt.{signed_decimal};
 ghost use Rattle.std.specs.List.{flat_map};
 ghost use Rattle.mon_report.specs.Report.{Entry as AnEntry};
@@ -9,15 +10,20 @@ ghost use Rattle.mon_page.specs.Freshness.{fresh, is_fresh};
 ghost use Rattle.mon_page.specs.Labelled.{Labelled as AnyLabelled, labelled};
 ghost use Rattle.mon_formats.specs.LabelTexts.{AreLabelTexts, HaveLabels};
 ghost use Rattle.mon_formats.specs.declared.prometheus.station.StationMetric.TheVariants.{Age};
-ghost use Rattle.mon_formats.specs.Prometheus.{prometheus_report, ages_text, instances_text, metric_text, lines_of, counted_line, number_line, station_name, samples_line, rate_line, alarm_line, alarm_labels, state_digit, name_of, metric_line, threshold_text};
+ghost use Rattle.mon_formats.specs.Prometheus.{ages_text, alarm_labels, alarm_line};
+ghost use Rattle.mon_formats.specs.Prometheus.{counted_line, instance_labels, instances_text, lines_of};
+ghost use Rattle.mon_formats.specs.Prometheus.{metric_line, metric_text, name_of, number_line};
+ghost use Rattle.mon_formats.specs.Prometheus.{prometheus_report, rate_line, report_by, samples_line};
+ghost use Rattle.mon_formats.specs.Prometheus.{speed_line, state_digit, station_name, threshold_text};
 
 pub(crate) mod instance;
 mod metric;
+mod peer;
 mod station;
 mod target;
 mod text;
 
-use instance::{Labelled, labels_of};
+use instance::{Labelled, labels_of, speed_of};
 use itoa::Buffer;
 use metric::Metric;
 use mon_alarms::{AlarmState, Rule};
@@ -26,15 +32,16 @@ use mon_rates::is_counter;
 use mon_report::{Alarm, Entry, write_rate};
 use mon_sample::Sample;
 use mon_smi::NameTexts;
-use station::{StationMetric, put_station};
+use station::{StationMetric, put_metric_head, put_station};
 use std::alloc::{AllocError, Global};
 use text::{put_head, put_label, put_line};
 
-/// Instances with the texts of their labels, which all lines of an instance have, and of a running
-/// station in how many rounds each had no new sample.
+/// Instances with what is given for them and the texts of their labels, which all lines of an
+/// instance have, and of a running station in how many rounds each had no new sample.
 #[derive(Clone, Copy)]
 struct Listing<'a, 'e> {
     entries: &'a [Entry<'e>],
+    given: &'a [InstanceLabels],
     labels: &'a [Vec<u8>],
     /// Empty if there is no station.
     ages: &'a [u32],
@@ -46,6 +53,7 @@ impl<'a, 'e> Listing<'a, 'e> {
     /// The same instances, of which none is stale.
     fn all(self) -> Self
         ensures entries { result.entries.now ≡ self.entry.entries.now }
+        ensures given { result.given.now ≡ self.entry.given.now }
         ensures labels { result.labels.now ≡ self.entry.labels.now }
         ensures ages { result.ages.now ≡ [] }
     {
@@ -68,7 +76,10 @@ pub(crate) fn prometheus_report<S: NameTexts>(
     entries: &[Entry],
     extras: Extras<'_>,
 ) -> Result<Vec<u8>, AllocError>
-    ensures { IfOk result (λ text. text.items ≡ prometheus_report (S.shown names.now) (labelled extras.entry.labels.now entries.now) (option_map (λ f. f.now) extras.entry.station)) }
+    ensures { IfOk result (λ text. text.items
+        ≡ prometheus_report extras.entry.presentation.now.station (S.shown names.now)
+        (labelled extras.entry.labels.now entries.now)
+        (option_map (λ f. f.now) extras.entry.station)) }
 {
     let mut text = buffer;
     text.clear();
@@ -85,11 +96,16 @@ fn put_report<S: NameTexts>(
     entries: &[Entry],
     extras: Extras<'_>,
 ) -> Result<(), AllocError>
-    ensures { OnOk result (text.new.items ≡ text.old.items ++ prometheus_report (S.shown names.now) (labelled extras.entry.labels.now entries.now) (option_map (λ f. f.now) extras.entry.station)) }
+    ensures { OnOk result (text.new.items ≡ text.old.items
+        ++ prometheus_report extras.entry.presentation.now.station (S.shown names.now)
+        (labelled extras.entry.labels.now entries.now)
+        (option_map (λ f. f.now) extras.entry.station)) }
 {
-    let labels = label_texts(alloc, names, entries, extras.labels)?;
+    let station = extras.presentation.station;
+    let labels = label_texts(alloc, names, entries, extras.labels, station)?;
     let plain = Listing {
         entries,
+        given: extras.labels,
         labels: labels.as_slice(),
         ages: &[],
         limit: 0,
@@ -106,14 +122,16 @@ fn label_texts<S: NameTexts>(
     names: &S,
     entries: &[Entry],
     labels: &[InstanceLabels],
+    station: Option<u32>,
 ) -> Result<Vec<Vec<u8>>, AllocError>
-    ensures { IfOk result (AreLabelTexts (S.shown names.now) (labelled labels.now entries.now)
-        entries.now) }
+    ensures texts { IfOk result (AreLabelTexts (instance_labels station (S.shown names.now))
+        entries.now labels.now) }
+    ensures as_many { IfOk result (λ texts. length texts.items ≡ length entries.now) }
 {
     let mut texts = Vec::with_capacity(alloc, entries.len())?;
     for place in 0..entries.len() {
         let labelled = labelled_at(entries, labels, place);
-        texts.push(labels_of(alloc, names, labelled)?)?;
+        texts.push(labels_of(alloc, names, labelled, station)?)?;
     }
     Ok(texts)
 }
@@ -135,7 +153,6 @@ fn labelled_at<'a, 'e>(
 }
 
 /// Adds the report of a running station.
-#[tactic(auto, unfolding(crate::specs::Prometheus::prometheus_report))]
 fn put_running(
     alloc: Global,
     text: &mut Vec<u8>,
@@ -143,10 +160,10 @@ fn put_running(
     figures: &Figures,
 ) -> Result<(), AllocError>
     requires { length plain.labels.now ≡ length plain.entries.now }
-    ensures { (shown : List ℕ → List ℕ) (all : List AnyLabelled)
-        → HaveLabels shown all plain.entry.entries.now plain.entry.labels.now
+    ensures { (labels : AnyLabelled → List ℕ) (all : List AnyLabelled)
+        → HaveLabels labels all plain.entry.entries.now plain.entry.given.now plain.entry.labels.now
         → OnOk result (text.new.items
-        ≡ text.old.items ++ prometheus_report shown all (Some figures.now)) }
+        ≡ text.old.items ++ report_by labels all (Some figures.now)) }
 {
     let listing = Listing {
         ages: figures.ages.as_slice(),
@@ -162,16 +179,18 @@ fn put_running(
 #[tactic(auto, unfolding(crate::specs::Prometheus::instances_text))]
 fn put_instances(alloc: Global, text: &mut Vec<u8>, listing: Listing) -> Result<(), AllocError>
     requires { length listing.labels.now ≡ length listing.entries.now }
-    ensures { (shown : List ℕ → List ℕ) (all : List AnyLabelled)
-        → HaveLabels shown all listing.entry.entries.now listing.entry.labels.now
+    ensures { (labels : AnyLabelled → List ℕ) (all : List AnyLabelled)
+        → HaveLabels labels all listing.entry.entries.now listing.entry.given.now
+        listing.entry.labels.now
         → OnOk result (text.new.items ≡ text.old.items
-        ++ instances_text shown all (fresh listing.entry.limit listing.entry.ages.now all)) }
+        ++ instances_text labels all (fresh listing.entry.limit listing.entry.ages.now all)) }
 {
     put_metric(alloc, text, listing, Metric::Counted)?;
     put_metric(alloc, text, listing, Metric::Number)?;
     put_metric(alloc, text, listing.all(), Metric::Samples)?;
     put_metric(alloc, text, listing, Metric::Rate)?;
-    put_metric(alloc, text, listing, Metric::Alarm)
+    put_metric(alloc, text, listing, Metric::Alarm)?;
+    put_metric(alloc, text, listing.all(), Metric::Speed)
 }
 
 /// Adds a metric: what it is, and its lines of the instances that are not stale.
@@ -183,16 +202,18 @@ fn put_metric(
     metric: Metric,
 ) -> Result<(), AllocError>
     requires { length listing.labels.now ≡ length listing.entries.now }
-    ensures { (shown : List ℕ → List ℕ) (all : List AnyLabelled)
-        → HaveLabels shown all listing.entry.entries.now listing.entry.labels.now
+    ensures { (labels : AnyLabelled → List ℕ) (all : List AnyLabelled)
+        → HaveLabels labels all listing.entry.entries.now listing.entry.given.now
+        listing.entry.labels.now
         → OnOk result (text.new.items ≡ text.old.items
-        ++ metric_text metric shown (fresh listing.entry.limit listing.entry.ages.now all)) }
+        ++ metric_text metric labels (fresh listing.entry.limit listing.entry.ages.now all)) }
 {
     put_head(text, metric.name(), metric.help(), metric.kind())?;
     for place in 0..listing.entries.len() {
         if listing.is_fresh(place) {
+            let labelled = labelled_at(listing.entries, listing.given, place);
             let labels = listing.labels[place].as_slice();
-            put_lines(alloc, text, labels, &listing.entries[place], metric)?;
+            put_lines(alloc, text, labels, labelled, metric)?;
         }
     }
     Ok(())
@@ -202,13 +223,13 @@ fn put_metric(
 #[tactic(auto, unfolding(crate::specs::Prometheus::ages_text))]
 fn put_ages(text: &mut Vec<u8>, listing: Listing) -> Result<(), AllocError>
     requires { length listing.labels.now ≡ length listing.entries.now }
-    ensures { (shown : List ℕ → List ℕ) (all : List AnyLabelled)
-        → HaveLabels shown all listing.entry.entries.now listing.entry.labels.now
+    ensures { (labels : AnyLabelled → List ℕ) (all : List AnyLabelled)
+        → HaveLabels labels all listing.entry.entries.now listing.entry.given.now
+        listing.entry.labels.now
         → OnOk result (text.new.items
-        ≡ text.old.items ++ ages_text shown listing.entry.ages.now all) }
+        ≡ text.old.items ++ ages_text labels listing.entry.ages.now all) }
 {
-    let metric = StationMetric::Age;
-    put_head(text, metric.name(), metric.help(), metric.kind())?;
+    put_metric_head(text, StationMetric::Age)?;
     for place in 0..listing.entries.len().min(listing.ages.len()) {
         put_age(text, listing.labels[place].as_slice(), listing.ages[place])?;
     }
@@ -230,17 +251,20 @@ fn put_lines(
     alloc: Global,
     text: &mut Vec<u8>,
     labels: &[u8],
-    entry: &Entry,
+    labelled: Labelled,
     metric: Metric,
 ) -> Result<(), AllocError>
-    ensures { OnOk result (text.new.items ≡ text.old.items ++ lines_of metric labels.now entry.now) }
+    ensures { OnOk result (text.new.items ≡ text.old.items ++ lines_of metric labels.now
+        (labelled.entry.instance.now, option_map (λ l. l.now) labelled.entry.labels)) }
 {
+    let entry = labelled.instance;
     match metric {
         Metric::Counted => put_counted(text, labels, entry.samples()),
         Metric::Number => put_number(text, labels, entry.samples()),
         Metric::Samples => put_samples(text, labels, entry.samples()),
         Metric::Rate => put_rate(alloc, text, labels, entry),
         Metric::Alarm => put_alarms(alloc, text, labels, entry),
+        Metric::Speed => put_speed(text, labels, speed_of(labelled.labels)),
     }
 }
 
@@ -376,4 +400,16 @@ fn state_digit(alarm: AlarmState) -> &'static str
         AlarmState::Clear => "0",
         AlarmState::Raised { .. } => "1",
     }
+}
+
+/// Adds the line of the speed of an instance's interface in bits a second, if it is known.
+fn put_speed(text: &mut Vec<u8>, labels: &[u8], speed: Option<u64>) -> Result<(), AllocError>
+    ensures { OnOk result (text.new.items ≡ text.old.items ++ speed_line labels.now speed) }
+{
+    let Some(bits) = speed else {
+        return Ok(());
+    };
+    let mut buffer = Buffer::new();
+    let number = buffer.format(bits);
+    put_line(text, Metric::Speed.name(), labels, number.as_bytes())
 }

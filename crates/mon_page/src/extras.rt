@@ -13,7 +13,8 @@ pub struct Extras<'a> {
     pub presentation: &'a Presentation,
 }
 
-/// How a page and a table present what they show. The formats for machines do not depend on it.
+/// How a report presents what it shows. Of the formats for machines only Prometheus' text depends on
+/// it, by `station`.
 #[derive(Debug)]
 pub struct Presentation {
     /// The label of the station in its settings, if it has one.
@@ -22,6 +23,9 @@ pub struct Presentation {
     pub file_age: Option<u64>,
     /// The order of the rows of a table.
     pub sort: Sort,
+    /// The number that each series of an instance has as its label `station` in Prometheus' text, so
+    /// that those of several stations differ; `None` for no such label.
+    pub station: Option<u32>,
 }
 
 // By hand: where one is let go, a proof has one call and not a drop of each field.
@@ -31,6 +35,7 @@ impl Drop for Presentation {
             label: _,
             file_age: _,
             sort: _,
+            station: _,
         } = self;
     }
 }
@@ -48,8 +53,8 @@ pub enum Sort {
     Age,
 }
 
-/// The labels of an instance. Prometheus' text has its target, ifName and ifAlias, for a dashboard to
-/// join on; a page and a table have all.
+/// The labels of an instance. Prometheus' text, a page and a table have all; a series of Prometheus has
+/// the speed as its value.
 #[derive(Debug)]
 pub struct InstanceLabels {
     /// Where the agent of its target is reached, as `a.b.c.d:port`.

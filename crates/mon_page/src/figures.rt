@@ -23,6 +23,8 @@ pub struct Figures {
     pub round_at: Option<u64>,
     /// How long its last round took, in milliseconds.
     pub round_ms: u64,
+    /// How many of its rounds took longer than the interval since its start.
+    pub overruns: u64,
     /// What it says of each target, in their order.
     pub targets: Vec<TargetFigures>,
     /// Of each instance, in their order, in how many rounds it had no new sample.
@@ -47,6 +49,7 @@ impl Drop for Figures {
             strangers: _,
             round_at: _,
             round_ms: _,
+            overruns: _,
             targets: _,
             ages: _,
             stale_after: _,

@@ -1,8 +1,8 @@
 -- How long ago targets answered, peers sent something and instances had a new sample.
 use Rattle.std.specs.Prelude.{ℕ, ◌≡◌, ◌≤◌, ◌+◌, ◌-◌, ◌/◌, ◌^◌, ◌==◌, ◌&&◌, min, nat_le, nat_lt, Bool, true, false, not, ◌||◌, if◌then◌else◌, List, [], ◌∷◌, Option, Some, None, filter, get_or, length, option_map, slice_get}
 use Rattle.std.specs.List.{fold, list_any}
-use Rattle.std.specs.Str.{bytes_eq}
-use Rattle.mon_sample.specs.Record.{octets_of}
+use Rattle.mon_sample.specs.Key.{boots_of, discontinuity_of, kind_of, sample_value, time_of}
+use Rattle.mon_sample.specs.Kind.{kind_tag}
 use Rattle.mon_board.specs.Board.{Board, window_of}
 use Rattle.mon_window.specs.Top.{rising}
 use Rattle.mon_udp.specs.Addr.{same_addr}
@@ -15,6 +15,7 @@ use Rattle.mon_rounds.specs.Clock.{clock_after, no_clock}
 use Rattle.mon_rounds.specs.Course.{counted_on}
 use Rattle.mon_rounds.specs.declared.freshness.InstanceAge.{InstanceAge}
 use Rattle.mon_rounds.specs.declared.freshness.PeerAge.{PeerAge}
+use Rattle.mon_rounds.specs.declared.freshness.SampleFields.{SampleFields}
 use Rattle.mon_rounds.specs.declared.freshness.TargetAge.{TargetAge}
 use Rattle.mon_rounds.specs.declared.late.LateRow.{LateRow}
 use Rattle.mon_rounds.specs.declared.reporting.Notice.{Notice}
@@ -240,16 +241,32 @@ IsSeldom ((span, heard) ∷ spells) p = (p.offers ≤ 1) × IsSeldom spells (pee
 abbrev pub last_of : List ℕ → Option ℕ
 last_of items = slice_get items (length items - 1)
 
--- the octets of the newest sample of the instance of this number, where there is one
-abbrev pub newest_on : Board → ℕ → Option (List ℕ)
-newest_on b number = if nat_lt number (length b.watch.instances) then option_map octets_of (last_of (rising (window_of b number))) else None
+-- the fields of a sample
+abbrev pub fields_of : ℕ → SampleFields
+fields_of s = record {
+  value = sample_value s;
+  time = time_of s;
+  boots = boots_of s;
+  discontinuity = discontinuity_of s;
+  tag = kind_tag (kind_of s);
+}
 
--- whether two samples, or none, have equal octets
-abbrev pub is_same : Option (List ℕ) → Option (List ℕ) → Bool
+-- the fields of the newest sample of the instance of this number, where there is one
+abbrev pub newest_on : Board → ℕ → Option SampleFields
+newest_on b number = if nat_lt number (length b.watch.instances)
+    then option_map fields_of (last_of (rising (window_of b number))) else None
+
+-- whether the fields of two samples are equal
+abbrev pub have_same : SampleFields → SampleFields → Bool
+have_same s t = (s.value == t.value) && ((s.time == t.time) && ((s.boots == t.boots)
+    && ((s.discontinuity == t.discontinuity) && (s.tag == t.tag))))
+
+-- whether two samples, or none, have equal fields
+abbrev pub is_same : Option SampleFields → Option SampleFields → Bool
 is_same None None = true
 is_same None (Some t) = false
 is_same (Some s) None = false
-is_same (Some s) (Some t) = bytes_eq s t
+is_same (Some s) (Some t) = have_same s t
 
 -- at the station's start: the newest sample of the instance of this number is known, and no round
 -- went by without one
@@ -261,7 +278,7 @@ abbrev pub new_instances : List (Option ℕ) → Board → List InstanceAge
 new_instances polled b = numbered (λ number watched. new_instance b number (get_or polled number None)) 0 b.watch.instances
 
 -- an instance that has this newest sample after a round, or the time after it
-abbrev pub instance_with : Span → Option (List ℕ) → InstanceAge → InstanceAge
+abbrev pub instance_with : Span → Option SampleFields → InstanceAge → InstanceAge
 instance_with span newest i = record { number = i.number; target = i.target; newest = newest; rounds = age_after span (not (is_same i.newest newest)) i.rounds }
 
 -- an instance after a round, or the time after it, that left this board
@@ -273,3 +290,12 @@ instance_after span b i = instance_with span (newest_on b i.number) i
 abbrev pub length_after : Span → ℕ → ℕ → ℕ
 length_after Round took before = took
 length_after (Between milliseconds) took before = before
+
+-- whether a round that took this long took longer than its interval, both in milliseconds; an interval of 0 is none
+abbrev pub is_overrun : (took interval : ℕ) → Bool
+is_overrun took interval = nat_lt 0 interval && nat_lt interval took
+
+-- how many rounds took longer than their interval, after one more round or the time between two
+abbrev pub overruns_after : Span → (took interval before : ℕ) → ℕ
+overruns_after Round took interval before = if is_overrun took interval then counted_on before 1 else before
+overruns_after (Between milliseconds) took interval before = before

@@ -2,7 +2,7 @@
 
 ghost use Rattle.std.specs.Prelude.{◌≡◌, ◌≤◌, IfOk, None, get_or, false, length, map};
 ghost use Rattle.mon_rounds.specs.Course.{counted_on};
-ghost use Rattle.mon_rounds.specs.Freshness.{age_after, count_on, gave_up_by, has_answered, instance_after, instance_with, is_given_up_by, is_late, is_same, last_refusal, length_after, new_instance, new_instances, new_peer, new_target, newest_on, numbered, older, peer_after, refusal_after, refusal_with, row_after, seconds_since, target_after, target_with, up_after};
+ghost use Rattle.mon_rounds.specs.Freshness.{age_after, count_on, fields_of, gave_up_by, has_answered, have_same, instance_after, instance_with, is_given_up_by, is_late, is_overrun, is_same, last_refusal, length_after, new_instance, new_instances, new_peer, new_target, newest_on, numbered, older, overruns_after, peer_after, refusal_after, refusal_with, row_after, seconds_since, target_after, target_with, up_after};
 
 use crate::addresses::Addresses;
 use crate::clock::{Clock, clock_after};
@@ -10,6 +10,7 @@ use crate::late::{LateRow, count_late, late_after};
 use crate::reporting::{Notice, RoundReport};
 use crate::round::Span;
 use mon_board::Board;
+use mon_sample::Sample;
 use mon_station::{StationFault, TargetStamp};
 use mon_udp::Addr;
 use std::alloc::{AllocError, Global};
@@ -84,6 +85,17 @@ pub struct PeerAge {
     pub often: u32,
 }
 
+/// The fields of a sample. Equal samples, and only they, have equal fields.
+#[derive(Clone, Copy, Debug)]
+pub struct SampleFields {
+    pub value: u64,
+    pub time: u32,
+    pub boots: u32,
+    pub discontinuity: u32,
+    /// The tag of its kind.
+    pub tag: u8,
+}
+
 /// How long ago an instance had a new sample.
 #[derive(Clone, Copy, Debug)]
 pub struct InstanceAge {
@@ -91,8 +103,8 @@ pub struct InstanceAge {
     pub number: u16,
     /// The number of the target that is polled for it, from 0.
     pub target: Option<u16>,
-    /// The octets of its newest sample: equal samples, and only they, have equal octets.
-    pub newest: Option<[u8; 21]>,
+    /// The fields of its newest sample.
+    pub newest: Option<SampleFields>,
     /// How many whole rounds went by since its newest sample changed, or since the station's start;
     /// at most 2^32 - 1.
     pub rounds: u32,
@@ -107,6 +119,8 @@ pub struct Spell {
     pub ended: u64,
     /// How long it took, in milliseconds.
     pub took: u64,
+    /// How long a round may take, in milliseconds; 0 if rounds follow one another.
+    pub interval: u64,
 }
 
 /// How long ago targets answered, peers sent something and instances had a new sample, and what
@@ -118,6 +132,7 @@ pub struct Freshness {
     failed_saves: u64,
     strangers: u64,
     round_ms: u64,
+    overruns: u64,
 }
 
 // By hand: where one is let go, a proof has one call and not a drop of each field.
@@ -130,6 +145,7 @@ impl Drop for Freshness {
             failed_saves: _,
             strangers: _,
             round_ms: _,
+            overruns: _,
         } = self;
     }
 }
@@ -150,6 +166,7 @@ impl Freshness {
         ensures failed_saves { IfOk result (λ f. f.failed_saves ≡ 0) }
         ensures strangers { IfOk result (λ f. f.strangers ≡ 0) }
         ensures round_ms { IfOk result (λ f. f.round_ms ≡ 0) }
+        ensures overruns { IfOk result (λ f. f.overruns ≡ 0) }
     {
         Ok(Freshness {
             targets: new_targets(alloc, addresses.targets.as_slice())?,
@@ -158,6 +175,7 @@ impl Freshness {
             failed_saves: 0,
             strangers: 0,
             round_ms: 0,
+            overruns: 0,
         })
     }
 
@@ -204,6 +222,13 @@ impl Freshness {
         self.round_ms
     }
 
+    /// Returns how many rounds took longer than the interval, at most 2^64 - 1.
+    pub fn overruns(&self) -> u64
+        ensures { result ≡ self.now.overruns }
+    {
+        self.overruns
+    }
+
     /// Adds what a round did, or the time after it, of which this is reported and that left this
     /// board.
     pub fn add(&mut self, spell: Spell, report: &RoundReport, board: &Board)
@@ -213,6 +238,7 @@ impl Freshness {
         ensures failed_saves { self.new.failed_saves ≡ counted_on self.old.failed_saves report.now.failed_saves }
         ensures strangers { self.new.strangers ≡ counted_on self.old.strangers report.now.strangers }
         ensures round_ms { self.new.round_ms ≡ length_after spell.span spell.took self.old.round_ms }
+        ensures overruns { self.new.overruns ≡ overruns_after spell.span spell.took spell.interval self.old.overruns }
     {
         add_to_targets(&mut self.targets, spell, report);
         add_to_peers(&mut self.peers, spell.span, report);
@@ -220,6 +246,7 @@ impl Freshness {
         self.failed_saves = self.failed_saves.saturating_add(report.failed_saves);
         self.strangers = self.strangers.saturating_add(u64::from(report.strangers));
         self.round_ms = length_after(spell, self.round_ms);
+        self.overruns = overruns_after(spell, self.overruns);
     }
 }
 
@@ -317,16 +344,29 @@ fn new_instance(board: &Board, number: u16, target: Option<u16>) -> InstanceAge
     }
 }
 
-/// The octets of the newest sample of the instance of this number.
-fn newest_on(board: &Board, number: u16) -> Option<[u8; 21]>
+/// The fields of the newest sample of the instance of this number.
+fn newest_on(board: &Board, number: u16) -> Option<SampleFields>
     ensures { result ≡ newest_on board.now number }
 {
     if usize::from(number) >= board.watch().instances().len() {
         return None;
     }
     match board.items(number).last() {
-        Some(sample) => Some(sample.to_record()),
+        Some(sample) => Some(fields_of(sample)),
         None => None,
+    }
+}
+
+/// Returns the fields of a sample.
+fn fields_of(sample: &Sample) -> SampleFields
+    ensures { result ≡ fields_of sample.now }
+{
+    SampleFields {
+        value: sample.value(),
+        time: sample.time(),
+        boots: sample.boots(),
+        discontinuity: sample.discontinuity(),
+        tag: sample.kind().tag(),
     }
 }
 
@@ -403,6 +443,29 @@ fn length_after(spell: Spell, before: u64) -> u64
 {
     match spell.span {
         Span::Round => spell.took,
+        Span::Between(_) => before,
+    }
+}
+
+/// Returns `true` if a round that took this long took longer than its interval, both in milliseconds.
+fn is_overrun(took: u64, interval: u64) -> bool
+    ensures { result ≡ is_overrun took interval }
+{
+    0 < interval && interval < took
+}
+
+/// How many rounds took longer than their interval.
+fn overruns_after(spell: Spell, before: u64) -> u64
+    ensures { result ≡ overruns_after spell.span spell.took spell.interval before }
+{
+    match spell.span {
+        Span::Round => {
+            if is_overrun(spell.took, spell.interval) {
+                before.saturating_add(1)
+            } else {
+                before
+            }
+        }
         Span::Between(_) => before,
     }
 }
@@ -563,12 +626,23 @@ fn instance_after(instance: InstanceAge, span: Span, board: &Board) -> InstanceA
 }
 
 /// Returns `true` if two samples, or none, are equal.
-fn is_same(one: Option<[u8; 21]>, other: Option<[u8; 21]>) -> bool
+fn is_same(one: Option<SampleFields>, other: Option<SampleFields>) -> bool
     ensures { result ≡ is_same one other }
 {
     match (one, other) {
         (None, None) => true,
-        (Some(one), Some(other)) => one == other,
+        (Some(one), Some(other)) => have_same(one, other),
         _ => false,
     }
+}
+
+/// Returns `true` if the fields of two samples are equal.
+fn have_same(one: SampleFields, other: SampleFields) -> bool
+    ensures { result ≡ have_same one other }
+{
+    one.value == other.value
+        && one.time == other.time
+        && one.boots == other.boots
+        && one.discontinuity == other.discontinuity
+        && one.tag == other.tag
 }

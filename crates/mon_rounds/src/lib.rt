@@ -31,7 +31,7 @@ pub use changes::{Change, Trouble, Troubles, other_engines};
 pub use clock::{Clock, Restart};
 pub use course::{Course, debts_of, is_due, left_of};
 pub use explaining::explain_stale;
-pub use freshness::{Freshness, InstanceAge, PeerAge, Spell, TargetAge};
+pub use freshness::{Freshness, InstanceAge, PeerAge, SampleFields, Spell, TargetAge};
 pub use grid::{milliseconds, next_start, phase_of};
 pub use late::LateRow;
 pub use polled::polled_targets;

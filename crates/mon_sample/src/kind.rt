@@ -57,7 +57,6 @@ impl Kind {
 
     /// Returns `true` if a value of this kind can be `value`. A negative INTEGER is given as the 64
     /// bits of its two's complement.
-    /// bits of its two's complement.
     pub fn holds(self, value: u64) -> bool
         ensures { result ≡ holds self value }
     {
@@ -67,6 +66,7 @@ impl Kind {
             Kind::Counter64 => true,
         }
     }
+
     /// The number that a value of this kind means: of an INTEGER it is signed.
     pub fn number(self, value: u64) -> i128
         ensures { result ≡ number_of self value }

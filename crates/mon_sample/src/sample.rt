@@ -116,7 +116,7 @@ impl Sample {
         if self.boots != other.boots || self.discontinuity != other.discontinuity {
             return false;
         }
-        self.kind.tag() == other.kind.tag()
+        self.kind == other.kind
     }
 
     /// The order of the two samples' records, octet by octet: the newer is the greater.

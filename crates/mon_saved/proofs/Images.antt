@@ -22,7 +22,7 @@ use Rattle.mon_saved.specs.Image.{ImageVersion, IsVersion, One, Two, entry_octet
 use Rattle.mon_saved.proofs.Shared.{fits_epoch_from, fits_epoch_when}
 use Rattle.mon_saved.specs.Reading.{lifted, octet_within, expected_at, numbers_are, instance_is, sizes_at, fits_epoch, saved_at, entry_at, entries_at, magic_at, incarnation_at, window_at, header_at, all_entries, image_at, Fails, Gives}
 
-lifted_ok : {A : Type 0} (r : Result A LayoutFault) (x : A) → lifted r ≡ Ok x → r ≡ Ok x
+pub lifted_ok : {A : Type 0} (r : Result A LayoutFault) (x : A) → lifted r ≡ Ok x → r ≡ Ok x
 lifted_ok (Ok y) x e = ap (λ z. Ok z) (ok_is y x e)
 lifted_ok (Err d) x e = absurd cc
 
@@ -43,12 +43,12 @@ within_takes least most f octets n rest e =
       subst (λ (k : ℕ). k ≤ most) p.0 (ltb-false most b.0.0 o.1),
     )
 
-within_again : (least most : ℕ) (f : ImageFault) (n : ℕ) (rest : List ℕ) → least ≤ n → n ≤ most → octet_within least most f (n ∷ rest) ≡ Ok (n, rest)
+pub within_again : (least most : ℕ) (f : ImageFault) (n : ℕ) (rest : List ℕ) → least ≤ n → n ≤ most → octet_within least most f (n ∷ rest) ≡ Ok (n, rest)
 unfolding octet_within
 within_again least most f n rest low high = rw (octet_again n rest, le-ltb n least low, le-ltb most n high) refl
 
 -- ---- what is expected
-expected_takes : (want octets rest : List ℕ) → expected_at want octets ≡ Ok rest → octets ≡ want ++ rest
+pub expected_takes : (want octets rest : List ℕ) → expected_at want octets ≡ Ok rest → octets ≡ want ++ rest
 unfolding expected_at
 expected_takes want octets rest e =
     let f = bind_ok (lifted (field_at (length want) octets)) (λ field. if pointwise nat_eq field.0 want then Ok field.1 else Err OtherWatch) rest e in
@@ -62,11 +62,11 @@ same xs = elim (cases_Bool (pointwise nat_eq xs xs)) [
   | inr differ ↦ absurd (other_text xs xs (sym differ) refl)
 ]
 
-expected_again : (want rest : List ℕ) → expected_at want (want ++ rest) ≡ Ok rest
+pub expected_again : (want rest : List ℕ) → expected_at want (want ++ rest) ≡ Ok rest
 unfolding expected_at
 expected_again want rest = rw (field_again want rest, same want) refl
 
-numbers_take : (numbers octets rest : List ℕ) → numbers_are numbers octets ≡ Ok rest → octets ≡ numbers_octets numbers ++ rest
+pub numbers_take : (numbers octets rest : List ℕ) → numbers_are numbers octets ≡ Ok rest → octets ≡ numbers_octets numbers ++ rest
 unfolding numbers_are
 numbers_take [] octets rest e = ok_is octets rest e
 numbers_take (n ∷ numbers) octets rest e =
@@ -74,7 +74,7 @@ numbers_take (n ∷ numbers) octets rest e =
     expected_takes (to_be_bytes w32 n) octets x.0 x.1 ∙ ap (λ (v : List ℕ). to_be_bytes w32 n ++ v) (numbers_take numbers x.0 rest x.2)
     ∙ sym (append_assoc (to_be_bytes w32 n) (numbers_octets numbers) rest) ∙ ap (λ (v : List ℕ). v ++ rest) (sym (flat_map-cons (to_be_bytes w32) n numbers))
 
-numbers_again : (numbers rest : List ℕ) → numbers_are numbers (numbers_octets numbers ++ rest) ≡ Ok rest
+pub numbers_again : (numbers rest : List ℕ) → numbers_are numbers (numbers_octets numbers ++ rest) ≡ Ok rest
 unfolding numbers_are
 numbers_again [] rest = refl
 numbers_again (n ∷ numbers) rest =
@@ -85,7 +85,7 @@ instance_split : (engine name rest : List ℕ) → instance_octets engine name +
 unfolding instance_octets
 instance_split engine name rest = ap (λ (v : List ℕ). length engine ∷ v) (append_assoc engine (length name ∷ numbers_octets name) rest)
 
-instance_takes : (i : Instance) (octets rest : List ℕ) → instance_is i octets ≡ Ok rest → octets ≡ instance_octets i.engine i.name ++ rest
+pub instance_takes : (i : Instance) (octets rest : List ℕ) → instance_is i octets ≡ Ok rest → octets ≡ instance_octets i.engine i.name ++ rest
 unfolding instance_is
 instance_takes i octets rest e =
     let a = bind_ok (expected_at (length i.engine ∷ []) octets) _ rest e in
@@ -97,7 +97,7 @@ instance_takes i octets rest e =
     ∙ ap (λ (v : List ℕ). length i.engine ∷ v) (expected_takes i.engine a.0 b.0 b.1 ∙ ap (λ (v : List ℕ). i.engine ++ v) (expected_takes two b.0 c.0 c.1 ∙ ap (λ (v : List ℕ). length i.name ∷ v) (numbers_take i.name c.0 rest c.2)))
     ∙ sym (instance_split i.engine i.name rest)
 
-instance_again : (i : Instance) (rest : List ℕ) → instance_is i (instance_octets i.engine i.name ++ rest) ≡ Ok rest
+pub instance_again : (i : Instance) (rest : List ℕ) → instance_is i (instance_octets i.engine i.name ++ rest) ≡ Ok rest
 unfolding instance_is
 instance_again i rest =
     let one : List ℕ = length i.engine ∷ [] in
@@ -164,7 +164,7 @@ body i w e octets x rest b some small epoch part h =
     t ∙ ap (λ (v : List ℕ). instance_octets i.engine i.name ++ v) (u.0 ∙ ap (λ (v : List ℕ). length s.0.0 ∷ samples_octets s.0.0 ++ v) p.1) in
     subst (λ (y : Entry). (octets ≡ instance_octets i.engine i.name ++ (length y.samples ∷ samples_octets y.samples ++ rest)) × IsEntry y × (y.window ≡ w) × (y.epoch ≡ e)) p.0 (laid, valid, refl, refl)
 
-sizes_one : (w : ℕ) (octets : List ℕ) (s : (ℕ × ℕ) × List ℕ) → 1 ≤ w → sizes_at w octets ≡ Ok s → (octets ≡ s.1) × (s.0.0 ≡ w) × (s.0.1 ≡ w)
+pub sizes_one : (w : ℕ) (octets : List ℕ) (s : (ℕ × ℕ) × List ℕ) → 1 ≤ w → sizes_at w octets ≡ Ok s → (octets ≡ s.1) × (s.0.0 ≡ w) × (s.0.1 ≡ w)
 unfolding sizes_at
 sizes_one w octets s some e =
     let made : (ℕ × ℕ) × List ℕ = ((w, w), octets) in
@@ -173,7 +173,7 @@ sizes_one w octets s some e =
       | inr other ↦ absurd (let none = ltb-false 0 w other.0 in omega (arith, none, some))
     ]
 
-sizes_two : (octets : List ℕ) (s : (ℕ × ℕ) × List ℕ) → sizes_at 0 octets ≡ Ok s → (octets ≡ s.0.0 ∷ s.0.1 ∷ s.1) × (1 ≤ s.0.0) × (s.0.0 ≤ 64) × (1 ≤ s.0.1) × (s.0.1 ≤ s.0.0)
+pub sizes_two : (octets : List ℕ) (s : (ℕ × ℕ) × List ℕ) → sizes_at 0 octets ≡ Ok s → (octets ≡ s.0.0 ∷ s.0.1 ∷ s.1) × (1 ≤ s.0.0) × (s.0.0 ≤ 64) × (1 ≤ s.0.1) × (s.0.1 ≤ s.0.0)
 unfolding sizes_at
 sizes_two octets s e =
     let w = bind_ok (octet_within 1 64 BadImage octets) _ s e in
@@ -185,7 +185,7 @@ sizes_two octets s e =
     subst (λ (y : (ℕ × ℕ) × List ℕ). (octets ≡ y.0.0 ∷ y.0.1 ∷ y.1) × (1 ≤ y.0.0) × (y.0.0 ≤ 64) × (1 ≤ y.0.1) × (y.0.1 ≤ y.0.0)) q
     (t.0 ∙ ap (λ (v : List ℕ). w.0.0 ∷ v) u.0, t.1, t.2, u.1, u.2)
 
-entry_takes : (v : ImageVersion) → IsVersion v → (i : Instance) (octets : List ℕ) (x : Entry) (rest : List ℕ) → IsBytes octets → entry_at (one_window v) i octets ≡ Ok (x, rest)
+pub entry_takes : (v : ImageVersion) → IsVersion v → (i : Instance) (octets : List ℕ) (x : Entry) (rest : List ℕ) → IsBytes octets → entry_at (one_window v) i octets ≡ Ok (x, rest)
     → (octets ≡ entry_octets v i x ++ rest) × IsEntry x × HasSizes v x
 unfolding entry_at entry_octets
 entry_takes (One w) good i octets x rest b e =
@@ -207,7 +207,7 @@ entry_takes Two good i octets x rest b e =
 abbrev more_of : Entry → List Entry × List ℕ → Result (List Entry × List ℕ) ImageFault
 more_of x ys = Ok (x ∷ ys.0, ys.1)
 
-entries_take : (v : ImageVersion) → IsVersion v → (instances : List Instance) (octets : List ℕ) (xs : List Entry) (rest : List ℕ) → IsBytes octets → entries_at (one_window v) instances octets ≡ Ok (xs, rest)
+pub entries_take : (v : ImageVersion) → IsVersion v → (instances : List Instance) (octets : List ℕ) (xs : List Entry) (rest : List ℕ) → IsBytes octets → entries_at (one_window v) instances octets ≡ Ok (xs, rest)
     → (octets ≡ entries_octets v instances xs ++ rest) × (length xs ≡ length instances) × AllByRecursion IsEntry xs × AllByRecursion (HasSizes v) xs
 unfolding entries_at
 entries_take v good [] octets xs rest b e =
@@ -292,7 +292,7 @@ made_head j w r = Ok ((j, w), r)
 abbrev made_image : ℕ → List Entry → Image
 made_image j xs = record { incarnation = j; entries = xs }
 
-nothing : (octets : List ℕ) → length octets ≡ 0 → octets ≡ []
+pub nothing : (octets : List ℕ) → length octets ≡ 0 → octets ≡ []
 nothing [] e = refl
 nothing (b ∷ octets) e = absurd (omega (arith, e))
 

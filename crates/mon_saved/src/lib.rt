@@ -16,5 +16,7 @@ pub use fault::ImageFault;
 pub use filling::read_image;
 pub use image::{Entries, Entry, Image};
 pub use kept::KeptImage;
-pub use reading::read;
+pub use reading::{
+    Sizes, incarnation_at, magic_at, octet_within, read, saved_at, sizes_at, window_at,
+};
 pub use writing::{image_size, write_image, write_within};

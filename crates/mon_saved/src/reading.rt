@@ -17,16 +17,21 @@ use mon_fields::{Reader, SampleList};
 use mon_sample::Sample;
 use std::alloc::Global;
 
-/// The window and the epoch of an instance.
+/// The sizes of an instance's window.
 #[derive(Clone, Copy)]
-struct Sizes {
-    window: u8,
-    epoch: u8,
+pub struct Sizes {
+    /// How many samples it holds, 1 to 64.
+    pub window: u8,
+    /// How many of these may have one boots number, 1 to the window.
+    pub epoch: u8,
 }
 
-/// Reads an octet from `least` to `most`, else the fault.
+/// Reads an octet from `least` to `most`.
+///
+/// # Errors
+/// `Truncated` if there is none, and the fault if it is another.
 #[tactic(auto, unfolding(crate::specs::Reading::octet_within))]
-fn octet_within(
+pub fn octet_within(
     least: u8,
     most: u8,
     fault: ImageFault,
@@ -43,8 +48,11 @@ fn octet_within(
 }
 
 /// Reads the letters MI.
+///
+/// # Errors
+/// `Truncated`, and `BadImage` for other octets.
 #[tactic(auto, unfolding(crate::specs::Reading::magic_at))]
-fn magic_at(reader: &mut Reader<'_>) -> Result<(), ImageFault>
+pub fn magic_at(reader: &mut Reader<'_>) -> Result<(), ImageFault>
     ensures { Gives (λ _. reader.new) result (magic_at reader.old) }
 {
     octet_within(b'M', b'M', ImageFault::BadImage, reader)?;
@@ -53,8 +61,11 @@ fn magic_at(reader: &mut Reader<'_>) -> Result<(), ImageFault>
 }
 
 /// Reads an incarnation, which is not 0.
+///
+/// # Errors
+/// `Truncated`, and `BadImage` for 0.
 #[tactic(auto, unfolding(crate::specs::Reading::incarnation_at))]
-fn incarnation_at(reader: &mut Reader<'_>) -> Result<u32, ImageFault>
+pub fn incarnation_at(reader: &mut Reader<'_>) -> Result<u32, ImageFault>
     ensures { Gives (λ number. (number, reader.new)) result (incarnation_at reader.old) }
 {
     let number = reader.number()?;
@@ -64,9 +75,12 @@ fn incarnation_at(reader: &mut Reader<'_>) -> Result<u32, ImageFault>
     Ok(number)
 }
 
-/// Reads the one window of version 1; 0 in version 2.
+/// Reads the one window of version 1, 1 to 64; returns 0 in version 2.
+///
+/// # Errors
+/// `Truncated`, and `BadImage` for another window.
 #[tactic(auto, unfolding(crate::specs::Reading::window_at))]
-fn window_at(version: u8, reader: &mut Reader<'_>) -> Result<u8, ImageFault>
+pub fn window_at(version: u8, reader: &mut Reader<'_>) -> Result<u8, ImageFault>
     ensures { Gives (λ window. (window, reader.new)) result (window_at version reader.old) }
 {
     if version == 1 {
@@ -111,8 +125,11 @@ fn instance_is(instance: &Instance, reader: &mut Reader<'_>) -> Result<(), Image
 }
 
 /// Reads the window and the epoch of an instance: the one window, or two octets if that is 0.
+///
+/// # Errors
+/// `Truncated`, and `BadImage` if one is out of its range.
 #[tactic(auto, unfolding(crate::specs::Reading::sizes_at))]
-fn sizes_at(window: u8, reader: &mut Reader<'_>) -> Result<Sizes, ImageFault>
+pub fn sizes_at(window: u8, reader: &mut Reader<'_>) -> Result<Sizes, ImageFault>
     ensures { Gives (λ x. ((x.window, x.epoch), reader.new)) result (sizes_at window reader.old) }
 {
     if window > 0 {
@@ -140,9 +157,17 @@ fn fits_epoch(samples: &[Sample], epoch: usize) -> bool
     true
 }
 
-/// Reads samples that fit the window and the epoch.
+/// Reads samples that fit the window and the epoch. They take one allocation.
+///
+/// # Errors
+/// `Truncated`, `OutOfMemory`, and `BadImage` if a sample is none or does not rise, or if there are
+/// too many, in all or of one boots number.
 #[tactic(auto, unfolding(crate::specs::Reading::saved_at))]
-fn saved_at(alloc: Global, sizes: Sizes, reader: &mut Reader<'_>) -> Result<SampleList, ImageFault>
+pub fn saved_at(
+    alloc: Global,
+    sizes: Sizes,
+    reader: &mut Reader<'_>,
+) -> Result<SampleList, ImageFault>
     ensures { Gives (λ samples. (samples, reader.new)) result (saved_at (sizes.window, sizes.epoch) reader.old) }
 {
     let count = octet_within(0, sizes.window, ImageFault::BadImage, reader)?;

@@ -8,6 +8,7 @@ pub mod Made
 pub mod Peers
 pub mod Percentages
 pub mod Refusals
+pub mod Renewed
 pub mod Sequences
 pub mod Sizes
 pub mod Trials

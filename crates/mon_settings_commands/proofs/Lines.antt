@@ -6,7 +6,7 @@ use Rattle.std.specs.Result.{result_ok}
 use Rattle.std.specs.declared.alloc.AllocError.{AllocError}
 use Rattle.mon_console.specs.Failure.{HasLine}
 use Rattle.mon_survey.specs.declared.fault.SurveyFault.{SurveyFault}
-use Rattle.mon_survey.specs.declared.fault.SurveyFault.TheVariants.{OutOfMemory, NoEngine, NotRising, BadIndex, NoCounter, TooMany, BadText, Refused, Misread, SameEngine, TooManyTargets, BadLabels, TooManyInterfaces, EngineChanged}
+use Rattle.mon_survey.specs.declared.fault.SurveyFault.TheVariants.{OutOfMemory, NoEngine, NotRising, BadIndex, NoCounter, TooMany, BadText, Refused, Misread, SameEngine, TooManyTargets, BadLabels, TooManyInterfaces, EngineChanged, OtherEngine}
 use Rattle.mon_settings_commands.specs.Settings.{labels_words}
 
 -- pieces of a text, nested to the right as `format!` makes them
@@ -49,6 +49,7 @@ other_words (TooManyTargets n) misread same many = refl
 other_words BadLabels misread same many = refl
 other_words (TooManyInterfaces n) misread same many = absurd (many n refl)
 other_words EngineChanged misread same many = refl
+other_words OtherEngine misread same many = refl
 
 -- a line that was made, or no memory for it
 pub has_line : (made : Result (String Global) AllocError) (text : List ℕ) (more : Option (String Global)) → IfOk made (λ t. string_bytes t ≡ text)

@@ -14,6 +14,7 @@ use Rattle.mon_settings_commands.specs.Parts.{AreParts}
 use Rattle.mon_settings_commands.specs.Fitting.{AreFitting}
 use Rattle.mon_settings_commands.specs.Settings.{AreLabels, IsDraftPrinted, IsSettingsOf}
 use Rattle.mon_settings_commands.specs.Source.{Source}
+use Rattle.mon_settings_commands.specs.Updated.{AreKnown, AreLines, IsApart, IsChanged, IsUpdatedOf}
 use Rattle.mon_settings_commands.specs.declared.asking.Survey.{Survey}
 use Rattle.mon_settings_commands.specs.declared.existing.Existing.{Existing}
 use Rattle.mon_settings_commands.specs.declared.settings.Asked.{Asked}
@@ -60,6 +61,22 @@ abbrev pub AreSettingsFor : Agents → SettingsArgs → Asked → Option (List �
 AreSettingsFor agents words asked None = AreNewSettings agents words asked
 AreSettingsFor agents words asked (Some path) = AreLongerSettings agents words asked path
 
+-- settings that are there with the agent's interfaces as they are now, whose polls are tried before anything is replaced or printed
+abbrev pub IsUpdatedBy : Agents → Source → Existing → List ℕ → List AtHost → Result Unit Failure → Type 0
+IsUpdatedBy agents s existing old = Then (Quietly (AreKnown s old)) (λ known. Then (Quietly (AreLines s existing known.items)) (λ lines.
+    Then (Quietly (AreFitting agents s.asked (IsUpdatedOf s existing known.items))) (λ drafted. IsChanged s existing known.items old lines drafted)))
+
+-- Settings that are brought up to date: they and the old labels are read before the agent is asked.
+abbrev pub AreUpdatedSettings : Agents → SettingsArgs → Asked → List ℕ → List AtHost → Result Unit Failure → Type 0
+AreUpdatedSettings agents words asked path = Then (Quietly (IsApart words)) (λ done. Then (IsExisting path) (λ existing.
+    Then (AreOldLabels (option_copied words.labels)) (λ old. Then (IsAsking agents asked) (λ survey.
+    IsUpdatedBy agents (source words asked existing.names survey) existing (string_bytes old)))))
+
+-- settings that are brought up to date, or others
+abbrev pub AreSettingsBy : Agents → SettingsArgs → Asked → Option (List ℕ) → List AtHost → Result Unit Failure → Type 0
+AreSettingsBy agents words asked None = AreSettingsFor agents words asked (option_copied words.append)
+AreSettingsBy agents words asked (Some path) = AreUpdatedSettings agents words asked path
+
 -- The command: its arguments are read before anything is done.
 abbrev pub AreSettings : Agents → SettingsArgs → List AtHost → Result Unit Failure → Type 0
-AreSettings agents words = Then (Quietly (IsAsked words)) (λ asked. AreSettingsFor agents words asked (option_copied words.append))
+AreSettings agents words = Then (Quietly (IsAsked words)) (λ asked. AreSettingsBy agents words asked (option_copied words.update))

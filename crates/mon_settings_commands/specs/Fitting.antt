@@ -10,19 +10,22 @@ use Rattle.mon_settings_commands.specs.Appended.{IsAppendedOf}
 use Rattle.mon_settings_commands.specs.Settings.{IsSettingsOf, up_of}
 use Rattle.mon_settings_commands.specs.Source.{Source}
 use Rattle.mon_settings_commands.specs.Tried.{IsTrial, is_too_big}
+use Rattle.mon_settings_commands.specs.Updated.{IsUpdatedOf}
 use Rattle.mon_settings_commands.specs.declared.settings.Asked.{Asked}
 use Rattle.mon_settings_commands.specs.declared.trying.Wish.{Wish}
-use Rattle.mon_settings_commands.specs.declared.trying.Wish.TheVariants.{Longer, New}
+use Rattle.mon_settings_commands.specs.declared.trying.Wish.TheVariants.{Longer, New, Updated}
 
 -- ports can be counted up so far
 abbrev pub IsWish : Wish → Type 0
 IsWish (New group) = up_of group < 65536
 IsWish (Longer existing) = Unit {0}
+IsWish (Updated news) = Unit {0}
 
--- new settings, or those that are there with more targets
+-- new settings, or those that are there with more targets, or up to date
 abbrev pub IsDraft : Source → Wish → TargetSize → Result Drafted Failure → Type 0
 IsDraft s (New group) size = IsSettingsOf s group size
 IsDraft s (Longer existing) size = IsAppendedOf s existing.now size
+IsDraft s (Updated news) size = IsUpdatedOf s news.existing.now news.known.now size
 
 -- settings by targets of this size were drafted, and their polls came to this when they were tried
 pub record IsDraftTried (agents : Agents) (asked : Asked) (Draft : TargetSize → Result Drafted Failure → Type 0) (size : TargetSize) (drafted : Drafted) (came : Result Unit Failure) : Type 0 where

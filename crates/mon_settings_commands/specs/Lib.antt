@@ -15,4 +15,5 @@ pub mod Source
 pub mod Surveyed
 pub mod Texts
 pub mod Tried
+pub mod Updated
 pub mod Walked

@@ -15,7 +15,7 @@ use std::alloc::Global;
 pub(crate) struct Existing {
     text: String,
     pub(crate) names: Names,
-    station: StationSettings,
+    pub(crate) station: StationSettings,
 }
 
 // By hand: where one is let go, a proof has one call and not a drop of each field.

@@ -160,6 +160,17 @@ pub(crate) fn together_failure(alloc: Global) -> Failure
     Failure::said(Fault::App(AppFault::BadText), more)
 }
 
+/// Why settings that are brought up to date are asked for with other options.
+pub(crate) fn apart_failure(alloc: Global) -> Failure
+    ensures { result.fault ≡ Fault.App AppFault.BadText }
+{
+    let more: Result<String, AllocError> = String::from_str(
+        alloc,
+        "--update goes with neither --append, --split nor --module: names are shown as in the settings",
+    );
+    Failure::said(Fault::App(AppFault::BadText), more)
+}
+
 /// Why a file of settings is not written: something is at its path.
 pub(crate) fn taken_failure(alloc: Global, path: &str) -> Failure
     ensures { IsTaken path.now result }

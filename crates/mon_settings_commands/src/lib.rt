@@ -10,6 +10,7 @@ mod noting;
 mod parts;
 mod settings;
 mod trying;
+mod updating;
 mod words;
 
 pub use settings::print_settings;

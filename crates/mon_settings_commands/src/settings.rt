@@ -1,15 +1,16 @@
 //! The command `settings`: asks an agent for its engine, walks its tables of interfaces, and prints the
 //! settings of a station that polls it.
 
-ghost use Rattle.std.specs.Prelude.{◌≡◌, ◌<◌, ◌≤◌, [], IfErr, IfOk, OnOk, string_bytes};
+ghost use Rattle.std.specs.Prelude.{◌≡◌, ◌<◌, ◌≤◌, [], IfErr, IfOk, OnOk, option_copied, string_bytes};
 ghost use Rattle.mon_app.specs.Network.{agents_by};
 ghost use Rattle.mon_host.specs.Log.{GoesOnBy};
 ghost use Rattle.mon_settings_commands.specs.Appended.{IsAlone, IsAppendedOf, IsLonger, IsPutLonger};
 ghost use Rattle.mon_settings_commands.specs.Asked.{IsAsked};
-ghost use Rattle.mon_settings_commands.specs.Command.{AreLongerSettings, AreNewSettings, AreNewTexts, ArePutTexts, AreSettings, IsWhole};
+ghost use Rattle.mon_settings_commands.specs.Command.{AreLongerSettings, AreNewSettings, AreNewTexts, ArePutTexts, AreSettings, AreSettingsFor, IsWhole};
 ghost use Rattle.mon_settings_commands.specs.Settings.{IsDraftPrinted, IsSettingsOf, up_of};
 ghost use Rattle.mon_settings_commands.specs.Source.{source_in};
 ghost use Rattle.mon_settings_commands.specs.Texts.{AreTexts, IsOfOptions};
+ghost use Rattle.mon_settings_commands.specs.Updated.{IsUpdatedOf, IsUpdatedOn};
 
 use crate::asking::{Survey, ask_agent};
 use crate::existing::{Existing, existing_in};
@@ -18,6 +19,7 @@ use crate::labelling::{old_labels, write_labels};
 use crate::noting::{note_speeds, print_noted};
 use crate::parts::write_parts;
 use crate::trying::{Wish, fit};
+use crate::updating::print_updated;
 use crate::words::{
     given_or, kinds_of, percent_of, put_address, put_file, put_peers, require_peers,
 };
@@ -26,7 +28,9 @@ use mon_cli::SettingsArgs;
 use mon_console::{AgentAt, Failure, agent_at, community, names_of};
 use mon_host::Host;
 use mon_smi::Names;
-use mon_survey::{Choice, Drafted, Kinds, Options, Peer, Surveyed, TargetSize, append, settings};
+use mon_survey::{
+    Choice, Drafted, Kinds, Known, Options, Peer, Surveyed, TargetSize, append, settings, update,
+};
 use std::alloc::Global;
 
 /// Where a station listens if the arguments do not say.
@@ -36,7 +40,8 @@ const LISTEN: &str = "0.0.0.0:16101";
 const FILE: &str = "station.mon";
 
 /// Prints the settings of a station that polls the agent that the arguments name, writes those of
-/// several stations, or prints settings that are there with the agent's targets at their end. Nothing
+/// several stations, or prints settings that are there with the agent's targets at their end, or with
+/// its interfaces as they are now. Nothing
 /// is printed or written unless all was answered, each text was read back, and the agent answered a poll
 /// of each target that polls it. Of each text a line on
 /// standard error says how long a round takes at most, by what was read back.
@@ -51,15 +56,36 @@ pub fn print_settings<N: Opens, H: Host>(
         (H.log host.old) (H.log host.new) }
 {
     let asked = asked_of(alloc, &words)?;
-    match words.append {
+    match words.update {
         Some(path) => {
             let addition = Addition {
                 words: &words,
                 path,
             };
+            print_updated(alloc, host, net, addition, asked)
+        }
+        None => print_others(alloc, host, net, &words, asked),
+    }
+}
+
+/// Prints settings that are there with the agent's targets at their end, or new ones.
+fn print_others<N: Opens, H: Host>(
+    alloc: Global,
+    host: &mut H,
+    net: &N,
+    words: &SettingsArgs<'_, '_>,
+    asked: Asked<'_>,
+) -> Result<(), Failure>
+    ensures { GoesOnBy (λ log. AreSettingsFor (agents_by (N.has_opened net.now) (N.has_failed net.now) N.Wire.told)
+        words.now asked.entry (option_copied words.now.append) log result)
+        (H.log host.old) (H.log host.new) }
+{
+    match words.append {
+        Some(path) => {
+            let addition = Addition { words, path };
             print_appended(alloc, host, net, addition, asked)
         }
-        None => print_new(alloc, host, net, &words, asked),
+        None => print_new(alloc, host, net, words, asked),
     }
 }
 
@@ -181,7 +207,11 @@ fn print_whole<N: Opens, H: Host>(
 }
 
 /// Prints settings, and says how long a round of them takes at most.
-fn print_drafted<H: Host>(alloc: Global, host: &mut H, drafted: &Drafted) -> Result<(), Failure>
+pub(crate) fn print_drafted<H: Host>(
+    alloc: Global,
+    host: &mut H,
+    drafted: &Drafted,
+) -> Result<(), Failure>
     ensures { GoesOnBy (λ log. IsDraftPrinted drafted.now log result)
         (H.log host.old) (H.log host.new) }
 {
@@ -189,11 +219,11 @@ fn print_drafted<H: Host>(alloc: Global, host: &mut H, drafted: &Drafted) -> Res
     print_noted(alloc, host, text, "these settings", drafted.longest)
 }
 
-/// What arguments say of settings to which targets are added, and the path of these settings.
+/// What arguments say of settings that are there, and the path of these settings.
 #[derive(Clone, Copy)]
-struct Addition<'m, 'a> {
-    words: &'m SettingsArgs<'m, 'a>,
-    path: &'m str,
+pub(crate) struct Addition<'m, 'a> {
+    pub(crate) words: &'m SettingsArgs<'m, 'a>,
+    pub(crate) path: &'m str,
 }
 
 /// Prints settings that are there with the agent's targets at their end.
@@ -481,6 +511,65 @@ fn appended_by(
         &existing.lent(),
         &ground.agent(),
         &options,
+        &ground.choice(None),
+    ) {
+        Ok(drafted) => Ok(drafted),
+        Err(fault) => Err(survey_failure(alloc, ground.asked.agent.word, fault)),
+    }
+}
+
+/// Settings that are there, and the names that the agent's interfaces had.
+#[derive(Clone, Copy)]
+pub(crate) struct News<'e> {
+    pub(crate) existing: &'e Existing,
+    pub(crate) known: &'e [Known],
+}
+
+/// Settings with the agent's interfaces as they are now, with targets of this size for new ones.
+pub(crate) fn updated(
+    alloc: Global,
+    ground: &Ground<'_, '_>,
+    news: News<'_>,
+    size: TargetSize,
+) -> Result<Drafted, Failure>
+    ensures { IsUpdatedOf (source_in ground.now) news.entry.existing.now news.entry.known.now size result }
+{
+    let texts = texts_of(alloc, ground.words, 0)?;
+    updated_by(alloc, ground, news, size, &texts)
+}
+
+/// Settings with the agent's interfaces as they are now, with these texts.
+fn updated_by(
+    alloc: Global,
+    ground: &Ground<'_, '_>,
+    news: News<'_>,
+    size: TargetSize,
+    texts: &Texts,
+) -> Result<Drafted, Failure>
+    requires { AreTexts ground.now.words.now 0 texts.now }
+    ensures { IsUpdatedOf (source_in ground.now) news.entry.existing.now news.entry.known.now size result }
+{
+    let words = ground.words;
+    let lent = lend(words.address, words.community, words.modules, texts, size);
+    let options = options_of(words, ground.asked.percent, lent);
+    updated_on(alloc, ground, news, &options)
+}
+
+/// Settings with the agent's interfaces as they are now, by these options.
+fn updated_on(
+    alloc: Global,
+    ground: &Ground<'_, '_>,
+    news: News<'_>,
+    options: &Options<'_>,
+) -> Result<Drafted, Failure>
+    requires { options.now.percent ≤ 100 }
+    ensures { IsUpdatedOn (source_in ground.now) news.entry.existing.now news.entry.known.now options.now result }
+{
+    match update(
+        alloc,
+        &news.existing.lent(),
+        &ground.renamed(news.known),
+        options,
         &ground.choice(None),
     ) {
         Ok(drafted) => Ok(drafted),

@@ -11,7 +11,7 @@ ghost use Rattle.mon_survey.specs.Size.{objects_in, sizes_from};
 use crate::asking::{Asker, exchange, open};
 use crate::existing::Existing;
 use crate::failing::poll_failure;
-use crate::settings::{Asked, Ground, appended, settings_of};
+use crate::settings::{Asked, Ground, News, appended, settings_of, updated};
 use mon_app::{AppFault, Asking, Opens, Wire};
 use mon_console::{Failure, Fault};
 use mon_poller::{Target, poll_names};
@@ -28,6 +28,8 @@ pub(crate) enum Wish<'e> {
     New(Option<u32>),
     /// Those that are there, with the agent's targets at their end.
     Longer(&'e Existing),
+    /// Those that are there, with the agent's interfaces as they are now, which had these names.
+    Updated(News<'e>),
 }
 
 /// Drafts settings and tries their polls: with the largest targets of this size and below that the
@@ -72,6 +74,7 @@ fn draft(
     match wish {
         Wish::New(group) => settings_of(alloc, ground, group, size),
         Wish::Longer(existing) => appended(alloc, ground, existing, size),
+        Wish::Updated(news) => updated(alloc, ground, news, size),
     }
 }
 

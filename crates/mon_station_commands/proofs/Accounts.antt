@@ -34,12 +34,12 @@ use Rattle.mon_rounds.specs.declared.round.Span.TheVariants.{Between, Round}
 use Rattle.mon_station.specs.declared.fault.StationFault.{StationFault}
 use Rattle.mon_station.specs.declared.fault.StationFault.TheVariants.{OutOfMemory}
 use Rattle.mon_station.specs.declared.running.Run.{Run}
-use Rattle.mon_station_commands.specs.Line.{noted}
+use Rattle.mon_file_commands.specs.Line.{AreNoted, noted}
 use Rattle.mon_station_commands.specs.Pace.{IsDate, IsPassed, IsStopped, IsWait}
 use Rattle.mon_station_commands.specs.Quiet.{AreQuiet}
 use Rattle.mon_station_commands.specs.Spans.{AreAlarms, AreChanges, AreTroubles, AreTroublesOf, IsAccount, IsAccountOf, IsNoReport, IsOfRun, IsOfSpan, IsReportOr, IsSavedAfter, IsSpan, IsSpanRun, IsTimedRun, IsUnsavedBy, is_round, round_after}
-use Rattle.mon_station_commands.specs.Steps.{IsSaidOf, IsTried, OrMemory}
-use Rattle.mon_station_commands.specs.Telling.{AreNoted, AreSaid, restart_lines, round_lines}
+use Rattle.mon_station_commands.specs.Steps.{IsSaidOf, IsTried}
+use Rattle.mon_station_commands.specs.Telling.{AreSaid, restart_lines, round_lines}
 use Rattle.mon_station_commands.specs.Troubles.{key_of, lines_before}
 use Rattle.mon_station_commands.specs.declared.live.Kept.{Kept}
 use Rattle.mon_station_commands.proofs.Quiets.{are_noted, are_quiet_as, are_quiet_on, are_said, is_told_more}

@@ -1,5 +1,5 @@
 -- Changes of trouble that are said.
-use Rattle.mon_station_commands.specs.Line.{Line}
+use Rattle.mon_file_commands.specs.Line.{AreNoted, Line}
 use Rattle.std.proofs.Common.{◌≡◌, ◌∙◌, ◌+◌, ◌++◌, ◌∷◌, ◌||◌, Bool, List, ℕ, [], ap, arith, length, map, option_map, refl, slice_get, subst, suc, sym, string_bytes, take, zero}
 use Rattle.std.proofs.lemmas.List.{length-map}
 use Rattle.std.proofs.lemmas.Option.{slice_get-map}
@@ -16,7 +16,7 @@ use Rattle.mon_host.proofs.Promised.{stays, weaker}
 use Rattle.mon_rounds.specs.declared.changes.Change.{Change}
 use Rattle.mon_rounds.specs.declared.freshness.Freshness.{Freshness}
 use Rattle.mon_station_commands.specs.Spans.{AreTroublesOf}
-use Rattle.mon_station_commands.specs.Telling.{AreNoted, text_lines}
+use Rattle.mon_station_commands.specs.Telling.{text_lines}
 use Rattle.mon_station_commands.specs.Troubles.{AreAllSaid, AreSomeSaid, AreTroublesSaid, IsText, KeyText, count_alike, joins, key_in, key_of, key_text, level_of, lines_before, lines_of, text_at, text_of, text_unless}
 use Rattle.mon_station_commands.specs.declared.troubles.Facts.{Facts}
 use Rattle.mon_station_commands.specs.declared.troubles.Key.{Key}

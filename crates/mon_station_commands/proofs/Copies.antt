@@ -8,7 +8,7 @@ use Rattle.mon_console.specs.declared.printing.Printing.{Printing}
 use Rattle.mon_formats.specs.Formats.{formatted}
 use Rattle.mon_formats.specs.declared.format.Format.{Format}
 use Rattle.mon_page.specs.declared.figures.Figures.{Figures}
-use Rattle.mon_station_commands.specs.Reporting.{entries_by}
+use Rattle.mon_file_commands.specs.Report.{entries_by}
 use Rattle.mon_station_commands.specs.Showing.{IsShown}
 use Rattle.mon_web.specs.Site.{View, with_texts}
 use Rattle.mon_web.specs.Texts.{Texts}

@@ -9,7 +9,7 @@ use Rattle.std.specs.declared.time.Instant.{Instant}
 use Rattle.std.specs.IoError.{error_kind}
 use Rattle.std.specs.Result.{result_ok}
 use Rattle.std.specs.declared.alloc.AllocError.{AllocError}
-use Rattle.mon_cli.specs.declared.meaning.Timing.{Timing}
+use Rattle.mon_cli.specs.declared.meaning.StationArgs.{StationArgs}
 use Rattle.mon_console.specs.Failure.{HasLine, IsMemory}
 use Rattle.mon_console.specs.declared.failure.Failure.{Failure}
 use Rattle.mon_console.specs.declared.printing.Printing.{Printing}
@@ -29,7 +29,8 @@ use Rattle.mon_station_commands.specs.Places.{AreSavedIf, IsFile, IsHad, IsLooke
 use Rattle.mon_station_commands.specs.Rounds.{IsRun, nothing_kept}
 use Rattle.mon_station_commands.specs.Station.{IsRunOf, IsSeen, IsStarted, IsUnseen, IsWebSaid, IsWhole}
 use Rattle.mon_station_commands.specs.Steps.{SomeOr, only}
-use Rattle.mon_station_commands.specs.Telling.{AreNoted, IsOpening, http_line, short_lines_of}
+use Rattle.mon_file_commands.specs.Line.{AreNoted}
+use Rattle.mon_station_commands.specs.Telling.{IsOpening, http_line, short_lines_of}
 use Rattle.mon_station_commands.specs.declared.live.Kept.{Kept}
 use Rattle.mon_station_commands.specs.declared.live.Paths.{Paths}
 use Rattle.mon_station_commands.specs.declared.live.Reports.{Reports}
@@ -230,9 +231,9 @@ started printing s at number targets peers r t0 t1 same_number same_targets same
     (subst (λ (n : ℕ). IsOpening number at (string_bytes s.file) n (length s.core.peers) printing log r) same_targets
     (subst (λ (l : List ℕ). IsOpening number at (string_bytes s.file) targets (length l) printing log r) same_peers is)))
 
-module _ (timing : Timing) (reports : Reports) (s : StationSettings) where
+module _ (words : StationArgs) (reports : Reports) (s : StationSettings) where
   abbrev Said : Option SocketAddr → State → List AtHost → Result Unit Failure → Type 0
-  Said web u = Then (IsWebSaid web) (λ (v : Unit {0}). IsRunOf timing reports)
+  Said web u = Then (IsWebSaid web) (λ (v : Unit {0}). IsRunOf words reports)
 
   abbrev Begun : SocketAddr → Option SocketAddr → Unit {0} → List AtHost → Result Unit Failure → Type 0
   Begun at web u = Then (IsStarted reports.printing s at) (Said web)
@@ -242,61 +243,61 @@ module _ (timing : Timing) (reports : Reports) (s : StationSettings) where
 
   -- nothing can be received
   unheard : (at : SocketAddr) (web : Option SocketAddr) (failure : Failure) (t : Option (List AtHost)) → IsNoSocket s.listen failure
-      → GoesOnBy (λ log. IsWhole timing reports s at web log (Err failure)) t t
+      → GoesOnBy (λ log. IsWhole words reports s at web log (Err failure)) t t
   unheard at web failure t why = then_fails Socket (Begun at web) failure t t (quietly {A = Unit {0}} (SomeOr (IsNoSocket s.listen)) (Err failure) t why)
 
   heard : (at : SocketAddr) (web : Option SocketAddr) (r : Result Unit Failure) (t0 t1 : Option (List AtHost)) → GoesOnBy (λ log. Begun at web tt log r) t0 t1
-      → GoesOnBy (λ log. IsWhole timing reports s at web log r) t0 t1
+      → GoesOnBy (λ log. IsWhole words reports s at web log r) t0 t1
   heard at web r t0 t1 rest = then_follows Socket (Begun at web) (Ok tt) r t0 t0 t1 (quietly {A = Unit {0}} (SomeOr (IsNoSocket s.listen)) (Ok tt) t0 tt) rest
 
   not_begun : (at : SocketAddr) (web : Option SocketAddr) (failure : Failure) (t0 t1 : Option (List AtHost))
-      → GoesOnBy (λ log. IsStarted reports.printing s at log (Err failure)) t0 t1 → GoesOnBy (λ log. IsWhole timing reports s at web log (Err failure)) t0 t1
+      → GoesOnBy (λ log. IsStarted reports.printing s at log (Err failure)) t0 t1 → GoesOnBy (λ log. IsWhole words reports s at web log (Err failure)) t0 t1
   not_begun at web failure t0 t1 none =
       heard at web (Err failure) t0 t1 (then_fails (IsStarted reports.printing s at) (Said web) failure t0 t1 none)
 
   begun : (at : SocketAddr) (web : Option SocketAddr) (state : State) (r : Result Unit Failure) (t0 t1 t2 t3 : Option (List AtHost))
       → GoesOnBy (λ log. IsStarted reports.printing s at log (Ok state)) t0 t1 → GoesOnBy (λ log. IsWebSaid web log (Ok tt)) t1 t2
-      → GoesOnBy (λ log. IsRunOf timing reports log r) t2 t3 → GoesOnBy (λ log. IsWhole timing reports s at web log r) t0 t3
+      → GoesOnBy (λ log. IsRunOf words reports log r) t2 t3 → GoesOnBy (λ log. IsWhole words reports s at web log r) t0 t3
   begun at web state r t0 t1 t2 t3 first said run =
       heard at web r t0 t3 (then_follows (IsStarted reports.printing s at) (Said web) (Ok state) r t0 t1 t3 first
-      (then_follows (IsWebSaid web) (λ (v : Unit {0}). IsRunOf timing reports) (Ok tt) r t1 t2 t3 said run))
+      (then_follows (IsWebSaid web) (λ (v : Unit {0}). IsRunOf words reports) (Ok tt) r t1 t2 t3 said run))
 
   -- the rounds of a station whose reports are those of its arguments
   pub run_of : (own : Reports) (before : Kept) (r : Result Unit Failure) (t0 t1 : Option (List AtHost)) → own.printing ≡ reports.printing
       → own.paths ≡ reports.paths → before ≡ nothing_kept
-      → GoesOnBy (λ log. IsRun timing own.printing own.paths before log r) t0 t1
-      → GoesOnBy (λ log. IsRunOf timing reports log r) t0 t1
+      → GoesOnBy (λ log. IsRun words own.printing own.paths before log r) t0 t1
+      → GoesOnBy (λ log. IsRunOf words reports log r) t0 t1
   run_of own before r t0 t1 printing out nothing run =
-      subst (λ (p : Printing). GoesOnBy (λ log. IsRun timing p reports.paths nothing_kept log r) t0 t1) printing
-      (subst (λ (o : Paths). GoesOnBy (λ log. IsRun timing own.printing o nothing_kept log r) t0 t1) out
-      (subst (λ (k : Kept). GoesOnBy (λ log. IsRun timing own.printing own.paths k log r) t0 t1) nothing run))
+      subst (λ (p : Printing). GoesOnBy (λ log. IsRun words p reports.paths nothing_kept log r) t0 t1) printing
+      (subst (λ (o : Paths). GoesOnBy (λ log. IsRun words own.printing o nothing_kept log r) t0 t1) out
+      (subst (λ (k : Kept). GoesOnBy (λ log. IsRun words own.printing own.paths k log r) t0 t1) nothing run))
 
   -- a station without HTTP
   module _ where
     abbrev Unseen : SocketAddr → List AtHost → Result Unit Failure → Type 0
-    Unseen at = IsWhole timing reports s at None
+    Unseen at = IsWhole words reports s at None
 
     pub unseen_unopened : (failure : Failure) (r : Result Unit Failure) (t0 t1 : Option (List AtHost)) → r ≡ Err failure
-        → GoesOnBy (λ log. IsUnseenOpened s log (Err failure)) t0 t1 → GoesOnBy (λ log. IsUnseen timing reports s log r) t0 t1
+        → GoesOnBy (λ log. IsUnseenOpened s log (Err failure)) t0 t1 → GoesOnBy (λ log. IsUnseen words reports s log r) t0 t1
     unseen_unopened failure r t0 t1 is none =
-        subst (λ (e : Result Unit Failure). GoesOnBy (λ log. IsUnseen timing reports s log e) t0 t1) (sym is) (then_fails (IsUnseenOpened s) Unseen failure t0 t1 none)
+        subst (λ (e : Result Unit Failure). GoesOnBy (λ log. IsUnseen words reports s log e) t0 t1) (sym is) (then_fails (IsUnseenOpened s) Unseen failure t0 t1 none)
 
     pub unseen_unheard : (at : SocketAddr) (failure : Failure) (r : Result Unit Failure) (t0 t1 : Option (List AtHost)) → r ≡ Err failure
-        → GoesOnBy (λ log. IsUnseenOpened s log (Ok at)) t0 t1 → IsNoSocket s.listen failure → GoesOnBy (λ log. IsUnseen timing reports s log r) t0 t1
+        → GoesOnBy (λ log. IsUnseenOpened s log (Ok at)) t0 t1 → IsNoSocket s.listen failure → GoesOnBy (λ log. IsUnseen words reports s log r) t0 t1
     unseen_unheard at failure r t0 t1 is before why =
-        subst (λ (e : Result Unit Failure). GoesOnBy (λ log. IsUnseen timing reports s log e) t0 t1) (sym is)
+        subst (λ (e : Result Unit Failure). GoesOnBy (λ log. IsUnseen words reports s log e) t0 t1) (sym is)
         (then_follows (IsUnseenOpened s) Unseen (Ok at) (Err failure) t0 t1 t1 before (unheard at None failure t1 why))
 
     pub unseen_unstarted : (at : SocketAddr) (failure : Failure) (r : Result Unit Failure) (t0 t1 t2 : Option (List AtHost)) → r ≡ Err failure
         → GoesOnBy (λ log. IsUnseenOpened s log (Ok at)) t0 t1 → GoesOnBy (λ log. IsStarted reports.printing s at log (Err failure)) t1 t2
-        → GoesOnBy (λ log. IsUnseen timing reports s log r) t0 t2
+        → GoesOnBy (λ log. IsUnseen words reports s log r) t0 t2
     unseen_unstarted at failure r t0 t1 t2 is before none =
-        subst (λ (e : Result Unit Failure). GoesOnBy (λ log. IsUnseen timing reports s log e) t0 t2) (sym is)
+        subst (λ (e : Result Unit Failure). GoesOnBy (λ log. IsUnseen words reports s log e) t0 t2) (sym is)
         (then_follows (IsUnseenOpened s) Unseen (Ok at) (Err failure) t0 t1 t2 before (not_begun at None failure t1 t2 none))
 
     pub unseen_run : (at : SocketAddr) (state : State) (r : Result Unit Failure) (t0 t1 t2 t3 : Option (List AtHost)) → GoesOnBy (λ log. IsUnseenOpened s log (Ok at)) t0 t1
-        → GoesOnBy (λ log. IsStarted reports.printing s at log (Ok state)) t1 t2 → GoesOnBy (λ log. IsRunOf timing reports log r) t2 t3
-        → GoesOnBy (λ log. IsUnseen timing reports s log r) t0 t3
+        → GoesOnBy (λ log. IsStarted reports.printing s at log (Ok state)) t1 t2 → GoesOnBy (λ log. IsRunOf words reports log r) t2 t3
+        → GoesOnBy (λ log. IsUnseen words reports s log r) t0 t3
     unseen_run at state r t0 t1 t2 t3 before first run =
         let silent : GoesOnBy (λ log. IsWebSaid None log (Ok tt)) t2 t2 = record { more = []; holds = (refl, refl); on = stays t2 } in
         then_follows (IsUnseenOpened s) Unseen (Ok at) r t0 t1 t3 before (begun at None state r t1 t2 t2 t3 first silent run)
@@ -304,29 +305,29 @@ module _ (timing : Timing) (reports : Reports) (s : StationSettings) where
   -- a station with HTTP
   module _ (door : Addr) where
     abbrev Seen : SocketAddr × SocketAddr → List AtHost → Result Unit Failure → Type 0
-    Seen both = IsWhole timing reports s both.0 (Some both.1)
+    Seen both = IsWhole words reports s both.0 (Some both.1)
 
     pub seen_unopened : (failure : Failure) (r : Result Unit Failure) (t0 t1 : Option (List AtHost)) → r ≡ Err failure
-        → GoesOnBy (λ log. IsShownOpened s door log (Err failure)) t0 t1 → GoesOnBy (λ log. IsSeen door timing reports s log r) t0 t1
+        → GoesOnBy (λ log. IsShownOpened s door log (Err failure)) t0 t1 → GoesOnBy (λ log. IsSeen door words reports s log r) t0 t1
     seen_unopened failure r t0 t1 is none =
-        subst (λ (e : Result Unit Failure). GoesOnBy (λ log. IsSeen door timing reports s log e) t0 t1) (sym is) (then_fails (IsShownOpened s door) Seen failure t0 t1 none)
+        subst (λ (e : Result Unit Failure). GoesOnBy (λ log. IsSeen door words reports s log e) t0 t1) (sym is) (then_fails (IsShownOpened s door) Seen failure t0 t1 none)
 
     pub seen_unheard : (at web : SocketAddr) (failure : Failure) (r : Result Unit Failure) (t0 t1 : Option (List AtHost)) → r ≡ Err failure
-        → GoesOnBy (λ log. IsShownOpened s door log (Ok (at, web))) t0 t1 → IsNoSocket s.listen failure → GoesOnBy (λ log. IsSeen door timing reports s log r) t0 t1
+        → GoesOnBy (λ log. IsShownOpened s door log (Ok (at, web))) t0 t1 → IsNoSocket s.listen failure → GoesOnBy (λ log. IsSeen door words reports s log r) t0 t1
     seen_unheard at web failure r t0 t1 is before why =
-        subst (λ (e : Result Unit Failure). GoesOnBy (λ log. IsSeen door timing reports s log e) t0 t1) (sym is)
+        subst (λ (e : Result Unit Failure). GoesOnBy (λ log. IsSeen door words reports s log e) t0 t1) (sym is)
         (then_follows (IsShownOpened s door) Seen (Ok (at, web)) (Err failure) t0 t1 t1 before (unheard at (Some web) failure t1 why))
 
     pub seen_unstarted : (at web : SocketAddr) (failure : Failure) (r : Result Unit Failure) (t0 t1 t2 : Option (List AtHost)) → r ≡ Err failure
         → GoesOnBy (λ log. IsShownOpened s door log (Ok (at, web))) t0 t1 → GoesOnBy (λ log. IsStarted reports.printing s at log (Err failure)) t1 t2
-        → GoesOnBy (λ log. IsSeen door timing reports s log r) t0 t2
+        → GoesOnBy (λ log. IsSeen door words reports s log r) t0 t2
     seen_unstarted at web failure r t0 t1 t2 is before none =
-        subst (λ (e : Result Unit Failure). GoesOnBy (λ log. IsSeen door timing reports s log e) t0 t2) (sym is)
+        subst (λ (e : Result Unit Failure). GoesOnBy (λ log. IsSeen door words reports s log e) t0 t2) (sym is)
         (then_follows (IsShownOpened s door) Seen (Ok (at, web)) (Err failure) t0 t1 t2 before (not_begun at (Some web) failure t1 t2 none))
 
     pub seen_run : (at web : SocketAddr) (state : State) (r : Result Unit Failure) (t0 t1 t2 t3 t4 : Option (List AtHost)) → GoesOnBy (λ log. IsShownOpened s door log (Ok (at, web))) t0 t1
         → GoesOnBy (λ log. IsStarted reports.printing s at log (Ok state)) t1 t2 → GoesOnBy (IsNoted level.Info (Some (http_line web))) t2 t3
-        → GoesOnBy (λ log. IsRunOf timing reports log r) t3 t4 → GoesOnBy (λ log. IsSeen door timing reports s log r) t0 t4
+        → GoesOnBy (λ log. IsRunOf words reports log r) t3 t4 → GoesOnBy (λ log. IsSeen door words reports s log r) t0 t4
     seen_run at web state r t0 t1 t2 t3 t4 before first line run =
         let said = weaker (IsNoted level.Info (Some (http_line web))) (λ log. IsWebSaid (Some web) log (Ok tt)) t2 t3
         (λ log noted. (noted.2 ∙ ap (λ (o : List ℕ). Noted level.Info o ∷ []) noted.1, refl)) line in

@@ -9,9 +9,8 @@ use Rattle.mon_host.specs.declared.level.Level.TheVariants as level
 use Rattle.mon_host.specs.declared.reason.Reason.{Reason}
 use Rattle.mon_host.proofs.Promised.{goes_on, weaker}
 use Rattle.mon_station_commands.specs.Keeping.{IsFileKept, IsKeptBy, IsMoveSaid, IsNoFile, IsTaken, IsToldIf, found_by, moved_line, strayed_lines}
-use Rattle.mon_station_commands.specs.Line.{stated}
+use Rattle.mon_file_commands.specs.Line.{AreNoted, stated}
 use Rattle.mon_station_commands.specs.Quiet.{AreQuiet}
-use Rattle.mon_station_commands.specs.Telling.{AreNoted}
 use Rattle.mon_station_commands.specs.declared.keeping.Found.{Found}
 use Rattle.mon_station_commands.specs.declared.keeping.Found.TheVariants as found
 use Rattle.mon_station_commands.proofs.Quiets.{are_noted, are_quiet_as, are_quiet_on, is_told_more}

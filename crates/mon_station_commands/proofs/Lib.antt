@@ -1,7 +1,7 @@
 mod Accounts
-mod Ages
 mod Changes
 mod Copies
+mod Followings
 mod Checked
 mod Joined
 mod Keepings
@@ -9,7 +9,6 @@ mod Notes
 mod Openings
 mod Rounding
 mod Quiets
-mod Rereads
 mod Running
 mod Steps
 mod Texts

@@ -10,8 +10,8 @@ use Rattle.mon_host.specs.AtHost.{AtHost, IsNoted, Noted}
 use Rattle.mon_host.specs.declared.level.Level.{Level}
 use Rattle.mon_host.specs.Log.{GoesOnBy}
 use Rattle.mon_host.proofs.Promised.{goes_on, stays, weaker}
-use Rattle.mon_station_commands.specs.Line.{Line, noted, stated}
-use Rattle.mon_station_commands.specs.Telling.{AreNoted, AreSaid}
+use Rattle.mon_file_commands.specs.Line.{AreNoted, Line, noted, stated}
+use Rattle.mon_station_commands.specs.Telling.{AreSaid}
 
 -- lines, and others after them
 pub are_noted_on : (texts others : List Line) (log rest : List AtHost) → AreNoted texts log → AreNoted others rest → AreNoted (texts ++ others) (log ++ rest)

@@ -12,7 +12,8 @@ use Rattle.mon_host.proofs.Promised.{goes_on, stays, weaker}
 use Rattle.mon_station.specs.State.{State}
 use Rattle.mon_station_commands.specs.Opening.{IsNoStation}
 use Rattle.mon_station_commands.specs.Steps.{only}
-use Rattle.mon_station_commands.specs.Telling.{AreNoted, AreSaid, IsOpened, IsOpening, opened_to, raised_notes, start_lines}
+use Rattle.mon_file_commands.specs.Line.{AreNoted}
+use Rattle.mon_station_commands.specs.Telling.{AreSaid, IsOpened, IsOpening, opened_to, raised_notes, start_lines}
 
 module _ (number : ℕ) (at : SocketAddr) (file : List ℕ) (targets peers : ℕ) (printing : Printing) where
   pub unopened : {L : Type 0} → (f : L → State) (failure : Failure) (r : Result L Failure) (told : Option (List AtHost)) → r ≡ Err failure → IsNoStation failure

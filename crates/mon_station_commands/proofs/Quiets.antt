@@ -11,10 +11,10 @@ use Rattle.mon_host.specs.AtHost.{AtHost, IsNoted, Noted, Undated, Untimed, Time
 use Rattle.mon_host.specs.declared.level.Level.{Level}
 use Rattle.mon_host.specs.Log.{GoesOnBy}
 use Rattle.mon_host.proofs.Promised.{goes_on, stays, weaker}
-use Rattle.mon_station_commands.specs.Line.{Line, noted}
+use Rattle.mon_file_commands.specs.Line.{AreNoted, Line, noted}
 use Rattle.mon_station_commands.specs.Pace.{IsDate, IsPassed, IsStopped, IsTime, IsWait}
 use Rattle.mon_station_commands.specs.Quiet.{AreQuiet, is_quiet}
-use Rattle.mon_station_commands.specs.Telling.{AreNoted, AreSaid}
+use Rattle.mon_station_commands.specs.Telling.{AreSaid}
 
 pub are_quiet_on : (log rest : List AtHost) → AreQuiet log → AreQuiet rest → AreQuiet (log ++ rest)
 are_quiet_on log rest one two = list_all-append is_quiet log rest ∙ (λ i. one i && two i)

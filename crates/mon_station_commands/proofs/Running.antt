@@ -12,7 +12,7 @@ use Rattle.mon_host.proofs.Promised.{quietly, then_fails, then_follows}
 use Rattle.mon_settings.specs.declared.station.StationSettings.{StationSettings}
 use Rattle.mon_station_commands.specs.Places.{IsDoor}
 use Rattle.mon_station_commands.specs.Station.{AreReports, IsRunning, IsSeenIf}
-use Rattle.mon_station_commands.specs.Steps.{OrMemory}
+use Rattle.mon_file_commands.specs.Steps.{OrMemory}
 use Rattle.mon_station_commands.specs.declared.live.Reports.{Reports}
 use Rattle.mon_udp.specs.declared.addr.Addr.{Addr}
 
@@ -27,7 +27,7 @@ module _ (words : StationArgs) where
   Makes s printing = OrMemory (AreReports words s printing)
 
   abbrev AfterReports : Option Addr → StationSettings → Reports → List AtHost → Result Unit Failure → Type 0
-  AfterReports door s reports = IsSeenIf door words.timing reports s
+  AfterReports door s reports = IsSeenIf door words reports s
 
   abbrev AfterSettings : Option Addr → StationSettings × Printing → List AtHost → Result Unit Failure → Type 0
   AfterSettings door both = Then (Quietly (Makes both.0 both.1)) (AfterReports door both.0)
@@ -63,7 +63,7 @@ module _ (words : StationArgs) where
 
   pub words_run : (door : Option Addr) (s : StationSettings) (printing : Printing) (reports : Reports) (r : Result Unit Failure) (t0 t1 t2 : Option (List AtHost))
       → Gives (Ok door) → GoesOnBy (λ log. Reads log (Ok (s, printing))) t0 t1 → Makes s printing (Ok reports)
-      → GoesOnBy (λ log. IsSeenIf door words.timing reports s log r) t1 t2 → GoesOnBy (λ log. IsRunning words log r) t0 t2
+      → GoesOnBy (λ log. IsSeenIf door words reports s log r) t1 t2 → GoesOnBy (λ log. IsRunning words log r) t0 t2
   words_run door s printing reports r t0 t1 t2 given read made run =
       after_settings door (s, printing) r t0 t1 t2 given read
       (then_follows (Quietly (Makes s printing)) (AfterReports door s) (Ok reports) r t1 t1 t2 (quietly (Makes s printing) (Ok reports) t1 made) run)

@@ -5,8 +5,8 @@ use Rattle.std.specs.Global.{Vec}
 use Rattle.std.specs.declared.alloc.AllocError.{AllocError}
 use Rattle.mon_alarms.specs.declared.alarm.AlarmState.{AlarmState}
 use Rattle.mon_board.specs.declared.board.Board.{Board}
-use Rattle.mon_console.specs.Failure.{IsMemory, IsTold}
-use Rattle.mon_console.specs.Files.{IsPrint, IsPublishing}
+use Rattle.mon_console.specs.Failure.{IsTold}
+use Rattle.mon_console.specs.Files.{IsPublishing}
 use Rattle.mon_console.specs.Shown.{shown_by}
 use Rattle.mon_console.specs.declared.failure.Failure.{Failure}
 use Rattle.mon_board.specs.Board.{window_of}
@@ -18,29 +18,15 @@ use Rattle.mon_host.specs.declared.level.Level.TheVariants as level
 use Rattle.mon_host.specs.AtHost.{AtHost, IsNoted, Noted}
 use Rattle.mon_host.specs.Log.{GoesOnBy}
 use Rattle.mon_host.specs.Then.{Quietly, Then}
-use Rattle.mon_host.proofs.Promised.{goes_on, quietly, then_fails, then_follows, weaker}
+use Rattle.mon_host.proofs.Promised.{goes_on, weaker}
 use Rattle.mon_page.specs.declared.extras.Presentation.{Presentation}
 use Rattle.mon_page.specs.declared.figures.Figures.{Figures}
 use Rattle.mon_report.specs.Report.{Entry}
-use Rattle.mon_station_commands.specs.Age.{IsAge, IsAgeSaid}
-use Rattle.mon_station_commands.specs.Reporting.{IsChangeOut, IsFiled, IsOut, IsReport, IsUnwritten, entries_by, failed_by, unwritten_line}
-use Rattle.mon_station_commands.specs.Steps.{IsKeptOf, IsSaidOf, IsTried, OrMemory, kept_after}
-
--- there was no memory for a value
-pub no_memory : {A B : Type 0} → (Holds : A → Type 0) (Second : A → List AtHost → Result B Failure → Type 0) (r : Result B Failure) (told : Option (List AtHost))
-    → IsErrAnd r IsMemory → GoesOnBy (λ log. Then (Quietly (OrMemory Holds)) Second log r) told told
-no_memory Holds Second (Ok b) told is = absurd is
-no_memory Holds Second (Err failure) told is = then_fails (Quietly (OrMemory Holds)) Second failure told told (quietly (OrMemory Holds) (Err failure) told is)
-
--- a value was made, and a step followed
-pub made : {A B : Type 0} → (Holds : A → Type 0) (Second : A → List AtHost → Result B Failure → Type 0) (value : A) (r : Result B Failure) (told after : Option (List AtHost))
-    → Holds value → GoesOnBy (λ log. Second value log r) told after → GoesOnBy (λ log. Then (Quietly (OrMemory Holds)) Second log r) told after
-made Holds Second value r told after holds second = then_follows (Quietly (OrMemory Holds)) Second (Ok value) r told told after (quietly (OrMemory Holds) (Ok value) told holds) second
-
--- a text was made, and printed
-pub printed : (Holds : List ℕ → Type 0) (text octets : List ℕ) (r : Result Unit Failure) (told after : Option (List AtHost)) → Holds text → octets ≡ text
-    → GoesOnBy (λ log. IsPrint octets log r) told after → GoesOnBy (λ log. Then (Quietly (OrMemory Holds)) IsPrint log r) told after
-printed Holds text octets r told after holds same done = made Holds IsPrint text r told after holds (subst (λ (o : List ℕ). GoesOnBy (λ log. IsPrint o log r) told after) same done)
+use Rattle.mon_file_commands.proofs.Promised.{made}
+use Rattle.mon_file_commands.specs.Report.{entries_by}
+use Rattle.mon_station_commands.specs.Reporting.{IsChangeOut, IsFiled, IsOut, IsReport, IsUnwritten, failed_by, unwritten_line}
+use Rattle.mon_file_commands.specs.Steps.{OrMemory}
+use Rattle.mon_station_commands.specs.Steps.{IsKeptOf, IsSaidOf, IsTried, kept_after}
 
 -- a text was made, and a file replaced by it
 pub filed : (Holds : List ℕ → Type 0) (path text octets : List ℕ) (r : Result Unit Failure) (told after : Option (List AtHost)) → Holds text → octets ≡ text
@@ -131,8 +117,3 @@ unwritten_said round path failure before between after note told =
       holds = (told.more, told.holds, ap (λ (l : List AtHost). l ++ told.more) line.holds);
       on = goes_on line.more told.more before between after line.on told.on;
     }
-
--- the age of a file was said, as a step
-pub aged : (path own : List ℕ) (age : Option ℕ) (before after : Option (List AtHost)) → own ≡ path → GoesOnBy (λ log. IsAgeSaid own log age) before after
-    → GoesOnBy (λ log. IsAge path log (let r : Result (Option ℕ) Failure = Ok age in r)) before after
-aged path own age before after same said = subst (λ (p : List ℕ). GoesOnBy (λ log. IsAgeSaid p log age) before after) same said

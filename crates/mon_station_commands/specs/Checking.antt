@@ -9,7 +9,7 @@ use Rattle.mon_host.specs.AtHost.{AtHost}
 use Rattle.mon_host.specs.Then.{Quietly, Then}
 use Rattle.mon_settings.specs.declared.station.StationSettings.{StationSettings}
 use Rattle.mon_station_commands.specs.Limits.{limits_text}
-use Rattle.mon_station_commands.specs.Steps.{OrMemory}
+use Rattle.mon_file_commands.specs.Steps.{OrMemory}
 
 -- what limits a station of these settings is printed
 abbrev pub AreLimits : StationSettings → ℕ → List AtHost → Result Unit Failure → Type 0

@@ -88,6 +88,7 @@ pub record AreFigures (state : State) (course : Course) (fresh : Freshness) (pee
   pub failed_saves : f.failed_saves ≡ fresh.failed_saves
   pub strangers : f.strangers ≡ fresh.strangers
   pub round_ms : f.round_ms ≡ fresh.round_ms
+  pub overruns : f.overruns ≡ fresh.overruns
   pub targets : map said_in f.targets.items ≡ map (said_of now) fresh.targets.items
   pub named : map engine_in f.targets.items ≡ engines_for (length fresh.targets.items) engines
   pub ages : f.ages.items ≡ map (λ (i : InstanceAge). i.rounds) fresh.instances.items

@@ -10,9 +10,8 @@ use Rattle.mon_host.specs.declared.level.Level.TheVariants as level
 use Rattle.mon_host.specs.declared.reason.Reason.{Reason}
 use Rattle.mon_station.specs.Saved.{IsMovingFault}
 use Rattle.mon_station.specs.declared.fault.StationFault.{StationFault}
-use Rattle.mon_station_commands.specs.Line.{Line, stated}
+use Rattle.mon_file_commands.specs.Line.{AreNoted, Line, stated}
 use Rattle.mon_station_commands.specs.Opening.{IsOfFile}
-use Rattle.mon_station_commands.specs.Telling.{AreNoted}
 use Rattle.mon_station_commands.specs.declared.keeping.Found.{Found}
 use Rattle.mon_station_commands.specs.declared.keeping.Found.TheVariants as found
 

@@ -16,9 +16,10 @@ use Rattle.mon_host.specs.Then.{Quietly, Then}
 use Rattle.mon_settings.specs.declared.station.StationSettings.{StationSettings}
 use Rattle.mon_station_commands.specs.Opening.{IsOfFile}
 use Rattle.mon_station_commands.specs.Pace.{IsTime}
-use Rattle.mon_station_commands.specs.Saved.{IsSavedIn}
+use Rattle.mon_file_commands.specs.Saved.{IsSavedIn}
 use Rattle.mon_station_commands.specs.Steps.{SomeOr}
-use Rattle.mon_station_commands.specs.Telling.{AreNoted, short_lines_of}
+use Rattle.mon_file_commands.specs.Line.{AreNoted}
+use Rattle.mon_station_commands.specs.Telling.{short_lines_of}
 use Rattle.mon_udp.specs.Addr.{addr_of, addr_text}
 use Rattle.mon_udp.specs.declared.addr.Addr.{Addr}
 

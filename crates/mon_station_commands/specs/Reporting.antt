@@ -3,37 +3,23 @@ use Rattle.std.specs.Prelude.{◌≡◌, ◌∷◌, ◌++◌, ℕ, Bool, true, f
 use Rattle.std.specs.Global.{Vec}
 use Rattle.mon_alarms.specs.Announcing.{announced_states}
 use Rattle.mon_alarms.specs.declared.alarm.AlarmState.{AlarmState}
-use Rattle.mon_board.specs.Board.{window_of}
 use Rattle.mon_board.specs.declared.board.Board.{Board}
 use Rattle.mon_console.specs.Failure.{IsTold, is_memory}
 use Rattle.mon_console.specs.Files.{IsPrint, IsPublishing}
-use Rattle.mon_console.specs.Shown.{shown_by}
 use Rattle.mon_console.specs.declared.failure.Failure.{Failure}
 use Rattle.mon_console.specs.declared.printing.Printing.{Printing}
-use Rattle.mon_formats.specs.Formats.{formatted}
 use Rattle.mon_formats.specs.declared.format.Format.TheVariants.{Text}
 use Rattle.mon_host.specs.AtHost.{AtHost, Noted}
 use Rattle.mon_host.specs.declared.level.Level.TheVariants as level
 use Rattle.mon_host.specs.Then.{Quietly, Then}
 use Rattle.mon_page.specs.declared.figures.Figures.{Figures}
-use Rattle.mon_report.specs.Report.{Entry, announced_from}
 use Rattle.mon_rounds.specs.declared.course.Course.{Course}
 use Rattle.mon_rounds.specs.declared.freshness.Freshness.{Freshness}
 use Rattle.mon_station.specs.State.{State}
 use Rattle.mon_station_commands.specs.Figures.{AreFigures}
-use Rattle.mon_station_commands.specs.Steps.{OrMemory}
+use Rattle.mon_file_commands.specs.Report.{report_by}
+use Rattle.mon_file_commands.specs.Steps.{OrMemory}
 use Rattle.mon_station_commands.specs.declared.live.Reports.{Reports}
-
--- the instances of a board, with these states of its alarms in the order of the rules; those that are
--- not there follow from the windows
-abbrev pub entries_by : Board → (states : List AlarmState) → List Entry
-entries_by board states =
-    announced_from states board.watch.rules (window_of board) 0 board.watch.instances
-
--- the report of a board, of these states of its alarms, and of these figures
-abbrev pub report_by : Printing → Board → (states : List AlarmState) → Option Figures → List ℕ
-report_by printing board states figures = formatted printing.format (shown_by printing.names)
-    (entries_by board states) figures printing.labels.items printing.presentation
 
 -- states that go with figures; without these there are none
 abbrev pub states_with : Option Figures → List AlarmState → List AlarmState

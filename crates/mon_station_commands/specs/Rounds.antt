@@ -1,8 +1,8 @@
 -- What a station does from its first round to its last one.
-use Rattle.std.specs.Prelude.{◌≡◌, ◌⊎◌, ◌↔◌, ◌≤◌, ◌-◌, ℕ, zero, suc, Bool, IsTrue, false, true, List, [], ◌++◌, Option, Some, None, Result, Ok, Err, option_map, string_bytes}
+use Rattle.std.specs.Prelude.{◌≡◌, ◌⊎◌, ◌↔◌, ◌<◌, ◌≤◌, ◌-◌, ℕ, zero, suc, Bool, IsTrue, false, true, List, [], ◌++◌, Option, Some, None, Result, Ok, Err, option_map, string_bytes}
 use Rattle.std.specs.Global.{Vec}
 use Rattle.mon_alarms.specs.Announcing.{Announcer}
-use Rattle.mon_cli.specs.declared.meaning.Timing.{Timing}
+use Rattle.mon_cli.specs.declared.meaning.StationArgs.{StationArgs}
 use Rattle.mon_console.specs.Printing.{IsFitted}
 use Rattle.mon_console.specs.declared.failure.Failure.{Failure}
 use Rattle.mon_console.specs.declared.printing.Printing.{Printing}
@@ -15,6 +15,7 @@ use Rattle.mon_rounds.specs.declared.freshness.Freshness.{Freshness}
 use Rattle.mon_station.specs.State.{State}
 use Rattle.mon_station.specs.declared.running.Run.{Run}
 use Rattle.mon_station_commands.specs.Ending.{IsEnded}
+use Rattle.mon_station_commands.specs.Following.{AreDated, IsSettingsLook}
 use Rattle.mon_station_commands.specs.Keeping.{IsFileKept}
 use Rattle.mon_station_commands.specs.Pace.{IsStopped}
 use Rattle.mon_station_commands.specs.Quiet.{AreQuiet}
@@ -62,7 +63,7 @@ IsReportAt m = IsReportOf m.state m.course m.fresh m.peers m.engines m.now m.rou
 
 -- what a station keeps before its first round
 abbrev pub nothing_kept : Kept
-nothing_kept = record { round_at = None; unsaved = None; unprinted = None; unwritten = None; strayed = false }
+nothing_kept = record { round_at = None; unsaved = None; unprinted = None; unwritten = None; strayed = false; settings_at = None; ends = false }
 
 -- A round, before which it is seen that the station's file is at its path, and at whose end all is
 -- saved if `saves` says so. Its lines are said, and its report is written to the file for reports, if
@@ -114,30 +115,50 @@ IsBetween round every printing before log after =
     (IsDue round every × IsPrinted printing before log after)
     ⊎ ((¬ (IsDue round every)) × (log ≡ []) × (after ≡ before))
 
--- after earlier ones a round more, the report after it, and the wait for the next one
-pub record IsOneMore (Earlier : List AtHost → Kept → Type 0) (round : ℕ) (timing : Timing)
+-- Before a round it is asked whether the settings changed, and what is new is said; `ends` says whether
+-- the round is the last one for that.
+pub record IsLook (words : StationArgs) (round : ℕ) (before after : Kept) (ends : Bool)
+    (log : List AtHost) : Type 0 where
+  pub look : IsSettingsLook words round before.settings_at log after.settings_at ends
+  pub kept : after ≡ record before { settings_at = after.settings_at; ends = ends }
+
+-- after earlier ones a look at the settings, a round more, the report after it, and the wait for the
+-- next one
+pub record IsOneMore (Earlier : List AtHost → Kept → Type 0) (round : ℕ) (words : StationArgs)
     (printing : Printing) (paths : Paths) (log : List AtHost) (after : Kept) : Type 0 where
   pub before : Kept
   pub begin : List AtHost
   pub earlier : Earlier begin before
+  pub looked : Kept
+  pub look : List AtHost
+  pub look_is : IsLook words round before looked false look
   pub ran : Kept
   pub run : List AtHost
   pub saves : Bool
-  pub due : IsTrue saves ↔ IsDue round timing.save_every
-  pub round_is : IsRound round saves printing paths before ran run
+  pub due : IsTrue saves ↔ IsDue round words.timing.save_every
+  pub round_is : IsRound round saves printing paths looked ran run
   pub told : List AtHost
-  pub between : IsBetween round timing.report_every printing ran told after
+  pub between : IsBetween round words.timing.report_every printing ran told after
   pub rest : List AtHost
   pub quiet : AreQuiet rest
-  pub log_is : log ≡ ((begin ++ run) ++ told) ++ rest
+  pub log_is : log ≡ (((begin ++ look) ++ run) ++ told) ++ rest
+
+-- before the first round it is asked when the settings were changed last, and that is kept
+pub record IsBegun (words : StationArgs) (start : Kept) (log : List AtHost) (after : Kept) : Type 0 where
+  pub begin : List AtHost
+  pub dated : AreDated words begin after.settings_at
+  pub kept : after ≡ record start { settings_at = after.settings_at }
+  pub rest : List AtHost
+  pub quiet : AreQuiet rest
+  pub log_is : log ≡ begin ++ rest
 
 -- So many rounds were run, each with what is between it and the next. `start` and `after` are what is
 -- kept before and after them.
-abbrev pub AreRounds : Timing → Printing → (paths : Paths) → (start : Kept) → ℕ
+abbrev pub AreRounds : StationArgs → Printing → (paths : Paths) → (start : Kept) → ℕ
     → List AtHost → (after : Kept) → Type 0
-AreRounds timing printing paths start zero log after = AreQuiet log × (after ≡ start)
-AreRounds timing printing paths start (suc n) log after =
-    IsOneMore (AreRounds timing printing paths start n) (suc n) timing printing paths log after
+AreRounds words printing paths start zero log after = IsBegun words start log after
+AreRounds words printing paths start (suc n) log after =
+    IsOneMore (AreRounds words printing paths start n) (suc n) words printing paths log after
 
 -- the last of these rounds, if there are any, at whose end all is saved
 abbrev pub IsLast : (rounds : ℕ) → Printing → (paths : Paths) → (before after : Kept)
@@ -151,35 +172,60 @@ abbrev pub IsLastRun : (rounds : ℕ) → Printing → (paths : Paths) → (befo
 IsLastRun rounds printing paths before after log (Ok done) = IsLast rounds printing paths before after log
 IsLastRun rounds printing paths before after log (Err failure) = IsStopped log failure
 
+-- the settings changed, so this round is the last one: the look at them, and the round
+pub record IsEndedBy (round : ℕ) (words : StationArgs) (printing : Printing) (paths : Paths)
+    (before after : Kept) (log : List AtHost) : Type 0 where
+  pub looked : Kept
+  pub look : List AtHost
+  pub look_is : IsLook words round before looked true look
+  pub rest : List AtHost
+  pub round_is : IsRound round true printing paths looked after rest
+  pub log_is : log ≡ look ++ rest
+
+-- The end of a run after this number of rounds: the last one of all; or one before it, if the settings changed
+-- and the station ends for that.
+abbrev pub IsEnd : (ran : ℕ) → StationArgs → Printing → (paths : Paths) → (before after : Kept)
+    → List AtHost → Type 0
+IsEnd ran words printing paths before after log =
+    ((ran ≡ words.timing.rounds - 1) × IsLast words.timing.rounds printing paths before after log)
+    ⊎ ((suc ran < words.timing.rounds) × IsEndedBy (suc ran) words printing paths before after log)
+
 -- all rounds were run: those with another one after them, and the last
-pub record AreAll (timing : Timing) (printing : Printing) (paths : Paths) (start : Kept)
+pub record AreAll (words : StationArgs) (printing : Printing) (paths : Paths) (start : Kept)
     (log : List AtHost) (after : Kept) : Type 0 where
+  pub ran : ℕ
   pub before : Kept
   pub begin : List AtHost
-  pub earlier : AreRounds timing printing paths start (timing.rounds - 1) begin before
+  pub earlier : AreRounds words printing paths start ran begin before
   pub rest : List AtHost
-  pub last : IsLast timing.rounds printing paths before after rest
+  pub last : IsEnd ran words printing paths before after rest
   pub log_is : log ≡ begin ++ rest
 
+-- a clock failed, after a look at the settings if there was one before this round
+abbrev pub IsCut : (round : ℕ) → StationArgs → (before : Kept) → List AtHost → Failure → Type 0
+IsCut round words before log failure = IsStopped log failure
+    ⊎ ((looked : Kept) × (ends : Bool) × (look : List AtHost) × IsLook words round before looked ends look
+    × (rest : List AtHost) × IsStopped rest failure × (log ≡ look ++ rest))
+
 -- A clock failed after some of the rounds, which the failure says.
-pub record AreCutShort (timing : Timing) (printing : Printing) (paths : Paths)
+pub record AreCutShort (words : StationArgs) (printing : Printing) (paths : Paths)
     (start : Kept) (log : List AtHost) (failure : Failure) : Type 0 where
   pub ran : ℕ
-  pub within : ran ≤ timing.rounds
+  pub within : ran ≤ words.timing.rounds
   pub after : Kept
   pub begin : List AtHost
-  pub earlier : AreRounds timing printing paths start ran begin after
+  pub earlier : AreRounds words printing paths start ran begin after
   pub rest : List AtHost
-  pub stopped : IsStopped rest failure
+  pub stopped : IsCut (suc ran) words after rest failure
   pub log_is : log ≡ begin ++ rest
 
 -- all rounds were run, or a clock failed
-abbrev pub AreRun : Timing → Printing → (paths : Paths) → (start : Kept)
+abbrev pub AreRun : StationArgs → Printing → (paths : Paths) → (start : Kept)
     → List AtHost → (after : Kept) → Result Unit Failure → Type 0
-AreRun timing printing paths start log after (Ok done) =
-    AreAll timing printing paths start log after
-AreRun timing printing paths start log after (Err failure) =
-    AreCutShort timing printing paths start log failure
+AreRun words printing paths start log after (Ok done) =
+    AreAll words printing paths start log after
+AreRun words printing paths start log after (Err failure) =
+    AreCutShort words printing paths start log failure
 
 -- the last report is printed: as a table, if standard output is a terminal and the arguments name no
 -- format
@@ -194,17 +240,18 @@ pub record IsLastReport (moment : Moment) (log : List AtHost) (result : Result U
 -- after the rounds one report is printed, and the run ends as what was kept has it
 abbrev pub IsFinish : Moment → Kept → List AtHost → Result Unit Failure → Type 0
 IsFinish moment after = Then (IsLastReport moment)
-    (λ done. Quietly (IsEnded after.unsaved after.unprinted after.unwritten))
+    (λ done. Quietly (IsEnded after.unsaved after.unprinted after.unwritten after.ends))
 
 -- A station's run from its first round on: so many rounds, each with its report, and at the end one
--- report more. All is saved at the end of the last round, and of each one that is due. Nothing but
--- these reports is printed or written, and nothing is read.
-pub record IsRun (timing : Timing) (printing : Printing) (paths : Paths) (start : Kept)
+-- report more. All is saved at the end of the last round, and of each one that is due. Before each round
+-- but the last it is asked whether the settings changed. Nothing but these reports is printed or written,
+-- and nothing is read but settings that changed.
+pub record IsRun (words : StationArgs) (printing : Printing) (paths : Paths) (start : Kept)
     (log : List AtHost) (result : Result Unit Failure) : Type 0 where
   pub after : Kept
   pub ran : Result Unit Failure
   pub begin : List AtHost
-  pub rounds_are : AreRun timing printing paths start begin after ran
+  pub rounds_are : AreRun words printing paths start begin after ran
   pub moment : Moment
   pub format : moment.reports.printing ≡ printing
   pub at : moment.round_at ≡ after.round_at

@@ -13,7 +13,7 @@ use Rattle.mon_rounds.specs.declared.course.Course.{Course}
 use Rattle.mon_rounds.specs.declared.freshness.Freshness.{Freshness}
 use Rattle.mon_station.specs.State.{State}
 use Rattle.mon_station_commands.specs.Figures.{AreFigures}
-use Rattle.mon_station_commands.specs.Reporting.{entries_by}
+use Rattle.mon_file_commands.specs.Report.{entries_by}
 use Rattle.mon_station_commands.specs.declared.live.Reports.{Reports}
 use Rattle.mon_web.specs.Site.{View, with_texts}
 use Rattle.mon_web.specs.Texts.{Texts}

@@ -4,7 +4,7 @@ use Rattle.mon_console.specs.Shown.{shown_by}
 use Rattle.mon_formats.specs.Formats.{formatted}
 use Rattle.mon_formats.specs.declared.format.Format.{Format}
 use Rattle.mon_formats.specs.declared.format.Format.TheVariants.{Html, Json, Prometheus}
-use Rattle.mon_station_commands.specs.Reporting.{entries_by}
+use Rattle.mon_file_commands.specs.Report.{entries_by}
 use Rattle.mon_station_commands.specs.declared.snapshot.Draft.{Draft}
 use Rattle.mon_station_commands.specs.declared.snapshot.Drafts.{Drafts}
 use Rattle.mon_station_commands.specs.declared.snapshot.Source.{Source}

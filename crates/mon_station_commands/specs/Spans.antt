@@ -25,11 +25,11 @@ use Rattle.mon_rounds.specs.declared.round.Span.TheVariants.{Between, Round}
 use Rattle.mon_station.specs.declared.fault.StationFault.{StationFault}
 use Rattle.mon_station.specs.declared.fault.StationFault.TheVariants.{OutOfMemory}
 use Rattle.mon_station.specs.declared.running.Run.{Run}
-use Rattle.mon_station_commands.specs.Line.{noted}
+use Rattle.mon_file_commands.specs.Line.{AreNoted, noted}
 use Rattle.mon_station_commands.specs.Opening.{last_of, unsaved_in}
 use Rattle.mon_station_commands.specs.Pace.{IsStopped}
-use Rattle.mon_station_commands.specs.Steps.{IsTried, OrMemory}
-use Rattle.mon_station_commands.specs.Telling.{AreNoted, restart_lines, round_lines}
+use Rattle.mon_station_commands.specs.Steps.{IsTried}
+use Rattle.mon_station_commands.specs.Telling.{restart_lines, round_lines}
 use Rattle.mon_station_commands.specs.Troubles.{AreAllSaid, AreSomeSaid}
 use Rattle.mon_station_commands.specs.declared.troubles.Facts.{Facts}
 use Rattle.mon_station_commands.specs.declared.live.Kept.{Kept}

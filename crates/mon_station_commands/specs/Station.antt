@@ -2,7 +2,6 @@
 use Rattle.std.specs.Prelude.{◌≡◌, ℕ, Bool, true, false, List, [], ◌∷◌, Option, Some, None, Result, Ok, length, option_copied, option_map, string_bytes}
 use Rattle.std.specs.declared.net.socket_addr.SocketAddr.{SocketAddr}
 use Rattle.mon_cli.specs.declared.meaning.StationArgs.{StationArgs}
-use Rattle.mon_cli.specs.declared.meaning.Timing.{Timing}
 use Rattle.mon_console.specs.Labelled.{IsLabelled}
 use Rattle.mon_console.specs.declared.failure.Failure.{Failure}
 use Rattle.mon_console.specs.declared.printing.Printing.{Printing}
@@ -14,7 +13,8 @@ use Rattle.mon_station.specs.State.{State}
 use Rattle.mon_station_commands.specs.Checking.{IsCheck}
 use Rattle.mon_station_commands.specs.Places.{IsDoor, IsNoSocket, IsShownOpened, IsUnseenOpened}
 use Rattle.mon_station_commands.specs.Rounds.{IsRun, nothing_kept}
-use Rattle.mon_station_commands.specs.Steps.{OrMemory, SomeOr}
+use Rattle.mon_file_commands.specs.Steps.{OrMemory}
+use Rattle.mon_station_commands.specs.Steps.{SomeOr}
 use Rattle.mon_station_commands.specs.Telling.{IsOpening, http_line}
 use Rattle.mon_station_commands.specs.declared.live.Paths.{Paths}
 use Rattle.mon_station_commands.specs.declared.live.Reports.{Reports}
@@ -48,33 +48,33 @@ IsWebSaid None log result = (log ≡ []) × (result ≡ Ok tt)
 IsWebSaid (Some at) log result = (log ≡ Noted level.Info (http_line at) ∷ []) × (result ≡ Ok tt)
 
 -- the rounds of a station that has begun
-abbrev pub IsRunOf : Timing → Reports → List AtHost → Result Unit Failure → Type 0
-IsRunOf timing reports = IsRun timing reports.printing
+abbrev pub IsRunOf : StationArgs → Reports → List AtHost → Result Unit Failure → Type 0
+IsRunOf words reports = IsRun words reports.printing
     reports.paths nothing_kept
 
 -- A station whose socket and file are open begins to receive. It says where it is, which alarms are
 -- raised, and where it serves HTTP, if it does. Then come its rounds.
-abbrev pub IsWhole : Timing → Reports → StationSettings → SocketAddr → (web : Option SocketAddr)
+abbrev pub IsWhole : StationArgs → Reports → StationSettings → SocketAddr → (web : Option SocketAddr)
     → List AtHost → Result Unit Failure → Type 0
-IsWhole timing reports s at web = Then (Quietly (SomeOr (IsNoSocket s.listen))) (λ (heard : Unit {0}).
+IsWhole words reports s at web = Then (Quietly (SomeOr (IsNoSocket s.listen))) (λ (heard : Unit {0}).
     Then (IsStarted reports.printing s at) (λ (state : State).
-    Then (IsWebSaid web) (λ (said : Unit {0}). IsRunOf timing reports)))
+    Then (IsWebSaid web) (λ (said : Unit {0}). IsRunOf words reports)))
 
 -- a station that serves no HTTP, from its opening on
-abbrev pub IsUnseen : Timing → Reports → StationSettings → List AtHost → Result Unit Failure → Type 0
-IsUnseen timing reports s = Then (IsUnseenOpened s) (λ at. IsWhole timing reports s at None)
+abbrev pub IsUnseen : StationArgs → Reports → StationSettings → List AtHost → Result Unit Failure → Type 0
+IsUnseen words reports s = Then (IsUnseenOpened s) (λ at. IsWhole words reports s at None)
 
 -- a station that serves HTTP at an address, from its opening on
-abbrev pub IsSeen : Addr → Timing → Reports → StationSettings → List AtHost → Result Unit Failure
+abbrev pub IsSeen : Addr → StationArgs → Reports → StationSettings → List AtHost → Result Unit Failure
     → Type 0
-IsSeen door timing reports s =
-    Then (IsShownOpened s door) (λ both. IsWhole timing reports s both.0 (Some both.1))
+IsSeen door words reports s =
+    Then (IsShownOpened s door) (λ both. IsWhole words reports s both.0 (Some both.1))
 
 -- a station that serves HTTP if there is an address for it
-abbrev pub IsSeenIf : Option Addr → Timing → Reports → StationSettings → List AtHost
+abbrev pub IsSeenIf : Option Addr → StationArgs → Reports → StationSettings → List AtHost
     → Result Unit Failure → Type 0
-IsSeenIf None timing reports s log result = IsUnseen timing reports s log result
-IsSeenIf (Some door) timing reports s log result = IsSeen door timing reports s log result
+IsSeenIf None words reports s log result = IsUnseen words reports s log result
+IsSeenIf (Some door) words reports s log result = IsSeen door words reports s log result
 
 -- A station is run: the address for HTTP is read, then the settings, the modules and the labels. Then
 -- it is opened.
@@ -82,7 +82,7 @@ abbrev pub IsRunning : StationArgs → List AtHost → Result Unit Failure → T
 IsRunning words = Then (Quietly (IsDoor (option_copied words.http))) (λ door.
     Then (IsLabelled words.settings.now (option_map (λ l. l.now) words.labels) words.printed) (λ both.
     Then (Quietly (OrMemory (AreReports words both.0 both.1))) (λ reports.
-    IsSeenIf door words.timing reports both.0)))
+    IsSeenIf door words reports both.0)))
 
 -- only what limits a station is printed, or it is run
 abbrev pub IsStationIf : (checks : Bool) → StationArgs → List AtHost → Result Unit Failure → Type 0

@@ -1,14 +1,9 @@
 -- Steps of commands that have a log.
 use Rattle.std.specs.Prelude.{◌≡◌, List, [], ◌++◌, if◌then◌else◌, Option, Some, None, Result, Ok, Err}
-use Rattle.mon_console.specs.Failure.{IsMemory, IsTold, is_memory}
+use Rattle.mon_console.specs.Failure.{IsTold, is_memory}
 use Rattle.mon_console.specs.declared.failure.Failure.{Failure}
 use Rattle.mon_host.specs.AtHost.{AtHost}
 use Rattle.mon_host.specs.declared.level.Level.TheVariants as level
-
--- a value of which this holds, or memory ran out
-abbrev pub OrMemory : {A : Type 0} → (A → Type 0) → Result A Failure → Type 0
-OrMemory Holds (Ok value) = Holds value
-OrMemory Holds (Err failure) = IsMemory failure
 
 -- what a step came to: its failure is said on standard error, and returned
 abbrev pub IsSaidOf : Result Unit Failure → List AtHost → Option Failure → Type 0

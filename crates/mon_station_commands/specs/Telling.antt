@@ -1,5 +1,5 @@
 -- What a running station says on standard error.
-use Rattle.std.specs.Prelude.{◌≡◌, ◌⊎◌, ℕ, ◌+◌, ◌/◌, ◌%◌, Bool, List, [], ◌∷◌, ◌++◌, if◌then◌else◌, ◌==◌, nat_lt, IfSome, Option, Some, None, Result, Ok, Err, codes, decimal, map, min, take, OnOk}
+use Rattle.std.specs.Prelude.{◌≡◌, ◌⊎◌, ℕ, ◌+◌, ◌/◌, ◌%◌, Bool, List, [], ◌∷◌, ◌++◌, if◌then◌else◌, ◌==◌, nat_lt, Option, Some, None, Result, Ok, Err, codes, decimal, map, min, take, OnOk}
 use Rattle.std.specs.List.{flat_map, fold}
 use Rattle.std.specs.declared.alloc.AllocError.{AllocError}
 use Rattle.std.specs.Net.Text.{socket_text}
@@ -14,7 +14,7 @@ use Rattle.mon_console.specs.Shown.{shown_by}
 use Rattle.mon_console.specs.declared.failure.Failure.{Failure}
 use Rattle.mon_console.specs.declared.printing.Printing.{Printing}
 use Rattle.mon_formats.specs.Changes.{change_line}
-use Rattle.mon_host.specs.AtHost.{AtHost, Noted}
+use Rattle.mon_host.specs.AtHost.{AtHost}
 use Rattle.mon_host.specs.declared.level.Level.{Level}
 use Rattle.mon_host.specs.declared.level.Level.TheVariants as level
 use Rattle.mon_poller.specs.declared.fault.ResponseFault.TheVariants.{OtherEngine, Stray}
@@ -28,18 +28,10 @@ use Rattle.mon_rounds.specs.declared.reporting.RoundReport.{RoundReport}
 use Rattle.mon_station.specs.State.{State}
 use Rattle.mon_station.specs.declared.fault.StationFault.{StationFault}
 use Rattle.mon_station.specs.declared.fault.StationFault.TheVariants.{Response}
-use Rattle.mon_station_commands.specs.Line.{Line, noted, stated, unstated}
+use Rattle.mon_file_commands.specs.Line.{AreNoted, Line, noted, stated, unstated}
 use Rattle.mon_station_commands.specs.Opening.{IsNoStation}
 use Rattle.mon_udp.specs.Addr.{addr_text}
 use Rattle.mon_udp.specs.declared.addr.Addr.{Addr}
-
--- Lines were sent to standard error, one after another: each has its level and its octets, or some
--- octets if its text is not stated.
-abbrev pub AreNoted : List Line → List AtHost → Type 0
-AreNoted [] log = log ≡ []
-AreNoted (line ∷ lines) log = (octets : List ℕ) × (rest : List AtHost)
-    × IfSome line.text (λ t. octets ≡ t) × AreNoted lines rest
-    × (log ≡ Noted line.level octets ∷ rest)
 
 -- the line of a response that was refused; none if another engine answered, or if it came too late,
 -- which are changes

@@ -24,8 +24,8 @@ use Rattle.mon_rounds.specs.declared.freshness.InstanceAge.{InstanceAge}
 use Rattle.mon_rounds.specs.declared.freshness.PeerAge.{PeerAge}
 use Rattle.mon_rounds.specs.declared.freshness.TargetAge.{TargetAge}
 use Rattle.mon_station.specs.declared.fault.StationFault.{StationFault}
-use Rattle.mon_station_commands.specs.Line.{Line, unstated}
-use Rattle.mon_station_commands.specs.Telling.{AreNoted, plural, text_lines}
+use Rattle.mon_file_commands.specs.Line.{AreNoted, Line, unstated}
+use Rattle.mon_station_commands.specs.Telling.{plural, text_lines}
 use Rattle.mon_station_commands.specs.declared.troubles.Facts.{Facts}
 use Rattle.mon_station_commands.specs.declared.troubles.Key.{Key}
 use Rattle.mon_udp.specs.Addr.{addr_text}

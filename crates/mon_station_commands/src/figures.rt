@@ -30,6 +30,7 @@ pub(crate) fn make_figures<S: Receiver + Drop, O: Outbox + Drop>(
         failed_saves: fresh.failed_saves(),
         strangers: fresh.strangers(),
         round_ms: fresh.round_ms(),
+        overruns: fresh.overruns(),
         targets: target_figures(alloc, fresh.targets(), engines, live.ended)?,
         ages: ages_of(alloc, fresh.instances())?,
         stale_after: live.reports.stale_after,

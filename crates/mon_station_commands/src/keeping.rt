@@ -4,7 +4,7 @@ ghost use Rattle.std.specs.Prelude.{◌≡◌, false, IfErr, OnErr, OnOk, codes,
 ghost use Rattle.mon_disk.specs.Kept.{is_spoiled};
 ghost use Rattle.mon_host.specs.Log.{GoesOnBy};
 ghost use Rattle.mon_station_commands.specs.Keeping.{IsFileKept, IsKeptBy, IsMoveSaid, IsNoFile, IsTaken, found_at, found_by, strayed_lines};
-ghost use Rattle.mon_station_commands.specs.Telling.{AreNoted};
+ghost use Rattle.mon_file_commands.specs.Line.{AreNoted};
 
 use crate::live::Live;
 use crate::opening::{or_file_failure, unopened};

@@ -1,9 +1,9 @@
-//! The commands of stations: running one, what limits it, and the report of its file.
+//! The command of stations: running one, and what limits it.
 #![tactic(auto)]
 
-mod age;
 mod copying;
 mod figures;
+mod following;
 mod keeping;
 mod limits;
 mod live;
@@ -16,5 +16,4 @@ mod station;
 mod telling;
 mod troubles;
 
-pub use opening::print_saved_report;
 pub use station::run_station;

@@ -13,8 +13,9 @@ ghost use Rattle.mon_station_commands.specs.Opening.{IsNoStation, last_of, unsav
 ghost use Rattle.mon_station_commands.specs.Places.{IsNoSocket};
 ghost use Rattle.mon_station_commands.specs.Rounds.{nothing_kept};
 ghost use Rattle.mon_station_commands.specs.Spans.{AreAlarms, AreChanges, AreTroubles, AreTroublesOf, IsAccountOf, IsOfRun, IsOfSpan, IsReportOr, IsSavedAfter, IsSpanRun, IsTimedRun, is_round};
-ghost use Rattle.mon_station_commands.specs.Steps.{OrMemory, SomeOr, only};
-ghost use Rattle.mon_station_commands.specs.Telling.{AreNoted, IsOpening, announced_notes, new_lines, start_lines};
+ghost use Rattle.mon_station_commands.specs.Steps.{SomeOr, only};
+ghost use Rattle.mon_file_commands.specs.Line.{AreNoted};
+ghost use Rattle.mon_station_commands.specs.Telling.{IsOpening, announced_notes, new_lines, start_lines};
 ghost use Rattle.mon_station.specs.Seen.{seen};
 ghost use Rattle.mon_station.specs.State.{state_of};
 
@@ -40,7 +41,7 @@ use mon_web_receiver::Shows;
 use std::alloc::{AllocError, Global};
 use std::io;
 use std::net::SocketAddr;
-use std::time::Instant;
+use std::time::{Instant, SystemTime};
 
 /// What a running station works with.
 pub(crate) struct Live<S: Receiver + Drop, O: Outbox + Drop> {
@@ -91,6 +92,10 @@ pub(crate) struct Kept {
     /// `true` if the station's file was not at its path before the last round, and could not be made
     /// there.
     pub(crate) strayed: bool,
+    /// When its settings were changed last, if that is known.
+    pub(crate) settings_at: Option<SystemTime>,
+    /// `true` if it ends since its settings changed.
+    pub(crate) ends: bool,
 }
 
 impl Kept {
@@ -104,6 +109,8 @@ impl Kept {
             unprinted: None,
             unwritten: None,
             strayed: false,
+            settings_at: None,
+            ends: false,
         }
     }
 }
@@ -117,6 +124,8 @@ impl Drop for Kept {
             unprinted: _,
             unwritten: _,
             strayed: _,
+            settings_at: _,
+            ends: _,
         } = self;
     }
 }
@@ -459,6 +468,7 @@ fn run_timed<H: Host, S: Receiver + Drop, O: Outbox + Drop>(
         span,
         ended: live.ended,
         took: live.ended.saturating_sub(began),
+        interval: u64::from(live.reports.interval) * 1000,
     };
     match ran {
         Ok(()) => Ok(Ok(spell)),

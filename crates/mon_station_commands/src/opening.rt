@@ -1,33 +1,25 @@
 //! The file and the socket of a station.
 
-ghost use Rattle.std.specs.Prelude.{◌≡◌, ◌↔◌, ◌<◌, ◌≤◌, ◌++◌, IsTrue, codes, false, option_map};
+ghost use Rattle.std.specs.Prelude.{◌≡◌, ◌↔◌, ◌<◌, ◌≤◌, ◌++◌, IsTrue, codes, false};
 ghost use Rattle.mon_console.specs.Failure.{HasLine, IsOf};
 ghost use Rattle.mon_faults.specs.Fault.{innermost_of, station_fault};
 ghost use Rattle.mon_host.specs.Log.{GoesOnBy};
 ghost use Rattle.mon_station_commands.specs.Opening.{IsOfFile, IsOpenedOr};
 ghost use Rattle.mon_station_commands.specs.Places.{AreSavedIf, IsFile, IsHad, IsLookedAt, IsSocketOr, IsWithout, MayBeThere};
-ghost use Rattle.mon_station_commands.specs.Saved.{AreLooks, IsBoardIn, IsLook, IsReportCommand, IsSameHead, IsSavedIn, IsSavedReport, IsSteadyRead};
-ghost use Rattle.mon_station_commands.specs.Telling.{AreNoted, short_lines, short_lines_of};
+ghost use Rattle.mon_file_commands.specs.Line.{AreNoted};
+ghost use Rattle.mon_station_commands.specs.Telling.{short_lines, short_lines_of};
 
-use crate::age::tell_age;
-use mon_board::Board;
-use mon_cli::ReportArgs;
-use mon_console::{Failure, Fault, Printing, print, read_labelled_station, read_part};
+use mon_console::{Failure, Fault};
 use mon_disk::{Disk, DiskError, FileDisk, KeeperFault, OpenFault, SLOT_SIZE};
-use mon_host::{Host, Level, Part, Reason};
+use mon_file_commands::saved_in;
+use mon_host::{Host, Level, Reason};
 use mon_settings::StationSettings;
-use mon_station::{Innermost, StationFault, board_in};
+use mon_station::{Innermost, StationFault};
 use mon_udp::Addr;
 use std::alloc::Global;
 use std::fs::File;
 use std::io;
 use std::rt::Files;
-
-/// How many octets the head of a slot has: its gate, its generation and the length of its body.
-const HEAD: u64 = 17;
-
-/// How often a file is read again, at most, that is saved to meanwhile.
-const MORE_READS: u32 = 15;
 
 /// Returns the socket of the settings, which is taken before the file, so that of two processes over
 /// one file the second neither makes the file nor writes it; yet the faults of an existing
@@ -149,130 +141,6 @@ fn is_short(size: u64) -> bool
     size > 0 && size < 2 * SLOT_SIZE
 }
 
-/// Prints the report of the windows in the file of the settings, and says on standard error how long
-/// ago it was saved. The station is not started, and the file is only read.
-pub fn print_saved_report<H: Host>(
-    alloc: Global,
-    host: &mut H,
-    words: ReportArgs<'_, '_>,
-) -> Result<(), Failure>
-    ensures { GoesOnBy (λ log. IsReportCommand words.entry.settings.now
-        (option_map (λ l. l.now) words.entry.labels) words.entry.printed log result)
-        (H.log host.old) (H.log host.new) }
-{
-    let (settings, printing) = read_labelled_station(
-        alloc,
-        host,
-        words.settings,
-        words.labels,
-        words.printed,
-    )?;
-    print_saved(alloc, host, &settings, printing)
-}
-
-/// Prints the report of the windows in the file of these settings, with how old it is, which is said
-/// too.
-fn print_saved<H: Host>(
-    alloc: Global,
-    host: &mut H,
-    settings: &StationSettings,
-    printing: Printing,
-) -> Result<(), Failure>
-    ensures { GoesOnBy (λ log. IsSavedReport settings.now printing log result)
-        (H.log host.old) (H.log host.new) }
-{
-    let board = saved_in(alloc, host, settings)?;
-    let age = tell_age(host, &settings.file);
-    let printing = printing.with_file_age(age);
-    let text = printing.report(alloc, &board, None)?;
-    print(alloc, host, text.as_slice())
-}
-
-/// Reads the windows in the file of the settings, which is only read.
-pub(crate) fn saved_in<H: Host>(
-    alloc: Global,
-    host: &mut H,
-    settings: &StationSettings,
-) -> Result<Board, Failure>
-    ensures { GoesOnBy (λ log. IsSavedIn settings.now log result) (H.log host.old) (H.log host.new) }
-{
-    let octets = read_saved(alloc, host, &settings.file, MORE_READS)?;
-    board_of(alloc, settings, octets.as_slice())
-}
-
-/// Returns the windows in the octets of the file of the settings.
-fn board_of(alloc: Global, settings: &StationSettings, octets: &[u8]) -> Result<Board, Failure>
-    ensures { IsBoardIn settings.now octets.now result }
-{
-    match board_in(alloc, settings.core.watch(), octets) {
-        Ok(board) => Ok(board),
-        Err(fault) => Err(file_failure(alloc, &settings.file, fault)),
-    }
-}
-
-/// Reads a station's file, which may be saved to meanwhile. If a head of it changed until the end of
-/// the read, it is read again, at most this many times more.
-fn read_saved<H: Host>(
-    alloc: Global,
-    host: &mut H,
-    path: &str,
-    more: u32,
-) -> Result<Vec<u8>, Failure>
-    ensures { GoesOnBy (λ log. IsSteadyRead path.now more log result) (H.log host.old) (H.log host.new) }
-{
-    // A file that is longer than a station's is damaged, whatever follows.
-    let whole = Part {
-        at: 0,
-        length: 2 * SLOT_SIZE + 1,
-    };
-    let octets = read_part(alloc, host, path, whole)?;
-    if more == 0 {
-        return Ok(octets);
-    }
-    if has_heads_of(host, path, octets.as_slice()) {
-        return Ok(octets);
-    }
-    drop(octets);
-    read_saved(alloc, host, path, more - 1)
-}
-
-/// Returns `true` if the heads of both slots in the file are still those of these octets, or cannot
-/// be read: then nothing tells that the file changed.
-fn has_heads_of<H: Host>(host: &mut H, path: &str, octets: &[u8]) -> bool
-    ensures { GoesOnBy (λ log. AreLooks path.now octets.now log result) (H.log host.old) (H.log host.new) }
-{
-    if has_head_of(host, path, octets, 0) {
-        return has_head_of(host, path, octets, SLOT_SIZE);
-    }
-    false
-}
-
-/// Returns `true` if the head of the slot at this place is that of these octets, or cannot be read.
-fn has_head_of<H: Host>(host: &mut H, path: &str, octets: &[u8], at: u64) -> bool
-    requires { at ≤ 1048576 }
-    ensures { GoesOnBy (λ log. IsLook path.now octets.now at log result) (H.log host.old) (H.log host.new) }
-{
-    match host.read_part(path, Part { at, length: HEAD }) {
-        Ok(head) => is_head_at(octets, at, head.as_slice()),
-        Err(_) => true,
-    }
-}
-
-/// Returns `true` if this is the head of the slot at this place of these octets, or is cut short.
-fn is_head_at(octets: &[u8], at: u64, head: &[u8]) -> bool
-    requires { at ≤ 1048576 }
-    ensures { IsSameHead octets.now at head.now result }
-{
-    if (head.len() as u64) < HEAD {
-        return true;
-    }
-    let (start, end) = (at as usize, (at + HEAD) as usize);
-    if octets.len() < end {
-        return false;
-    }
-    &octets[start..end] == head
-}
-
 /// Returns what the opening of the station's file gave.
 pub(crate) fn or_file_failure<T: Drop>(
     alloc: Global,
@@ -326,13 +194,6 @@ pub(crate) fn or_socket_failure<T: Drop>(
     }
 }
 
-/// Why a station's file gave no report.
-fn file_failure(alloc: Global, path: &str, fault: StationFault) -> Failure
-    ensures { IsOf (station_fault fault) result }
-{
-    Failure::at(alloc, path, Fault::from(fault))
-}
-
 /// Why a station's file, of this disk, gave no station.
 pub(crate) fn unopened(alloc: Global, path: &str, fault: StationFault, disk: &FileDisk) -> Failure
     ensures { IsOf (station_fault fault) result }
@@ -341,7 +202,7 @@ pub(crate) fn unopened(alloc: Global, path: &str, fault: StationFault, disk: &Fi
         StationFault::Keeper(KeeperFault::DiskFault) => {
             disk_failure(alloc, path, Fault::from(fault), disk)
         }
-        _ => file_failure(alloc, path, fault),
+        _ => Failure::at(alloc, path, Fault::from(fault)),
     }
 }
 

@@ -6,7 +6,8 @@ ghost use Rattle.mon_host.specs.AtHost.{IsNoted};
 ghost use Rattle.mon_host.specs.Log.{GoesOnBy};
 ghost use Rattle.mon_rounds.specs.Grid.{share_of};
 ghost use Rattle.mon_station_commands.specs.Pace.{IsDate, IsPassed, IsTime, IsWait};
-ghost use Rattle.mon_station_commands.specs.Telling.{AreNoted, first_line, outrun_lines};
+ghost use Rattle.mon_file_commands.specs.Line.{AreNoted};
+ghost use Rattle.mon_station_commands.specs.Telling.{first_line, outrun_lines};
 
 use crate::live::{Live, Transport, run_span};
 use crate::snapshot::Snapshot;

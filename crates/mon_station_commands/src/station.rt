@@ -1,6 +1,6 @@
 //! The command `station`.
 
-ghost use Rattle.std.specs.Prelude.{◌≡◌, IfErr, IfOk, IsOk, None, Ok, OnOk, Some, map, option_copied, option_map, string_bytes};
+ghost use Rattle.std.specs.Prelude.{◌≡◌, IfErr, IfOk, IsOk, None, Ok, false, OnOk, Some, map, option_copied, option_map, string_bytes};
 ghost use Rattle.mon_disk.specs.declared.fault.KeeperFault.{KeeperFault};
 ghost use Rattle.mon_faults.specs.declared.fault.Fault.TheVariants.{Keeper};
 ghost use Rattle.mon_host.specs.declared.level.Level.TheVariants.{Info};
@@ -12,9 +12,11 @@ ghost use Rattle.mon_station_commands.specs.Limits.{longest_gap};
 ghost use Rattle.mon_station_commands.specs.Places.{IsDoor, IsNoSocket, IsPlaceAt, IsShownOpened, IsUnseenOpened};
 ghost use Rattle.mon_station_commands.specs.Rounds.{AreRun, IsBetween, IsLastRun, IsRoundRun, IsRun};
 ghost use Rattle.mon_station_commands.specs.Station.{AreLevels, ArePaths, AreReports, IsRunning, IsSeen, IsSeenIf, IsStation, IsStationIf, IsUnseen};
-ghost use Rattle.mon_station_commands.specs.Steps.{OrMemory, SomeOr, only};
+ghost use Rattle.mon_file_commands.specs.Steps.{OrMemory};
+ghost use Rattle.mon_station_commands.specs.Steps.{SomeOr, only};
 ghost use Rattle.mon_station_commands.specs.Telling.{http_line};
 
+use crate::following::{date_settings, look_at_settings};
 use crate::keeping::keep_file;
 use crate::limits::{longest_gap, print_limits};
 use crate::live::{Live, Paths, Place, Reports, Setup, open_transport, run_span, start_station};
@@ -24,7 +26,7 @@ use crate::printing::{print_between, print_last, write_out};
 use crate::showing::show;
 use crate::snapshot::Snapshot;
 use mon_cli::{StationArgs, Timing};
-use mon_console::{Failure, Printing, SharedPrinting, read_labelled_station};
+use mon_console::{Failure, Fault, Printing, SharedPrinting, read_labelled_station};
 use mon_host::{Host, Level};
 use mon_rounds::{Receiver, SocketReceiver, Span, is_due};
 use mon_settings::StationSettings;
@@ -105,17 +107,17 @@ fn run_by<R: Clock + Files<File = File> + Net + AllocGlobal, H: Host>(
     words: StationArgs<'_, '_>,
     door: Option<Addr>,
 ) -> Result<(), Failure>
-    ensures { GoesOnBy (λ log. IsSeenIf door words.entry.timing setup.reports setup.settings log result)
+    ensures { GoesOnBy (λ log. IsSeenIf door words.entry setup.reports setup.settings log result)
         (H.log host.old) (H.log host.new) }
 {
     match door {
-        None => run_unseen(rt, host, setup, words.timing),
+        None => run_unseen(rt, host, setup, words),
         Some(at) => {
             let front = Front {
                 at,
                 hosts: words.http_hosts,
             };
-            run_shown(rt, host, setup, words.timing, front)
+            run_shown(rt, host, setup, words, front)
         }
     }
 }
@@ -194,9 +196,9 @@ fn run_unseen<R: Clock + Files<File = File> + Net + AllocGlobal, H: Host>(
     rt: &R,
     host: &mut H,
     setup: Setup,
-    timing: Timing,
+    words: StationArgs<'_, '_>,
 ) -> Result<(), Failure>
-    ensures { GoesOnBy (λ log. IsUnseen timing setup.reports setup.settings log result)
+    ensures { GoesOnBy (λ log. IsUnseen words.entry setup.reports setup.settings log result)
         (H.log host.old) (H.log host.new) }
 {
     let alloc = rt.alloc();
@@ -204,7 +206,7 @@ fn run_unseen<R: Clock + Files<File = File> + Net + AllocGlobal, H: Host>(
     let receiver = SocketReceiver::new(rt, alloc, &socket);
     let transport = open_transport(alloc, &setup.settings, &socket, receiver)?;
     let mut live = start_station(alloc, host, setup, place, transport)?;
-    run_rounds(rt, host, &mut live, timing)
+    run_rounds(rt, host, &mut live, words)
 }
 
 /// Opens the socket and the file of the settings.
@@ -227,10 +229,10 @@ fn run_shown<R: Clock + Files<File = File> + Net + AllocGlobal, H: Host>(
     rt: &R,
     host: &mut H,
     setup: Setup,
-    timing: Timing,
+    words: StationArgs<'_, '_>,
     front: Front<'_, '_>,
 ) -> Result<(), Failure>
-    ensures { GoesOnBy (λ log. IsSeen front.entry.at timing setup.reports setup.settings log result)
+    ensures { GoesOnBy (λ log. IsSeen front.entry.at words.entry setup.reports setup.settings log result)
         (H.log host.old) (H.log host.new) }
 {
     let Shown {
@@ -238,14 +240,14 @@ fn run_shown<R: Clock + Files<File = File> + Net + AllocGlobal, H: Host>(
         place,
         web,
         at,
-    } = open_shown(rt, host, &setup.settings, front, timing)?;
+    } = open_shown(rt, host, &setup.settings, front, words.timing)?;
     let alloc = rt.alloc();
     let receiver = WebReceiver::new(rt, rt, &socket, web, place.origin);
     let transport = open_transport(alloc, &setup.settings, &socket, receiver)?;
     let mut live = start_station(alloc, host, setup, place, transport)?;
     tell_http(host, at);
     show(alloc, &mut live);
-    run_rounds(rt, host, &mut live, timing)
+    run_rounds(rt, host, &mut live, words)
 }
 
 /// Prints where a station serves HTTP.
@@ -364,31 +366,37 @@ fn run_rounds<
     H: Host,
     S: Shows<Snapshot> + Drop,
     O: Outbox + Drop,
->(rt: &R, host: &mut H, live: &mut Live<S, O>, timing: Timing) -> Result<(), Failure>
-    ensures { GoesOnBy (λ log. IsRun timing live.old.reports.printing live.old.reports.paths
+>(rt: &R, host: &mut H, live: &mut Live<S, O>, words: StationArgs<'_, '_>) -> Result<(), Failure>
+    ensures { GoesOnBy (λ log. IsRun words.entry live.old.reports.printing live.old.reports.paths
         live.old.kept log result) (H.log host.old) (H.log host.new) }
 {
     let alloc = rt.alloc();
-    run_all(rt, host, live, timing)?;
+    run_all(rt, host, live, words)?;
     print_last(alloc, host, live)?;
     ended(alloc, live)
 }
 
-/// Runs a station's rounds, and what is between them.
+/// Runs a station's rounds, and what is between them. If the station follows its settings, and these
+/// changed, the next round is the last one.
 fn run_all<
     R: Files<File = File> + AllocGlobal,
     H: Host,
     S: Shows<Snapshot> + Drop,
     O: Outbox + Drop,
->(rt: &R, host: &mut H, live: &mut Live<S, O>, timing: Timing) -> Result<(), Failure>
-    ensures run { GoesOnBy (λ log. AreRun timing live.old.reports.printing live.old.reports.paths
+>(rt: &R, host: &mut H, live: &mut Live<S, O>, words: StationArgs<'_, '_>) -> Result<(), Failure>
+    ensures run { GoesOnBy (λ log. AreRun words.entry live.old.reports.printing live.old.reports.paths
         live.old.kept log live.new.kept result) (H.log host.old) (H.log host.new) }
     ensures printing { live.new.reports.printing ≡ live.old.reports.printing }
     ensures paths { live.new.reports.paths ≡ live.old.reports.paths }
 {
     let alloc = rt.alloc();
+    let timing = words.timing;
+    date_settings(host, live, words);
     let mut pace = start_pace(alloc, host, live, timing)?;
     for number in 1..timing.rounds {
+        if look_at_settings(alloc, host, live, words, number) {
+            return run_round(rt, host, live, number, true);
+        }
         run_round(rt, host, live, number, is_due(number, timing.save_every))?;
         print_due(alloc, host, live, number, timing.report_every);
         pace = wait_for_next(alloc, host, live, number, pace)?;
@@ -463,8 +471,10 @@ fn ended<S: Receiver + Drop, O: Outbox + Drop>(
     ensures printed { OnOk result (live.old.kept.unprinted ≡ None) }
     ensures written { OnOk result (live.old.kept.unwritten ≡ None) }
     ensures fault { (fault : KeeperFault) → live.old.kept.unsaved ≡ Some fault → IfErr result (λ failure. failure.fault ≡ Keeper fault) }
-    ensures reports { IsEnded live.old.kept.unsaved live.old.kept.unprinted live.old.kept.unwritten result }
-    ensures done { live.old.kept.unsaved ≡ None → live.old.kept.unprinted ≡ None → live.old.kept.unwritten ≡ None → IsOk result }
+    ensures reports { IsEnded live.old.kept.unsaved live.old.kept.unprinted live.old.kept.unwritten
+        live.old.kept.ends result }
+    ensures done { live.old.kept.unsaved ≡ None → live.old.kept.unprinted ≡ None
+        → live.old.kept.unwritten ≡ None → live.old.kept.ends ≡ false → IsOk result }
 {
     if let Some(fault) = live.kept.unsaved {
         return Err(unsaved(alloc, &live.reports.paths.file, fault, live.station.disk()));
@@ -474,8 +484,18 @@ fn ended<S: Receiver + Drop, O: Outbox + Drop>(
     }
     match live.kept.unwritten.take() {
         Some(failure) => Err(failure),
-        None => Ok(()),
+        None => ended_by(live.kept.ends),
     }
+}
+
+/// Returns the failure of a station that ends since its settings changed, if it does.
+fn ended_by(ends: bool) -> Result<(), Failure>
+    ensures { IsEnded None None None ends result }
+{
+    if ends {
+        return Err(Failure::plain(Fault::SettingsChanged));
+    }
+    Ok(())
 }
 
 /// Returns the paths of the file for each round's report, if there is one, and of the station's own.

@@ -6,8 +6,8 @@ ghost use Rattle.mon_host.specs.AtHost.{IsNoted};
 ghost use Rattle.mon_host.specs.Log.{GoesOnBy};
 ghost use Rattle.mon_station.specs.State.{state_of};
 ghost use Rattle.mon_host.specs.declared.level.Level.TheVariants.{Warning};
-ghost use Rattle.mon_station_commands.specs.Line.{stated, unstated};
-ghost use Rattle.mon_station_commands.specs.Telling.{AreNoted, AreSaid, alarm_level, alarm_note, last_stray, line_in, memory_line, notice_lines, plural, raised_notes, response_lines, restart_level, restart_line, restart_lines, round_lines, stray_lines, strays_in, unreceived_lines, unsaved_line, unsent_lines};
+ghost use Rattle.mon_file_commands.specs.Line.{AreNoted, stated, unstated};
+ghost use Rattle.mon_station_commands.specs.Telling.{AreSaid, alarm_level, alarm_note, last_stray, line_in, memory_line, notice_lines, plural, raised_notes, response_lines, restart_level, restart_line, restart_lines, round_lines, stray_lines, strays_in, unreceived_lines, unsaved_line, unsent_lines};
 
 use crate::live::Live;
 use mon_alarms::{AlarmChange, AlarmEvent};

@@ -3,7 +3,8 @@
 ghost use Rattle.std.specs.Prelude.{◌≡◌, ◌<◌, IfOk, OnOk, length, map, option_map, slice_get, string_bytes};
 ghost use Rattle.std.specs.List.{list_any};
 ghost use Rattle.mon_host.specs.Log.{GoesOnBy};
-ghost use Rattle.mon_station_commands.specs.Telling.{AreNoted, text_lines};
+ghost use Rattle.mon_file_commands.specs.Line.{AreNoted};
+ghost use Rattle.mon_station_commands.specs.Telling.{text_lines};
 ghost use Rattle.mon_station_commands.specs.Troubles.{AreTroublesSaid, BeginsWith, IsText, count_alike, engine_at, engine_text, joins, key_in, key_of, key_text, late_at, late_text, level_of, many_text, offers_at, offers_text, other_text, own_text, peer_at, peer_text, silent_at, silent_text, stale_at, stale_many, stale_one, target_at, target_of, target_text, text_at, trouble_level, words_of};
 
 use crate::telling::plural;

@@ -11,6 +11,7 @@ use Rattle.mon_smi.specs.Labels.{name_text}
 use Rattle.mon_survey.specs.declared.answers.Cell.{Cell}
 use Rattle.mon_survey.specs.Appended.{shown_by}
 use Rattle.mon_survey.specs.Labels.{AreInterfaces, count_items}
+use Rattle.mon_survey.specs.Relabelled.{AreRest}
 
 -- where there is nothing new, all is kept if there was nothing
 pub nothing_new : {A B : Type 0} (R : A → B → Type 0) (test : B → Bool) (old : List A) (new : List B) (b : Bool) → length new < 1 → b ≡ (length old == 0)
@@ -31,6 +32,15 @@ no_interface engine cells [] (v ∷ vs) b lt e = (λ t. absurd (some t), λ all.
     some : b ≡ true → ⊥
     some t = grind (arith, nat_tests)
 no_interface engine cells (i ∷ is) values b lt e = absurd (omega arith)
+
+-- where no old table is left, no new one may be
+pub no_rest : (engine : List ℕ) (old new : List Value) (b : Bool) → length old < 1 → b ≡ (length new == 0) → (IsTrue b → AreRest engine (items_view old) (items_view new)) × (AreRest engine (items_view old) (items_view new) → IsTrue b)
+no_rest engine [] [] b lt e = (λ _. tt, λ _. e)
+no_rest engine [] (v ∷ vs) b lt e = (λ t. absurd (some t), λ all. absurd all)
+  where
+    some : b ≡ true → ⊥
+    some t = grind (arith, nat_tests)
+no_rest engine (o ∷ os) new b lt e = absurd (omega arith)
 
 -- the tables of a list are as many as its values
 pub counted : (vs : List Value) → count_items (items_view vs) ≡ length vs

@@ -1,7 +1,7 @@
 -- The numbers and names of faults.
 use Rattle.std.specs.Prelude.{ℕ, List, codes}
 use Rattle.mon_survey.specs.declared.fault.SurveyFault.{SurveyFault}
-use Rattle.mon_survey.specs.declared.fault.SurveyFault.TheVariants.{OutOfMemory, NoEngine, NotRising, BadIndex, NoCounter, TooMany, BadText, Refused, Misread, SameEngine, TooManyTargets, BadLabels, TooManyInterfaces, EngineChanged}
+use Rattle.mon_survey.specs.declared.fault.SurveyFault.TheVariants.{OutOfMemory, NoEngine, NotRising, BadIndex, NoCounter, TooMany, BadText, Refused, Misread, SameEngine, TooManyTargets, BadLabels, TooManyInterfaces, EngineChanged, OtherEngine}
 
 -- the number of a fault
 abbrev pub number_of : SurveyFault → ℕ
@@ -19,6 +19,7 @@ number_of (TooManyTargets n) = 11
 number_of BadLabels = 12
 number_of (TooManyInterfaces n) = 13
 number_of EngineChanged = 14
+number_of OtherEngine = 15
 
 -- the name of a fault, as a printed line gives it
 abbrev pub name_of : SurveyFault → List ℕ
@@ -36,3 +37,4 @@ name_of (TooManyTargets n) = codes "TooManyTargets"
 name_of BadLabels = codes "BadLabels"
 name_of (TooManyInterfaces n) = codes "TooManyInterfaces"
 name_of EngineChanged = codes "EngineChanged"
+name_of OtherEngine = codes "OtherEngine"

@@ -48,7 +48,7 @@ fn polls(engine: &[u8], target: &Target) -> bool
     target.engine.as_slice() == engine
 }
 
-fn polls_any(engine: &[u8], targets: &[Target]) -> bool
+pub(crate) fn polls_any(engine: &[u8], targets: &[Target]) -> bool
     ensures { result ≡ list_any (polls engine.now) targets.now }
 {
     targets.iter().any(|target| polls(engine, target))

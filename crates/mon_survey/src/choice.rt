@@ -77,7 +77,7 @@ impl Choice<'_> {
 }
 
 /// Returns `true` if the octets contain the part.
-fn has_part(all: &[u8], part: &[u8]) -> bool
+pub(crate) fn has_part(all: &[u8], part: &[u8]) -> bool
     ensures { result ≡ has_part part.now all.now }
 {
     let mut rest = all;

@@ -69,10 +69,13 @@ pub enum SurveyFault {
     /// The agent's engine id was another one at the end of the walk than at its start.
     #[error("the agent's engine id changed during the walk: is another agent behind this address?")]
     EngineChanged,
+    /// No target of the settings is an agent of this engine id.
+    #[error("no target of the settings has this agent's engine id: is it another agent, or are these the settings of another one?")]
+    OtherEngine,
 }
 
 impl SurveyFault {
-    /// The number of the fault, 1 to 14.
+    /// The number of the fault, 1 to 15.
     pub fn number(self) -> u8
         ensures { result ≡ number_of self }
     {
@@ -91,6 +94,7 @@ impl SurveyFault {
             SurveyFault::BadLabels => 12,
             SurveyFault::TooManyInterfaces(_) => 13,
             SurveyFault::EngineChanged => 14,
+            SurveyFault::OtherEngine => 15,
         }
     }
 
@@ -113,6 +117,7 @@ impl SurveyFault {
             SurveyFault::BadLabels => "BadLabels",
             SurveyFault::TooManyInterfaces(_) => "TooManyInterfaces",
             SurveyFault::EngineChanged => "EngineChanged",
+            SurveyFault::OtherEngine => "OtherEngine",
         }
     }
 }

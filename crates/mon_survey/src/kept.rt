@@ -45,7 +45,7 @@ fn is_same_target(one: &Target, other: &Target) -> bool
 }
 
 /// Returns `true` if the new targets begin with the old ones.
-fn are_kept_targets(old: &[Target], new: &[Target]) -> bool
+pub(crate) fn are_kept_targets(old: &[Target], new: &[Target]) -> bool
     ensures { IsTrue result ↔ AllZip IsSameTarget old.now (take (length old.now) new.now) }
 {
     let [one, old @ ..] = old else {
@@ -80,7 +80,7 @@ fn are_kept_instances(engine: &[u8], old: &[Watched], new: &[Watched]) -> bool
 }
 
 /// The instance of this number.
-fn instance_at(instances: &[Watched], number: u16) -> Option<&Instance>
+pub(crate) fn instance_at(instances: &[Watched], number: u16) -> Option<&Instance>
     ensures { option_copied result ≡ instance_at instances.now number }
 {
     match instances.get(usize::from(number)) {
@@ -214,7 +214,7 @@ fn are_kept_others(old: &StationSettings, new: &StationSettings) -> bool
 }
 
 /// Returns `true` if what is outside of targets and alarms is the same.
-fn are_kept_scalars(old: &StationSettings, new: &StationSettings) -> bool
+pub(crate) fn are_kept_scalars(old: &StationSettings, new: &StationSettings) -> bool
     ensures { IsTrue result ↔ KeepsScalars (station_view old.now) (station_view new.now) }
 {
     is_kept_own(old, new) && are_kept_others(old, new)

@@ -21,7 +21,7 @@ use toml::{Table, Value};
 const MOST_INTERFACES: usize = 4096;
 
 /// The tree of a text.
-fn tree(alloc: Global, text: &str) -> Result<Table, SurveyFault>
+pub(crate) fn tree(alloc: Global, text: &str) -> Result<Table, SurveyFault>
     ensures tree { IfOk result (λ t. parse_document text.now ≡ Some (table_view t)) }
     ensures none { IfErr result (λ e. (e ≡ SurveyFault.OutOfMemory) ⊎ ((e ≡ SurveyFault.BadLabels) × (parse_document text.now ≡ None))) }
 {
@@ -42,7 +42,7 @@ fn find<'t>(table: &'t Table, key: &str) -> Option<&'t Value>
 }
 
 /// The tables of interfaces in a tree; `None` where they are no list.
-fn interfaces(table: &Table) -> Option<&[Value]>
+pub(crate) fn interfaces(table: &Table) -> Option<&[Value]>
     ensures { option_map (λ v. items_view v.now) result ≡ items_at (get_member (codes "interface") (table_view table.now)) }
 {
     items_in(find(table, "interface"))
@@ -62,7 +62,7 @@ fn items_in(found: Option<&Value>) -> Option<&[Value]>
 }
 
 /// The text at a key.
-fn text_at<'v>(value: &'v Value, key: &str) -> Option<&'v str>
+pub(crate) fn text_at<'v>(value: &'v Value, key: &str) -> Option<&'v str>
     ensures { option_copied result ≡ text_at key.now (view value.now) }
 {
     match value.get(key) {
@@ -72,7 +72,7 @@ fn text_at<'v>(value: &'v Value, key: &str) -> Option<&'v str>
 }
 
 /// The number at a key.
-fn number_at(value: &Value, key: &str) -> Option<i64>
+pub(crate) fn number_at(value: &Value, key: &str) -> Option<i64>
     ensures { result ≡ number_at key.now (view value.now) }
 {
     match value.get(key) {
@@ -163,7 +163,7 @@ fn are_interfaces(
 }
 
 /// Returns `true` if the tables say the same.
-fn is_same(one: &Value, other: &Value) -> bool
+pub(crate) fn is_same(one: &Value, other: &Value) -> bool
     ensures { IsTrue result ↔ IsSameInterface (view one.now) (view other.now) }
 {
     are_alike(text_at(one, "engine"), text_at(other, "engine"))
@@ -204,7 +204,7 @@ fn has_engine(engine: &str, values: &[Value]) -> bool
     is_of(engine, text_at(value, "engine")) || has_engine(engine, values)
 }
 
-fn is_of(engine: &str, found: Option<&str>) -> bool
+pub(crate) fn is_of(engine: &str, found: Option<&str>) -> bool
     ensures { result ≡ is_of engine.now (option_copied found.entry) }
 {
     match found {
@@ -306,7 +306,11 @@ fn labels_after(
 }
 
 /// Returns the file of the interfaces of these indexes.
-fn labels_of(source: &Source<'_>, old: &str, indexes: &[u32]) -> Result<String, SurveyFault>
+pub(crate) fn labels_of(
+    source: &Source<'_>,
+    old: &str,
+    indexes: &[u32],
+) -> Result<String, SurveyFault>
     ensures reads { IfOk result (λ text. IsLabels old.now source.now.engine.now source.now.answers.now indexes.now (string_bytes text)) }
     ensures fault { IfErr result (IsNoLabels old.now source.now.engine.now source.now.answers.now indexes.now) }
 {

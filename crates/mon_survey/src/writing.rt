@@ -58,7 +58,7 @@ fn first_of(octets: &[u8]) -> &[u8]
 }
 
 /// Adds at most 64 octets as a comment shows them.
-fn put_cleaned(text: &mut String, octets: &[u8]) -> Result<(), AllocError>
+pub(crate) fn put_cleaned(text: &mut String, octets: &[u8]) -> Result<(), AllocError>
     ensures { OnOk result (string_bytes text.new ≡ string_bytes text.old ++ cleaned octets.now) }
 {
     for octet in first_of(octets) {

@@ -9,7 +9,7 @@ use Rattle.clap.specs.declared.error.Error.{Error}
 use Rattle.clap.specs.declared.error.kind.ErrorKind.{ErrorKind as UsageKind}
 use Rattle.clap.specs.declared.error.kind.ErrorKind.TheVariants as usage
 use Rattle.mon_app.specs.Network.{Agents, Ports}
-use Rattle.mon_cli.specs.Asked.{AsksFor, LacksColumns, LacksInterval, LacksRounds, is_on}
+use Rattle.mon_cli.specs.Asked.{AsksFor, LacksColumns, LacksInterval, LacksNumber, LacksRounds, LacksSource, is_on}
 use Rattle.mon_cli.specs.Program.{IsParseOf, Reads}
 use Rattle.mon_cli.specs.declared.meaning.Asked.{Asked}
 use Rattle.mon_cli.specs.declared.meaning.Asked.TheVariants as asked
@@ -24,10 +24,13 @@ use Rattle.mon_console.specs.Failure.{IsMemory, IsTold}
 use Rattle.mon_console.specs.Files.{IsPrint}
 use Rattle.mon_console.specs.declared.failure.Failure.{Failure}
 use Rattle.mon_settings_commands.specs.Command.{AreSettings}
-use Rattle.mon_station_commands.specs.Saved.{IsReportCommand}
+use Rattle.mon_carry_commands.specs.Carry.{IsCarryCommand}
+use Rattle.mon_carry_commands.specs.Saving.{Saved}
+use Rattle.mon_file_commands.specs.Command.{IsReportCommand}
 use Rattle.mon_station_commands.specs.Station.{IsStation}
 use Rattle.mon_faults.specs.Fault.{lasts}
 use Rattle.mon_faults.specs.declared.fault.Fault.{Fault}
+use Rattle.mon_faults.specs.declared.fault.Fault.TheVariants.{SettingsChanged}
 use Rattle.mon_host.specs.AtHost.{AtHost, AtTerminal, Listed, Noted, Unlisted}
 use Rattle.mon_host.specs.declared.level.Level.TheVariants as level
 use Rattle.mon_host.specs.Reason.{Why}
@@ -38,9 +41,10 @@ abbrev pub IsToldIf : Bool → Failure → List AtHost → Type 0
 IsToldIf true failure log = log ≡ []
 IsToldIf false failure log = IsTold level.Error failure log
 
--- The exit status of a fault: 1, and 3 if a station has it and it lasts, since another start would
--- only meet it again.
+-- The exit status of a fault: 1, and of a station 4 if it ends since its settings changed, and 3 if the
+-- fault lasts, since another start would only meet it again.
 abbrev pub status_of : (station : Bool) → Fault → ℕ
+status_of true SettingsChanged = 4
 status_of true fault = if lasts fault then 3 else 1
 status_of false fault = 1
 
@@ -91,24 +95,24 @@ IsUsage usage.DisplayVersion log status = IsRun false IsShown log status
 IsUsage _ log status = (line : List ℕ) × IsRefused line log status
 
 -- what a command does
-abbrev pub Does : Agents → Ports → Asked → List AtHost → Result Unit Failure → Type 0
-Does agents ports asked.Version log result = IsPrint (codes "snmpmon 0.1.0\n") log result
-Does agents ports (asked.Replay words) log result = IsRecording words log result
-Does agents ports (asked.Get request) log result = IsGetting agents request log result
-Does agents ports (asked.Next request) log result = IsGettingNext agents request log result
-Does agents ports (asked.Bulk words) log result = IsAskingMany agents words log result
-Does agents ports (asked.Walk words) log result = IsWalking agents words log result
-Does agents ports (asked.Set words) log result = IsSetting agents words log result
-Does agents ports (asked.Settings words) log result = AreSettings agents words log result
-Does agents ports (asked.Agent words) log result = IsServingAgent ports words log result
-Does agents ports (asked.Answer words) log result = IsAnswering words log result
-Does agents ports (asked.Mib words) log result =
+abbrev pub Does : Agents → Ports → Saved → Asked → List AtHost → Result Unit Failure → Type 0
+Does agents ports saved asked.Version log result = IsPrint (codes "snmpmon 0.1.0\n") log result
+Does agents ports saved (asked.Replay words) log result = IsRecording words log result
+Does agents ports saved (asked.Get request) log result = IsGetting agents request log result
+Does agents ports saved (asked.Next request) log result = IsGettingNext agents request log result
+Does agents ports saved (asked.Bulk words) log result = IsAskingMany agents words log result
+Does agents ports saved (asked.Walk words) log result = IsWalking agents words log result
+Does agents ports saved (asked.Set words) log result = IsSetting agents words log result
+Does agents ports saved (asked.Settings words) log result = AreSettings agents words log result
+Does agents ports saved (asked.Agent words) log result = IsServingAgent ports words log result
+Does agents ports saved (asked.Answer words) log result = IsAnswering words log result
+Does agents ports saved (asked.Mib words) log result =
     IsMib words.file.now (map (λ f. f.now) words.modules.now) log result
-Does agents ports (asked.Station words) log result = IsStation words log result
-Does agents ports (asked.Report words) log result = IsReportCommand words.settings.now
-    (option_map (λ l. l.now) words.labels) words.printed log result
-Does agents ports asked.SelfTest log result = IsSelfTest log result
-Does agents ports (asked.Rehearse words) log result = IsRehearsing words log result
+Does agents ports saved (asked.Station words) log result = IsStation words log result
+Does agents ports saved (asked.Report words) log result = IsReportCommand words log result
+Does agents ports saved (asked.Carry words) log result = IsCarryCommand saved words log result
+Does agents ports saved asked.SelfTest log result = IsSelfTest log result
+Does agents ports saved (asked.Rehearse words) log result = IsRehearsing words log result
 
 -- whether a command reads lines from standard input
 abbrev pub reads_input : Asked → Bool
@@ -138,11 +142,11 @@ IsBefore true log = Hints log
 IsBefore false log = log ≡ []
 
 -- the command is run; first comes the line at a terminal, if it reads from one
-pub record IsRunFor (agents : Agents) (ports : Ports) (asked : Asked) (log : List AtHost) (status : ℕ) : Type 0 where
+pub record IsRunFor (agents : Agents) (ports : Ports) (saved : Saved) (asked : Asked) (log : List AtHost) (status : ℕ) : Type 0 where
   pub begin : List AtHost
   pub before : IsBefore (reads_input asked) begin
   pub rest : List AtHost
-  pub run : IsRun (is_station asked) (Does agents ports asked) rest status
+  pub run : IsRun (is_station asked) (Does agents ports saved asked) rest status
   pub log_is : log ≡ begin ++ rest
 
 -- what is said of a station without rounds
@@ -155,16 +159,32 @@ abbrev pub no_interval : List ℕ
 no_interval =
     codes "snmpmon: station wants --interval SECONDS with --phase; see snmpmon station --help\n"
 
+-- what is said of a report of saved windows that is given no settings and no file, or both
+abbrev pub no_source : List ℕ
+no_source =
+    codes "snmpmon: report wants either SETTINGS or --file FILE; see snmpmon report --help\n"
+
+-- what is said of series that must have a station's number, which a file without settings has not
+abbrev pub no_number : List ℕ
+no_number =
+    codes "snmpmon: report wants SETTINGS with --station-label; see snmpmon report --help\n"
+
 -- what is said of rows that are to be sorted of a report that is no table
 abbrev pub no_columns : List ℕ
 no_columns = codes "snmpmon: --sort wants --columns; see snmpmon report --help\n"
 
 -- The command is run, unless a station or a report lacks something, which one line says.
-pub record IsStartOf (agents : Agents) (ports : Ports) (asked : Asked) (log : List AtHost) (status : ℕ) : Type 0 where
+pub record IsStartOf (agents : Agents) (ports : Ports) (saved : Saved) (asked : Asked) (log : List AtHost) (status : ℕ) : Type 0 where
   pub rounds : LacksRounds asked → IsRefused no_rounds log status
   pub interval : ¬ (LacksRounds asked) → LacksInterval asked → IsRefused no_interval log status
-  pub columns : ¬ (LacksRounds asked) → ¬ (LacksInterval asked) → LacksColumns asked → IsRefused no_columns log status
-  pub run : ¬ (LacksRounds asked) → ¬ (LacksInterval asked) → ¬ (LacksColumns asked) → IsRunFor agents ports asked log status
+  pub source : ¬ (LacksRounds asked) → ¬ (LacksInterval asked) → LacksSource asked
+      → IsRefused no_source log status
+  pub number : ¬ (LacksRounds asked) → ¬ (LacksInterval asked) → ¬ (LacksSource asked)
+      → LacksNumber asked → IsRefused no_number log status
+  pub columns : ¬ (LacksRounds asked) → ¬ (LacksInterval asked) → ¬ (LacksSource asked)
+      → ¬ (LacksNumber asked) → LacksColumns asked → IsRefused no_columns log status
+  pub run : ¬ (LacksRounds asked) → ¬ (LacksInterval asked) → ¬ (LacksSource asked)
+      → ¬ (LacksNumber asked) → ¬ (LacksColumns asked) → IsRunFor agents ports saved asked log status
 
 -- what arguments ask for, by the rows that the command line makes of them
 pub record IsAskedBy (words : List Text) (a : Asked) : Type 0 where
@@ -174,15 +194,15 @@ pub record IsAskedBy (words : List Text) (a : Asked) : Type 0 where
       (rows_of (found_of matches)) (subcommand_rows_of matches) a
 
 -- what the program does with its arguments: it starts the command, or says why there is none
-abbrev pub IsStartWith : Agents → Ports → List Text → List AtHost → ℕ → Type 0
-IsStartWith agents ports words log status = ((a : Asked) × IsAskedBy words a × IsStartOf agents ports a log status)
+abbrev pub IsStartWith : Agents → Ports → Saved → List Text → List AtHost → ℕ → Type 0
+IsStartWith agents ports saved words log status = ((a : Asked) × IsAskedBy words a × IsStartOf agents ports saved a log status)
     ⊎ ((e : Error) × Reads words (Err e) × IsUsage (kind_of e) log status)
 
 -- the arguments were listed, and the program does what they say
-pub record IsListedStart (agents : Agents) (ports : Ports) (log : List AtHost) (status : ℕ) : Type 0 where
+pub record IsListedStart (agents : Agents) (ports : Ports) (saved : Saved) (log : List AtHost) (status : ℕ) : Type 0 where
   pub words : List Text
   pub rest : List AtHost
-  pub start : IsStartWith agents ports words rest status
+  pub start : IsStartWith agents ports saved words rest status
   pub log_is : log ≡ Listed words ∷ rest
 
 -- the arguments could not be listed, for this reason
@@ -194,5 +214,5 @@ pub record IsUnlistedStart (log : List AtHost) (status : ℕ) : Type 0 where
 
 -- A whole run: what is done from the first call to the last, and the exit status. Agents are reached and
 -- ports opened by a network.
-abbrev pub IsStart : Agents → Ports → List AtHost → ℕ → Type 0
-IsStart agents ports log status = IsListedStart agents ports log status ⊎ IsUnlistedStart log status
+abbrev pub IsStart : Agents → Ports → Saved → List AtHost → ℕ → Type 0
+IsStart agents ports saved log status = IsListedStart agents ports saved log status ⊎ IsUnlistedStart log status

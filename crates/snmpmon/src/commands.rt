@@ -10,15 +10,17 @@ ghost use Rattle.snmpmon.specs.Start.{Does, Hints, IsBefore, IsEnd, IsRefused, I
 
 use clap::error::ErrorKind;
 use mon_app::{Listens, Opens};
+use mon_carry_commands::{Saves, carry_windows};
 use mon_cli::{Asked, VERSION, read, read_command};
 use mon_commands::{
     bulk, get, next, print_answers, print_names, print_recorded, print_rehearsal, run_self_test,
     serve_agent, set, walk,
 };
 use mon_console::{Failure, Fault, print};
+use mon_file_commands::print_saved_report;
 use mon_host::{Host, Level, Reason};
 use mon_settings_commands::print_settings;
-use mon_station_commands::{print_saved_report, run_station};
+use mon_station_commands::run_station;
 use std::alloc::{AllocError, Global};
 use std::fs::File;
 use std::io;
@@ -40,22 +42,31 @@ const NO_ROUNDS: &str =
 const NO_INTERVAL: &str =
     "snmpmon: station wants --interval SECONDS with --phase; see snmpmon station --help\n";
 
+/// The line for a report of saved windows that is given no settings and no file, or both.
+const NO_SOURCE: &str =
+    "snmpmon: report wants either SETTINGS or --file FILE; see snmpmon report --help\n";
+
+/// The line for series that must have a station's number, which a file without settings has not.
+const NO_NUMBER: &str =
+    "snmpmon: report wants SETTINGS with --station-label; see snmpmon report --help\n";
+
 /// The line for rows that are to be sorted of a report that is no table.
 const NO_COLUMNS: &str = "snmpmon: --sort wants --columns; see snmpmon report --help\n";
 
 /// Runs the command that the arguments name, and returns the exit status.
-pub fn start<R: Clock + Files<File = File> + Net + AllocGlobal, N: Opens + Listens, H: Host>(
-    rt: &R,
-    net: &N,
-    host: &mut H,
-) -> u8
+pub fn start<
+    R: Clock + Files<File = File> + Net + AllocGlobal,
+    N: Opens + Listens,
+    K: Saves,
+    H: Host,
+>(rt: &R, net: &N, disks: &K, host: &mut H) -> u8
     ensures { GoesOnBy (λ log. IsStart (agents_by (N.Opens.has_opened net.now)
         (N.Opens.has_failed net.now) N.Wire.told) (ports_by (N.Listens.has_opened net.now)
         (N.Listens.has_failed net.now) N.Port.told N.Port.failures)
-        log result) (H.log host.old) (H.log host.new) }
+        (K.asked_save disks.now) log result) (H.log host.old) (H.log host.new) }
 {
     match host.arguments() {
-        Ok(words) => start_with(rt, net, host, words.as_slice()),
+        Ok(words) => start_with(rt, net, disks, host, words.as_slice()),
         Err(reason) => end_unlisted(host, reason),
     }
 }
@@ -80,20 +91,20 @@ fn refuse<H: Host>(host: &mut H, line: &str) -> u8
 }
 
 /// Runs the command that these arguments name, and returns the exit status.
-fn start_with<R: Clock + Files<File = File> + Net + AllocGlobal, N: Opens + Listens, H: Host>(
-    rt: &R,
-    net: &N,
-    host: &mut H,
-    words: &[String],
-) -> u8
+fn start_with<
+    R: Clock + Files<File = File> + Net + AllocGlobal,
+    N: Opens + Listens,
+    K: Saves,
+    H: Host,
+>(rt: &R, net: &N, disks: &K, host: &mut H, words: &[String]) -> u8
     ensures { GoesOnBy (λ log. IsStartWith (agents_by (N.Opens.has_opened net.now)
         (N.Opens.has_failed net.now) N.Wire.told) (ports_by (N.Listens.has_opened net.now)
         (N.Listens.has_failed net.now) N.Port.told N.Port.failures)
-        (map string_bytes words.now) log result)
+        (K.asked_save disks.now) (map string_bytes words.now) log result)
         (H.log host.old) (H.log host.new) }
 {
     match read(rt.alloc(), words) {
-        Ok(matches) => start_command(rt, net, host, read_command(&matches)),
+        Ok(matches) => start_command(rt, net, disks, host, read_command(&matches)),
         Err(error) => end_usage(rt.alloc(), host, &error),
     }
 }
@@ -132,17 +143,17 @@ fn show<H: Host>(alloc: Global, host: &mut H, error: &clap::Error) -> Result<(),
 }
 
 /// Runs a command if it lacks nothing, and returns the exit status.
-fn start_command<R: Clock + Files<File = File> + Net + AllocGlobal, N: Opens + Listens, H: Host>(
-    rt: &R,
-    net: &N,
-    host: &mut H,
-    asked: Asked<'_, '_>,
-) -> u8
+fn start_command<
+    R: Clock + Files<File = File> + Net + AllocGlobal,
+    N: Opens + Listens,
+    K: Saves,
+    H: Host,
+>(rt: &R, net: &N, disks: &K, host: &mut H, asked: Asked<'_, '_>) -> u8
     requires { IsWithin asked }
     ensures { GoesOnBy (λ log. IsStartOf (agents_by (N.Opens.has_opened net.now)
         (N.Opens.has_failed net.now) N.Wire.told) (ports_by (N.Listens.has_opened net.now)
         (N.Listens.has_failed net.now) N.Port.told N.Port.failures)
-        asked.entry log result)
+        (K.asked_save disks.now) asked.entry log result)
         (H.log host.old) (H.log host.new) }
 {
     if asked.lacks_rounds() {
@@ -151,29 +162,35 @@ fn start_command<R: Clock + Files<File = File> + Net + AllocGlobal, N: Opens + L
     if asked.lacks_interval() {
         return refuse(host, NO_INTERVAL);
     }
+    if asked.lacks_source() {
+        return refuse(host, NO_SOURCE);
+    }
+    if asked.lacks_number() {
+        return refuse(host, NO_NUMBER);
+    }
     if asked.lacks_columns() {
         return refuse(host, NO_COLUMNS);
     }
-    run_to_end(rt, net, host, asked)
+    run_to_end(rt, net, disks, host, asked)
 }
 
 /// Runs a command, and returns the exit status.
-fn run_to_end<R: Clock + Files<File = File> + Net + AllocGlobal, N: Opens + Listens, H: Host>(
-    rt: &R,
-    net: &N,
-    host: &mut H,
-    asked: Asked<'_, '_>,
-) -> u8
+fn run_to_end<
+    R: Clock + Files<File = File> + Net + AllocGlobal,
+    N: Opens + Listens,
+    K: Saves,
+    H: Host,
+>(rt: &R, net: &N, disks: &K, host: &mut H, asked: Asked<'_, '_>) -> u8
     requires { IsWithin asked }
     ensures { GoesOnBy (λ log. IsRunFor (agents_by (N.Opens.has_opened net.now)
         (N.Opens.has_failed net.now) N.Wire.told) (ports_by (N.Listens.has_opened net.now)
         (N.Listens.has_failed net.now) N.Port.told N.Port.failures)
-        asked.entry log result)
+        (K.asked_save disks.now) asked.entry log result)
         (H.log host.old) (H.log host.new) }
 {
     prepare(host, reads_input(&asked));
     let station = is_station(&asked);
-    let done = run(rt, net, host, asked);
+    let done = run(rt, net, disks, host, asked);
     end(host, done, station)
 }
 
@@ -228,18 +245,24 @@ fn end<H: Host>(host: &mut H, done: Result<(), Failure>, station: bool) -> u8
     }
 }
 
-/// Returns the exit status of a fault: 1, and 3 if a station has it and it lasts, so that nobody
-/// starts the station again before somebody has mended it.
+/// Returns the exit status of a fault: 1, and of a station 4 if it ends since its settings changed, so
+/// that it is started with them, and 3 if the fault lasts, so that nobody starts it again before somebody
+/// has mended it.
 fn status_of(station: bool, fault: Fault) -> u8
     ensures { result ≡ status_of station fault }
 {
-    if station && fault.lasts() { 3 } else { 1 }
+    match fault {
+        Fault::SettingsChanged if station => 4,
+        _ if station && fault.lasts() => 3,
+        _ => 1,
+    }
 }
 
 /// Does what the arguments ask for.
-fn run<R: Clock + Files<File = File> + Net + AllocGlobal, N: Opens + Listens, H: Host>(
+fn run<R: Clock + Files<File = File> + Net + AllocGlobal, N: Opens + Listens, K: Saves, H: Host>(
     rt: &R,
     net: &N,
+    disks: &K,
     host: &mut H,
     asked: Asked<'_, '_>,
 ) -> Result<(), Failure>
@@ -247,7 +270,7 @@ fn run<R: Clock + Files<File = File> + Net + AllocGlobal, N: Opens + Listens, H:
     ensures { GoesOnBy (λ log. Does (agents_by (N.Opens.has_opened net.now)
         (N.Opens.has_failed net.now) N.Wire.told) (ports_by (N.Listens.has_opened net.now)
         (N.Listens.has_failed net.now) N.Port.told N.Port.failures)
-        asked.entry log result) (H.log host.old) (H.log host.new) }
+        (K.asked_save disks.now) asked.entry log result) (H.log host.old) (H.log host.new) }
 {
     let alloc = rt.alloc();
     match asked {
@@ -264,6 +287,7 @@ fn run<R: Clock + Files<File = File> + Net + AllocGlobal, N: Opens + Listens, H:
         Asked::Mib(words) => print_names(alloc, host, words),
         Asked::Station(words) => run_station(rt, host, words),
         Asked::Report(words) => print_saved_report(alloc, host, words),
+        Asked::Carry(words) => carry_windows(alloc, disks, host, words),
         Asked::SelfTest => run_self_test(alloc, host),
         Asked::Rehearse(words) => print_rehearsal(alloc, host, words),
     }

@@ -8,6 +8,7 @@
 mod commands;
 
 use mon_app::SystemNetwork;
+use mon_carry_commands::Disks;
 use mon_host::{System, Terminals};
 use std::io::IsTerminal;
 use std::process::ExitCode;
@@ -18,5 +19,6 @@ fn main(rt: HostRuntime) -> ExitCode {
         output: rt.stdout().is_terminal(),
     };
     let mut host = System::new(&rt, terminals);
-    ExitCode::from(commands::start(&rt, &SystemNetwork::new(&rt), &mut host))
+    let (network, disks) = (SystemNetwork::new(&rt), Disks::new(&rt));
+    ExitCode::from(commands::start(&rt, &network, &disks, &mut host))
 }

@@ -116,6 +116,46 @@ BUGS = {
         "    Ok((all, copied(alloc, &settings.label)?))\n",
         "    Ok((all, None))\n",
     ),
+    "no_series_has_the_number": (
+        "src/labels.rt",
+        "    if is_label { Some(number) } else { None }",
+        "    let _ = (is_label, number);\n    None",
+    ),
+    "each_series_has_the_number": (
+        "src/labels.rt",
+        "    if is_label { Some(number) } else { None }",
+        "    if is_label || number == 7 { Some(number) } else { None }",
+    ),
+    "the_number_of_nobody": (
+        "src/labels.rt",
+        "    if is_label { Some(number) } else { None }",
+        "    if is_label { Some(0) } else { None }",
+    ),
+    "the_number_where_names_are_shown": (
+        "src/labels.rt",
+        "number_if(printed.station_label, settings.core.station())",
+        "number_if(printed.named.shown, settings.core.station())",
+    ),
+    "the_number_is_the_wait": (
+        "src/labels.rt",
+        "number_if(printed.station_label, settings.core.station())",
+        "{\n        let _ = settings.core.station();\n        number_if(printed.station_label, settings.wait_ms)\n    }",
+    ),
+    "keeps_the_old_number": (
+        "src/printing.rt",
+        "        printing.presentation.station = station;\n",
+        "        let _ = station;\n",
+    ),
+    "each_report_has_the_number_1": (
+        "src/printing.rt",
+        "        station: None,\n",
+        "        station: Some(1),\n",
+    ),
+    "labels_take_the_number_away": (
+        "src/printing.rt",
+        "        presentation.label = label;\n",
+        "        presentation.label = label;\n        presentation.station = None;\n",
+    ),
     "an_alarm_without_labels": (
         "src/printing.rt",
         "            None => alarm_line(alloc, &InNumbers, board, labels, change),",

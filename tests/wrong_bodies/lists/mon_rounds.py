@@ -1,6 +1,26 @@
 """Bugs of mon_rounds for tests/wrong_bodies/planted: by name the file, what stands there once, and the bug in its place."""
 
 BUGS = {
+    "counts_no_overrun": (
+        "src/freshness.rt",
+        "        self.overruns = overruns_after(spell, self.overruns);\n",
+        "",
+    ),
+    "counts_rounds_without_an_interval": (
+        "src/freshness.rt",
+        "    0 < interval && interval < took\n",
+        "    interval < took\n",
+    ),
+    "counts_rounds_that_take_the_interval": (
+        "src/freshness.rt",
+        "    0 < interval && interval < took\n",
+        "    0 < interval && interval <= took\n",
+    ),
+    "counts_waits_as_rounds": (
+        "src/freshness.rt",
+        "        Span::Between(_) => before,\n    }\n}\n\n/// How many polls of the target",
+        "        Span::Between(_) => before.saturating_add(1),\n    }\n}\n\n/// How many polls of the target",
+    ),
     "announces_each_alarm_at_once": (
         "src/course.rt",
         "            announcer: Announcer::new(alloc, after, states.as_slice())?,",
@@ -623,8 +643,8 @@ BUGS = {
     ),
     "a_first_sample_is_not_new": (
         "src/freshness.rt",
-        "        (Some(one), Some(other)) => one == other,\n        _ => false,",
-        "        (Some(one), Some(other)) => one == other,\n        _ => true,",
+        "        (Some(one), Some(other)) => have_same(one, other),\n        _ => false,",
+        "        (Some(one), Some(other)) => have_same(one, other),\n        _ => true,",
     ),
     "the_oldest_sample_for_the_newest": (
         "src/freshness.rt",

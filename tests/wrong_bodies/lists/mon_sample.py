@@ -13,8 +13,8 @@ BUGS = {
     ),
     "is_never_the_same": (
         "src/sample.rt",
-        "        self.kind.tag() == other.kind.tag()",
-        "        self.kind.tag() != other.kind.tag()",
+        "        self.kind == other.kind\n",
+        "        self.kind != other.kind\n",
     ),
     "boots_are_the_time": (
         "src/sample.rt",

@@ -1,6 +1,26 @@
 """Bugs of mon_settings_commands for tests/wrong_bodies/planted: by name the file, what stands there once, and the bug in its place."""
 
 BUGS = {
+    "labels_at_another_path": (
+        "src/updating.rt",
+        "replace_file(alloc, host, file.path, text.as_bytes())",
+        "replace_file(alloc, host, file.old.labels, text.as_bytes())",
+    ),
+    "reads_no_labels": (
+        "src/updating.rt",
+        'match known_names(alloc, old, ground.survey.engine.as_slice()) {',
+        'match known_names(alloc, "", ground.survey.engine.as_slice()) {',
+    ),
+    "says_one_line": (
+        "src/updating.rt",
+        "note_lines(host, rest)",
+        "note_lines(host, if rest.len() > 3 { &[] } else { rest })",
+    ),
+    "splits_while_updating": (
+        "src/updating.rt",
+        "if words.append.is_some() || words.split.is_some() || !words.modules.is_empty() {",
+        "if words.append.is_some() || !words.modules.is_empty() {",
+    ),
     "never_appends": (
         "src/settings.rt",
         "    if words.split.is_some() || !words.modules.is_empty() {",
@@ -118,8 +138,8 @@ BUGS = {
     ),
     "options_together_are_a_file_fault": (
         "src/failing.rt",
-        "    Failure::said(Fault::App(AppFault::BadText), more)",
-        "    Failure::said(Fault::App(AppFault::FileFault), more)",
+        "shown as in the settings\",\n    );\n    Failure::said(Fault::App(AppFault::BadText), more)\n}\n\n/// Why settings that are brought",
+        "shown as in the settings\",\n    );\n    Failure::said(Fault::App(AppFault::FileFault), more)\n}\n\n/// Why settings that are brought",
     ),
     "raises_alarms_unasked": (
         "src/words.rt",
@@ -647,6 +667,9 @@ BUGS = {
 
 # Those that break a promise as a whole, each with its function: tests/bodies tries them in the gate.
 PROMISES = {
+    "labels_at_another_path": "updating::write_relabelled_file",
+    "reads_no_labels": "updating::known_of",
+    "says_one_line": "updating::note_lines",
     "tries_no_poll": "trying::try_polls",
     "never_halves": "trying::fit",
     "prints_no_settings": "settings::print_whole",

@@ -1,25 +1,80 @@
 """Bugs of mon_station_commands for tests/wrong_bodies/planted: by name the file, what stands there once, and the bug in its place."""
 
 BUGS = {
+    "never_looks_at_its_settings": (
+        "src/station.rt",
+        "        if look_at_settings(alloc, host, live, words, number) {",
+        "        if number == 0 && look_at_settings(alloc, host, live, words, number) {",
+    ),
+    "saves_nothing_before_it_ends": (
+        "src/station.rt",
+        "            return run_round(rt, host, live, number, true);",
+        "            return run_round(rt, host, live, number, false);",
+    ),
+    "ends_well_though_its_settings_changed": (
+        "src/station.rt",
+        "        return Err(Failure::plain(Fault::SettingsChanged));\n",
+        "        return Ok(());\n",
+    ),
+    "ends_for_each_change": (
+        "src/following.rt",
+        "                at: Some(at),\n                ends: words.follows,",
+        "                at: Some(at),\n                ends: true,",
+    ),
+    "follows_no_settings": (
+        "src/following.rt",
+        "                at: Some(at),\n                ends: words.follows,",
+        "                at: Some(at),\n                ends: false,",
+    ),
+    "ends_for_settings_that_cannot_be_used": (
+        "src/following.rt",
+        "                at: known_after(&failure, at),\n                ends: false,",
+        "                at: known_after(&failure, at),\n                ends: words.follows,",
+    ),
+    "loses_news_where_memory_ends": (
+        "src/following.rt",
+        "    if failure.is_of_memory() {\n        return None;\n    }\n    Some(at)",
+        "    let _ = failure;\n    Some(at)",
+    ),
+    "says_bad_settings_again_and_again": (
+        "src/following.rt",
+        "    if failure.is_of_memory() {\n        return None;\n    }\n    Some(at)",
+        "    let _ = (failure, at);\n    None",
+    ),
+    "changed_settings_are_not_spoken_of": (
+        "src/following.rt",
+        "            tell_changed(host, words.settings, round, words.follows);\n",
+        "            let _ = (&host, round);\n",
+    ),
+    "bad_settings_are_not_spoken_of": (
+        "src/following.rt",
+        "            failure.tell(host, Level::Warning);\n",
+        "            let _ = &host;\n",
+    ),
+    "each_look_is_news": (
+        "src/following.rt",
+        "        Ok(passed) => passed.is_zero(),",
+        "        Ok(_) => false,",
+    ),
+    "no_look_is_news": (
+        "src/following.rt",
+        "        (None, Some(at)) => Some(at),",
+        "        (None, Some(_)) => None,",
+    ),
+    "settings_that_went_back_stay_unseen": (
+        "src/following.rt",
+        "        Err(_) => false,\n    }\n}\n\n/// Reads the settings",
+        "        Err(_) => true,\n    }\n}\n\n/// Reads the settings",
+    ),
+    "the_start_is_not_dated": (
+        "src/following.rt",
+        "    live.kept.settings_at = host.changed(words.settings).ok();",
+        "    let _ = host.changed(words.settings);\n    live.kept.settings_at = None;",
+    ),
     "a_report_that_only_the_station_may_read": (
         "src/printing.rt",
         "    publish_file(alloc, host, path, text.as_slice())",
         "    mon_console::replace_file(alloc, host, path, text.as_slice())",
-    ),
-    "says_no_age": (
-        "src/opening.rt",
-        "    let age = tell_age(host, &settings.file);\n",
-        "    let age = None;\n",
-    ),
-    "says_the_age_of_another_file": (
-        "src/opening.rt",
-        "    let age = tell_age(host, &settings.file);\n",
-        '    let age = tell_age(host, "station.mon");\n',
-    ),
-    "says_the_age_after_the_report": (
-        "src/opening.rt",
-        "    let age = tell_age(host, &settings.file);\n    let printing = printing.with_file_age(age);\n    let text = printing.report(alloc, &board, None)?;\n    print(alloc, host, text.as_slice())\n",
-        "    let text = printing.report(alloc, &board, None)?;\n    let done = print(alloc, host, text.as_slice());\n    let _ = tell_age(host, &settings.file);\n    done\n",
     ),
     "an_alarm_of_no_round": (
         "src/live.rt",
@@ -50,21 +105,6 @@ BUGS = {
         "src/printing.rt",
         "    live.reports.printing.fit_output(host);\n    print_report(alloc, host, live)",
         "    print_report(alloc, host, live)",
-    ),
-    "the_age_is_said_and_not_printed": (
-        "src/opening.rt",
-        "    let printing = printing.with_file_age(age);\n",
-        "    let _ = age;\n",
-    ),
-    "ages_are_milliseconds": (
-        "src/age.rt",
-        "        Ok(passed) => Some(passed.as_secs()),",
-        "        Ok(passed) => Some(passed.as_millis() as u64),",
-    ),
-    "what_is_to_come_is_no_second_old": (
-        "src/age.rt",
-        "        Err(_) => None,\n    }\n}\n\n/// Says how many",
-        "        Err(_) => Some(0),\n    }\n}\n\n/// Says how many",
     ),
     "checks_settings_without_a_file": (
         "src/station.rt",
@@ -197,15 +237,10 @@ BUGS = {
         "    for instance in instances {",
         "    for instance in instances.iter().skip(1) {",
     ),
-    "a_bad_file_is_a_bad_station": (
-        "src/opening.rt",
-        "    Failure::at(alloc, path, Fault::from(fault))",
-        "    Failure::at(alloc, path, Fault::Station(fault))",
-    ),
     "each_unopened_file_is_damaged": (
         "src/opening.rt",
-        "        _ => file_failure(alloc, path, fault),",
-        "        _ => file_failure(alloc, path, StationFault::Keeper(KeeperFault::Damaged)),",
+        "            disk_failure(alloc, path, Fault::from(fault), disk)\n        }\n        _ => Failure::at(alloc, path, Fault::from(fault)),",
+        "            disk_failure(alloc, path, Fault::from(fault), disk)\n        }\n        _ => Failure::at(alloc, path, Fault::Keeper(KeeperFault::Damaged)),",
     ),
     "each_unsaved_file_is_too_large": (
         "src/opening.rt",
@@ -335,41 +370,6 @@ BUGS = {
         "src/station.rt",
         "        words.settings,\n        words.labels,\n        words.printed,\n    )?;\n    require_file",
         "        words.settings,\n        None,\n        words.printed,\n    )?;\n    require_file",
-    ),
-    "a_saved_report_is_printed_twice": (
-        "src/opening.rt",
-        "    print(alloc, host, text.as_slice())",
-        "    print(alloc, host, text.as_slice())?;\n    print(alloc, host, text.as_slice())",
-    ),
-    "a_report_of_the_settings_file": (
-        "src/opening.rt",
-        "    print_saved(alloc, host, &settings, printing)",
-        "    let _ = host.read_file(words.settings);\n    print_saved(alloc, host, &settings, printing)",
-    ),
-    "the_first_head_twice": (
-        "src/opening.rt",
-        "        return has_head_of(host, path, octets, SLOT_SIZE);",
-        "        return has_head_of(host, path, octets, 0);",
-    ),
-    "no_second_head": (
-        "src/opening.rt",
-        "        return has_head_of(host, path, octets, SLOT_SIZE);",
-        "        return true;",
-    ),
-    "an_unread_head_has_changed": (
-        "src/opening.rt",
-        "        Ok(head) => is_head_at(octets, at, head.as_slice()),\n        Err(_) => true,",
-        "        Ok(head) => is_head_at(octets, at, head.as_slice()),\n        Err(_) => false,",
-    ),
-    "a_file_is_read_17_times": (
-        "src/opening.rt",
-        "const MORE_READS: u32 = 15;",
-        "const MORE_READS: u32 = 16;",
-    ),
-    "a_part_of_a_file_is_read": (
-        "src/opening.rt",
-        "        length: 2 * SLOT_SIZE + 1,",
-        "        length: 2 * SLOT_SIZE,",
     ),
     "a_short_file_is_not_said": (
         "src/opening.rt",
@@ -516,16 +516,6 @@ BUGS = {
         "            if failure.is_of_memory() {",
         "            if !failure.is_of_memory() {",
     ),
-    "looks_at_16_octets": (
-        "src/opening.rt",
-        "const HEAD: u64 = 17;",
-        "const HEAD: u64 = 16;",
-    ),
-    "reads_another_file": (
-        "src/opening.rt",
-        "    let octets = read_saved(alloc, host, &settings.file, MORE_READS)?;",
-        '    let octets = read_saved(alloc, host, "other", MORE_READS)?;',
-    ),
     "says_nothing_of_a_failure": (
         "src/printing.rt",
         "            failure.tell(host, Level::Warning);",
@@ -578,13 +568,13 @@ BUGS = {
     ),
     "a_station_without_rounds": (
         "src/station.rt",
-        "    let mut live = start_station(alloc, host, setup, place, transport)?;\n    run_rounds(rt, host, &mut live, timing)",
-        "    let live = start_station(alloc, host, setup, place, transport)?;\n    let _ = (live, timing);\n    Ok(())",
+        "    let mut live = start_station(alloc, host, setup, place, transport)?;\n    run_rounds(rt, host, &mut live, words)",
+        "    let live = start_station(alloc, host, setup, place, transport)?;\n    let _ = (live, words);\n    Ok(())",
     ),
     "the_last_save_is_forgotten": (
         "src/station.rt",
-        "    run_all(rt, host, live, timing)?;\n",
-        "    run_all(rt, host, live, timing)?;\n    live.kept.unsaved = None;\n",
+        "    run_all(rt, host, live, words)?;\n",
+        "    run_all(rt, host, live, words)?;\n    live.kept.unsaved = None;\n",
     ),
     "a_failed_clock_ends_the_wait": (
         "src/pace.rt",
@@ -717,7 +707,10 @@ BUGS = {
 PROMISES = {
     "looks_at_alarms_between_rounds": "live::tell_changes",
     "never_looks_for_its_file": "station::run_round",
-    "says_no_age": "opening::print_saved",
+    "never_looks_at_its_settings": "station::run_all",
+    "saves_nothing_before_it_ends": "station::run_all",
+    "ends_well_though_its_settings_changed": "station::ended_by",
+    "ends_for_settings_that_cannot_be_used": "following::say_news",
     "forgets_an_unwritten_report": "printing::write_out",
     "ends_well_with_an_unwritten_report": "station::ended",
     "the_last_save_is_forgotten": "station::run_rounds",

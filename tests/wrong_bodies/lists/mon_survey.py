@@ -1,6 +1,51 @@
 """Bugs of mon_survey for tests/wrong_bodies/planted: by name the file, what stands there once, and the bug in its place."""
 
 BUGS = {
+    "adds_what_is_there": (
+        "src/changes.rt",
+        "if has_index(indexes, one.index) {",
+        "if has_index(indexes, one.index) && one.wide {",
+    ),
+    "empties_too_early": (
+        "src/editing.rt",
+        'has_part(old, b"name = \\"") && !has_part(new, b"name = \\"")',
+        'has_part(old, b"name = \\"") && has_part(new, b"name = \\"")',
+    ),
+    "follows_the_first_name": (
+        "src/moving.rt",
+        "if answers.octets(Column::IfX(1), index) == name {",
+        "if answers.octets(Column::IfX(1), index) == name && index > 1_000_000 {",
+    ),
+    "loses_old_alarms": (
+        "src/ruling.rt",
+        "add_left(alloc, &mut all, places, was.instances, was.rules)?;",
+        "add_left(alloc, &mut all, places, was.instances, &[])?;",
+    ),
+    "loses_the_window": (
+        "src/moving.rt",
+        "window: watched.window,",
+        "window: watched.epoch,",
+    ),
+    "passes_one_octet_more": (
+        "src/editing.rt",
+        "return Ok(swap.from.len().saturating_sub(1));",
+        "return Ok(swap.from.len());",
+    ),
+    "splits_at_empty_lines": (
+        "src/editing.rt",
+        'octet == b\'\\n\' && (rest.starts_with(b"\\n[") || (rest.starts_with(b"[") && before != b\'\\n\'))',
+        'octet == b\'\\n\' && (rest.starts_with(b"\\n[") || rest.starts_with(b"["))',
+    ),
+    "swaps_moves": (
+        "src/changes.rt",
+        "changes.push(Change::Moved(index, now))",
+        "changes.push(Change::Moved(now, index))",
+    ),
+    "updates_any_engine": (
+        "src/updating.rt",
+        "if !polls_any(self.places.engine, station.core.targets()) {",
+        "if !polls_any(self.places.engine, station.core.targets()) && station.wait_ms == 7 {",
+    ),
     "an_empty_alias_is_shown": (
         "src/writing.rt",
         "    if alias.is_empty() {\n        return Ok(());\n    }\n    text.push_str",
@@ -436,6 +481,16 @@ BUGS = {
         "        targets: copy_targets(alloc, targets)?,",
         "        targets: copy_targets(alloc, &[])?,",
     ),
+    "knows_empty_names": (
+        "src/relabelling.rt",
+        "        [] => false,\n        _ => !has_part(name, REPLACEMENT),\n",
+        "        _ => !has_part(name, REPLACEMENT),\n",
+    ),
+    "knows_names_that_were_not_utf_8": (
+        "src/relabelling.rt",
+        "        _ => !has_part(name, REPLACEMENT),\n",
+        "        _ => true,\n",
+    ),
     "gives_the_old_targets_too": (
         "src/appending.rt",
         "        let added = after(new.core.targets(), old.core.targets().len());",
@@ -460,6 +515,7 @@ BUGS = {
 
 # what the gate tries: the function that each is in
 PROMISES = {
+    "adds_what_is_there": "changes::add_unless_there",
     "gives_no_targets": "longest::reading_of",
     "takes_ifspeed_at_its_greatest": "answers::speed_of",
     "polls_32_bits_first": "planning::width_of",

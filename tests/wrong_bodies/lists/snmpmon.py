@@ -16,6 +16,11 @@ BUGS = {
         "    if asked.lacks_columns() {\n        return refuse(host, NO_COLUMNS);\n    }\n",
         "",
     ),
+    "labels_a_file_without_a_number": (
+        "src/commands.rt",
+        "    if asked.lacks_number() {\n        return refuse(host, NO_NUMBER);\n    }\n",
+        "",
+    ),
     "looks_at_standard_output_for_a_hint": (
         "src/commands.rt",
         "if host.is_at_terminal() {",
@@ -43,18 +48,18 @@ BUGS = {
     ),
     "does_nothing_and_ends_well": (
         "src/commands.rt",
-        "    match host.arguments() {\n        Ok(words) => start_with(rt, net, host, words.as_slice()),\n        Err(reason) => end_unlisted(host, reason),\n    }\n",
+        "    match host.arguments() {\n        Ok(words) => start_with(rt, net, disks, host, words.as_slice()),\n        Err(reason) => end_unlisted(host, reason),\n    }\n",
         "    0\n",
     ),
     "lists_its_arguments_and_ends_well": (
         "src/commands.rt",
-        "        Ok(words) => start_with(rt, net, host, words.as_slice()),",
+        "        Ok(words) => start_with(rt, net, disks, host, words.as_slice()),",
         "        Ok(_) => 0,",
     ),
     "lists_its_arguments_twice": (
         "src/commands.rt",
-        "    match host.arguments() {\n        Ok(words) => start_with(rt, net, host, words.as_slice()),\n        Err(reason) => end_unlisted(host, reason),\n    }\n",
-        "    let _ = host.arguments();\n    match host.arguments() {\n        Ok(words) => start_with(rt, net, host, words.as_slice()),\n        Err(reason) => end_unlisted(host, reason),\n    }\n",
+        "    match host.arguments() {\n        Ok(words) => start_with(rt, net, disks, host, words.as_slice()),\n        Err(reason) => end_unlisted(host, reason),\n    }\n",
+        "    let _ = host.arguments();\n    match host.arguments() {\n        Ok(words) => start_with(rt, net, disks, host, words.as_slice()),\n        Err(reason) => end_unlisted(host, reason),\n    }\n",
     ),
     "has_no_memory_for_arguments_that_are_no_text": (
         "src/commands.rt",
@@ -103,8 +108,8 @@ BUGS = {
     ),
     "runs_a_command_twice": (
         "src/commands.rt",
-        "    let done = run(rt, net, host, asked);\n",
-        "    let _ = run(rt, net, host, asked);\n    let done = run(rt, net, host, asked);\n",
+        "    let done = run(rt, net, disks, host, asked);\n",
+        "    let _ = run(rt, net, disks, host, asked);\n    let done = run(rt, net, disks, host, asked);\n",
     ),
     "ends_well_whatever_a_command_gives": (
         "src/commands.rt",
@@ -113,8 +118,8 @@ BUGS = {
     ),
     "hints_after_a_command": (
         "src/commands.rt",
-        "    prepare(host, reads_input(&asked));\n    let station = is_station(&asked);\n    let done = run(rt, net, host, asked);\n",
-        "    let (reads, station) = (reads_input(&asked), is_station(&asked));\n    let done = run(rt, net, host, asked);\n    prepare(host, reads);\n",
+        "    prepare(host, reads_input(&asked));\n    let station = is_station(&asked);\n    let done = run(rt, net, disks, host, asked);\n",
+        "    let (reads, station) = (reads_input(&asked), is_station(&asked));\n    let done = run(rt, net, disks, host, asked);\n    prepare(host, reads);\n",
     ),
     "hints_before_each_command": (
         "src/commands.rt",
@@ -226,20 +231,25 @@ BUGS = {
         "        Asked::Version => print(alloc, host, VERSION.as_bytes()),",
         "        Asked::Version => Ok(()),",
     ),
+    "changed_settings_are_any_fault": (
+        "src/commands.rt",
+        "        Fault::SettingsChanged if station => 4,\n",
+        "",
+    ),
     "ends_a_lasting_fault_of_a_station_as_any": (
         "src/commands.rt",
-        "    if station && fault.lasts() { 3 } else { 1 }",
-        "    let _ = (station, fault);\n    1",
+        "        _ if station && fault.lasts() => 3,\n",
+        "",
     ),
     "ends_each_lasting_fault_with_3": (
         "src/commands.rt",
-        "    if station && fault.lasts() { 3 } else { 1 }",
-        "    if fault.lasts() || station && fault.lasts() { 3 } else { 1 }",
+        "        _ if station && fault.lasts() => 3,\n",
+        "        _ if fault.lasts() => 3,\n",
     ),
     "ends_each_fault_of_a_station_with_3": (
         "src/commands.rt",
-        "    if station && fault.lasts() { 3 } else { 1 }",
-        "    if station { 3 } else { 1 + fault.lasts() as u8 * 0 }",
+        "        _ if station && fault.lasts() => 3,\n",
+        "        _ if station => 3,\n",
     ),
     "takes_a_report_for_a_station": (
         "src/commands.rt",

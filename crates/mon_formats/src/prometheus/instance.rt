@@ -1,10 +1,12 @@
 //! The labels of an instance.
 
-ghost use Rattle.std.specs.Prelude.{◌≡◌, ◌++◌, IfOk, OnOk, codes, option_map};
+ghost use Rattle.std.specs.Prelude.{◌≡◌, ◌++◌, IfOk, OnOk, Some, codes, option_map};
 ghost use Rattle.hex.specs.Hex.{encode_lower};
-ghost use Rattle.mon_formats.specs.Prometheus.{at_first_dot, at_last_dot, given_labels, instance_labels, is_in_numbers, joined_labels, label_if, label_text, more_label, object_and_index, object_labels};
+ghost use Rattle.mon_formats.specs.Prometheus.{at_first_dot, at_last_dot, before_labels, given_labels};
+ghost use Rattle.mon_formats.specs.Prometheus.{instance_labels, is_in_numbers, joined_labels, label_if};
+ghost use Rattle.mon_formats.specs.Prometheus.{more_label, object_and_index, object_labels, speed_of};
 
-use crate::prometheus::text::put_label;
+use crate::prometheus::text::{put_label, put_more, put_station_label};
 use mon_page::InstanceLabels;
 use mon_report::Entry;
 use mon_smi::NameTexts;
@@ -17,19 +19,22 @@ pub(crate) struct Labelled<'a, 'e> {
     pub(crate) labels: Option<&'a InstanceLabels>,
 }
 
-/// The labels of an instance: its engine id in hex digits, its name, its object and index, and
-/// those that are given.
+/// The labels of an instance: the number of the station if it is given, its engine id in hex
+/// digits, its name, its object and index, and those that are given.
 #[tactic(auto, unfolding(crate::specs::Prometheus::instance_labels))]
 pub(crate) fn labels_of<S: NameTexts>(
     alloc: Global,
     names: &S,
     labelled: Labelled,
+    station: Option<u32>,
 ) -> Result<Vec<u8>, AllocError>
-    ensures { IfOk result (λ labels. labels.items ≡ instance_labels (S.shown names.now) (labelled.entry.instance.now, option_map (λ l. l.now) labelled.entry.labels)) }
+    ensures { IfOk result (λ labels. labels.items ≡ instance_labels station (S.shown names.now)
+        (labelled.entry.instance.now, option_map (λ l. l.now) labelled.entry.labels)) }
 {
     let engine = hex::encode(alloc, labelled.instance.engine())?;
     let name = names.text(alloc, labelled.instance.name())?;
     let mut labels = Vec::new(alloc);
+    put_before(&mut labels, station)?;
     put_label(&mut labels, "engine", engine.as_bytes())?;
     put_more(&mut labels, "name", name.as_bytes())?;
     put_object(&mut labels, name.as_str())?;
@@ -37,25 +42,35 @@ pub(crate) fn labels_of<S: NameTexts>(
     Ok(labels)
 }
 
-/// Adds an engine id in hex digits as a label.
+/// Adds the number of the station as the first label, if it is given.
+fn put_before(labels: &mut Vec<u8>, station: Option<u32>) -> Result<(), AllocError>
+    ensures { OnOk result (labels.new.items ≡ labels.old.items ++ before_labels station) }
+{
+    match station {
+        None => Ok(()),
+        Some(station) => put_first(labels, station),
+    }
+}
+
+/// Adds the number of the station as the first label.
+fn put_first(labels: &mut Vec<u8>, station: u32) -> Result<(), AllocError>
+    ensures { OnOk result (labels.new.items ≡ labels.old.items ++ before_labels (Some station)) }
+{
+    put_station_label(labels, station)?;
+    labels.extend_from_slice(b",")
+}
+
+/// Adds an engine id in hex digits as one more label.
 pub(crate) fn put_engine(
     alloc: Global,
     labels: &mut Vec<u8>,
     engine: &[u8],
 ) -> Result<(), AllocError>
-    ensures { OnOk result (labels.new.items ≡ labels.old.items ++ label_text (codes "engine") (encode_lower engine.now)) }
+    ensures { OnOk result (labels.new.items
+        ≡ labels.old.items ++ more_label (codes "engine") (encode_lower engine.now)) }
 {
     let digits = hex::encode(alloc, engine)?;
-    put_label(labels, "engine", digits.as_bytes())
-}
-
-/// Adds one more label.
-#[tactic(auto, unfolding(crate::specs::Prometheus::more_label))]
-fn put_more(labels: &mut Vec<u8>, label: &str, value: &[u8]) -> Result<(), AllocError>
-    ensures { OnOk result (labels.new.items ≡ labels.old.items ++ more_label label.now value.now) }
-{
-    labels.extend_from_slice(b",")?;
-    put_label(labels, label, value)
+    put_more(labels, "engine", digits.as_bytes())
 }
 
 /// Adds the object and the index of the instance with this name.
@@ -127,6 +142,7 @@ fn put_joined(labels: &mut Vec<u8>, given: &InstanceLabels) -> Result<(), AllocE
     ensures { OnOk result (labels.new.items ≡ labels.old.items ++ joined_labels given.now) }
 {
     put_if(labels, "target", &given.target)?;
+    put_if(labels, "device", &given.device)?;
     put_if(labels, "ifName", &given.if_name)?;
     put_if(labels, "ifAlias", &given.if_alias)
 }
@@ -138,5 +154,15 @@ fn put_if(labels: &mut Vec<u8>, label: &str, value: &Option<String>) -> Result<(
     match value {
         None => Ok(()),
         Some(value) => put_more(labels, label, value.as_bytes()),
+    }
+}
+
+/// Returns the speed of an instance's interface in bits a second, if its labels have one.
+pub(crate) fn speed_of(given: Option<&InstanceLabels>) -> Option<u64>
+    ensures { result ≡ speed_of (option_map (λ l. l.now) given.entry) }
+{
+    match given {
+        None => None,
+        Some(given) => given.speed,
     }
 }

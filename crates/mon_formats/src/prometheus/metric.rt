@@ -16,6 +16,8 @@ pub(crate) enum Metric {
     Rate,
     /// Says whether a rule's alarm is raised.
     Alarm,
+    /// The speed of an interface.
+    Speed,
 }
 
 impl Metric {
@@ -29,20 +31,27 @@ impl Metric {
             Metric::Samples => "snmpmon_samples",
             Metric::Rate => "snmpmon_rate",
             Metric::Alarm => "snmpmon_alarm",
+            Metric::Speed => "snmpmon_interface_speed_bits",
         }
     }
 
-    /// What it is, in a sentence.
+    /// What it is, and what to do with it.
     pub(crate) fn help(self) -> &'static str
         ensures { result.now ≡ help_of self }
     {
         match self {
-            Metric::Counted => "Newest value of a counter.",
-            Metric::Number => "Newest value of what may fall: an integer, a gauge or a time.",
-            Metric::Samples => "Samples that the window of an instance holds.",
-            Metric::Rate => "What a counter counted a second over its window.",
+            Metric::Counted =>
+                "Newest value of a counter. Take rate() of it for other spans than the window of snmpmon_rate.",
+            Metric::Number =>
+                "Newest value of what may fall: an integer, a gauge or a time. Compare it as it is, without rate().",
+            Metric::Samples =>
+                "Samples that the window of an instance holds. A rate needs at least two.",
+            Metric::Rate =>
+                "What a counter counted a second over its window. Multiply a rate of octets by 8 for bits a second.",
             Metric::Alarm =>
-                "1 where the alarm of a rule is raised. Thresholds are in thousandths.",
+                "1 where the alarm of a rule is raised: alert on it. Thresholds are in thousandths.",
+            Metric::Speed =>
+                "Speed of an interface in bits a second. Divide 8 * snmpmon_rate of octets by it for the part in use.",
         }
     }
 
@@ -52,7 +61,8 @@ impl Metric {
     {
         match self {
             Metric::Counted => "counter",
-            Metric::Number | Metric::Samples | Metric::Rate | Metric::Alarm => "gauge",
+            Metric::Number | Metric::Samples | Metric::Rate | Metric::Alarm | Metric::Speed =>
+                "gauge",
         }
     }
 }

@@ -1,10 +1,14 @@
 //! What a station says of itself.
 
 ghost use Rattle.std.specs.Prelude.{◌≡◌, ◌++◌, OnOk};
-ghost use Rattle.mon_formats.specs.Prometheus.{station_name, station_help, station_type, station_text, plain_metric, debts_text, debt_line, duration_text, last_round_if};
+ghost use Rattle.mon_formats.specs.Prometheus.{debt_line, debts_text, duration_text, info_text};
+ghost use Rattle.mon_formats.specs.Prometheus.{last_round_if, plain_metric, rounds_text, station_head, station_help};
+ghost use Rattle.mon_formats.specs.Prometheus.{station_line, station_name, station_text, station_type};
 
+use crate::VERSION;
+use crate::prometheus::peer::{peer_labels, put_peers};
 use crate::prometheus::target::put_targets;
-use crate::prometheus::text::{put_head, put_label, put_line};
+use crate::prometheus::text::{put_head, put_line, put_more, put_station_label};
 use itoa::Buffer;
 use mon_page::Figures;
 use mon_report::write_rate;
@@ -13,8 +17,8 @@ use std::alloc::{AllocError, Global};
 /// A metric of the station itself.
 #[derive(Clone, Copy, PartialEq, Eq)]
 pub(crate) enum StationMetric {
-    /// Its number.
-    Station,
+    /// Which program and which station it is.
+    Info,
     /// How often the station was started over its file.
     Incarnation,
     /// How many samples it took.
@@ -29,7 +33,11 @@ pub(crate) enum StationMetric {
     Strangers,
     /// How long its last round took.
     Duration,
-    /// When that round ended.
+    /// How long a round takes at least.
+    Interval,
+    /// How many rounds took longer than that.
+    Overruns,
+    /// When its last round ended.
     LastRound,
     /// In how many rounds an instance had no new sample.
     Age,
@@ -41,7 +49,7 @@ impl StationMetric {
         ensures { result.now ≡ station_name self }
     {
         match self {
-            StationMetric::Station => "snmpmon_station",
+            StationMetric::Info => "snmpmon_info",
             StationMetric::Incarnation => "snmpmon_incarnation",
             StationMetric::Taken => "snmpmon_samples_taken_total",
             StationMetric::GivenUp => "snmpmon_polls_given_up_total",
@@ -49,28 +57,42 @@ impl StationMetric {
             StationMetric::FailedSaves => "snmpmon_saves_failed_total",
             StationMetric::Strangers => "snmpmon_strangers_total",
             StationMetric::Duration => "snmpmon_round_duration_seconds",
+            StationMetric::Interval => "snmpmon_round_interval_seconds",
+            StationMetric::Overruns => "snmpmon_rounds_overrun_total",
             StationMetric::LastRound => "snmpmon_last_round_timestamp_seconds",
             StationMetric::Age => "snmpmon_sample_age_rounds",
         }
     }
 
-    /// What it is, in a sentence.
+    /// What it is, and what to do with it.
     pub(crate) fn help(self) -> &'static str
         ensures { result.now ≡ station_help self }
     {
         match self {
-            StationMetric::Station => "Number of this station.",
-            StationMetric::Incarnation => "How often the station was started over its file.",
-            StationMetric::Taken => "Samples that the station took since it began.",
-            StationMetric::GivenUp => "Polls that the station gave up since it began.",
-            StationMetric::Debt => "Samples that the station owes a peer.",
-            StationMetric::FailedSaves => "Saves that failed since the station began.",
+            StationMetric::Info =>
+                "The program's version and the station's number. Its value is always 1.",
+            StationMetric::Incarnation =>
+                "How often the station was started over its file. It rises by one at each restart.",
+            StationMetric::Taken =>
+                "Samples that the station took since it began. Look at snmpmon_target_up where it no longer rises.",
+            StationMetric::GivenUp =>
+                "Polls that the station gave up since it began. Look at snmpmon_target_up where it rises.",
+            StationMetric::Debt =>
+                "Samples that the station owes a peer. Look at that peer and the way to it where it goes on rising.",
+            StationMetric::FailedSaves =>
+                "Saves that failed since the station began. Look at its disk and the rights of its file where it rises.",
             StationMetric::Strangers =>
-                "Datagrams since the station began from an address of no target and no peer.",
-            StationMetric::Duration => "How long the last round took.",
-            StationMetric::LastRound => "When the last round ended, in seconds since 1970.",
+                "Datagrams since the station began from an address of no target and no peer. Find the sender where it rises.",
+            StationMetric::Duration =>
+                "How long the last round took. Rounds begin late where it exceeds snmpmon_round_interval_seconds.",
+            StationMetric::Interval =>
+                "Seconds between the beginnings of two rounds, at least. 0 where rounds follow one another.",
+            StationMetric::Overruns =>
+                "Rounds since the station began that took longer than the interval. Lower tries and wait_ms where it rises.",
+            StationMetric::LastRound =>
+                "When the last round ended, in seconds since 1970. Look at the station where it is long before time().",
             StationMetric::Age =>
-                "Rounds since an instance had a new sample, or since the station began.",
+                "Rounds since an instance had a new sample, or since the station began. It is stale from --stale-after on.",
         }
     }
 
@@ -82,11 +104,13 @@ impl StationMetric {
             StationMetric::Taken
             | StationMetric::GivenUp
             | StationMetric::FailedSaves
-            | StationMetric::Strangers => "counter",
-            StationMetric::Station
+            | StationMetric::Strangers
+            | StationMetric::Overruns => "counter",
+            StationMetric::Info
             | StationMetric::Incarnation
             | StationMetric::Debt
             | StationMetric::Duration
+            | StationMetric::Interval
             | StationMetric::LastRound
             | StationMetric::Age => "gauge",
         }
@@ -102,80 +126,150 @@ pub(crate) fn put_station(
 ) -> Result<(), AllocError>
     ensures { OnOk result (text.new.items ≡ text.old.items ++ station_text figures.now) }
 {
-    put_plain(text, StationMetric::Station, u64::from(figures.station))?;
+    let station = figures.station;
+    let incarnation = u64::from(figures.incarnation);
+    put_info(alloc, text, station)?;
+    put_plain(text, station, StationMetric::Incarnation, incarnation)?;
+    put_plain(text, station, StationMetric::Taken, figures.taken)?;
+    put_plain(text, station, StationMetric::GivenUp, figures.given_up)?;
+    put_debts(alloc, text, station, figures.debts.as_slice())?;
+    put_peers(alloc, text, station, figures.peers.as_slice())?;
     put_plain(
         text,
-        StationMetric::Incarnation,
-        u64::from(figures.incarnation),
+        station,
+        StationMetric::FailedSaves,
+        figures.failed_saves,
     )?;
-    put_plain(text, StationMetric::Taken, figures.taken)?;
-    put_plain(text, StationMetric::GivenUp, figures.given_up)?;
-    put_debts(alloc, text, figures.debts.as_slice())?;
-    put_plain(text, StationMetric::FailedSaves, figures.failed_saves)?;
-    put_plain(text, StationMetric::Strangers, figures.strangers)?;
-    put_duration(text, figures.round_ms)?;
-    put_last_round(text, figures.round_at)?;
-    put_targets(alloc, text, figures.targets.as_slice())
+    put_plain(text, station, StationMetric::Strangers, figures.strangers)?;
+    put_rounds(alloc, text, figures)?;
+    put_targets(alloc, text, station, figures.targets.as_slice())
 }
 
-/// Adds a metric of one line without labels.
+/// Adds what a station says of its rounds.
+#[tactic(auto, unfolding(crate::specs::Prometheus::rounds_text))]
+fn put_rounds(alloc: Global, text: &mut Vec<u8>, figures: &Figures) -> Result<(), AllocError>
+    ensures { OnOk result (text.new.items ≡ text.old.items ++ rounds_text figures.now) }
+{
+    let station = figures.station;
+    let interval = u64::from(figures.interval);
+    put_duration(alloc, text, station, figures.round_ms)?;
+    put_plain(text, station, StationMetric::Interval, interval)?;
+    put_plain(text, station, StationMetric::Overruns, figures.overruns)?;
+    put_last_round(text, station, figures.round_at)
+}
+
+/// Adds which program and which station it is: both are labels.
+#[tactic(auto, unfolding(crate::specs::Prometheus::info_text))]
+fn put_info(alloc: Global, text: &mut Vec<u8>, station: u32) -> Result<(), AllocError>
+    ensures { OnOk result (text.new.items ≡ text.old.items ++ info_text station) }
+{
+    let metric = StationMetric::Info;
+    let mut labels = Vec::new(alloc);
+    put_station_label(&mut labels, station)?;
+    put_more(&mut labels, "version", VERSION.as_bytes())?;
+    put_metric_head(text, metric)?;
+    put_line(text, metric.name(), labels.as_slice(), b"1")
+}
+
+/// Adds the first two lines of a metric.
+pub(crate) fn put_metric_head(text: &mut Vec<u8>, metric: StationMetric) -> Result<(), AllocError>
+    ensures { OnOk result (text.new.items ≡ text.old.items ++ station_head metric) }
+{
+    put_head(text, metric.name(), metric.help(), metric.kind())
+}
+
+/// Adds the line of a metric that has no label but the station's number.
+#[tactic(auto, unfolding(crate::specs::Prometheus::metric_line))]
+fn put_station_line(
+    text: &mut Vec<u8>,
+    station: u32,
+    metric: StationMetric,
+    value: &[u8],
+) -> Result<(), AllocError>
+    ensures { OnOk result (text.new.items
+        ≡ text.old.items ++ station_line station metric value.now) }
+{
+    text.extend_from_slice(metric.name().as_bytes())?;
+    text.extend_from_slice(b"{")?;
+    put_station_label(text, station)?;
+    text.extend_from_slice(b"} ")?;
+    text.extend_from_slice(value)?;
+    text.extend_from_slice(b"\n")
+}
+
+/// Adds a metric of one line.
 #[tactic(auto, unfolding(crate::specs::Prometheus::plain_metric))]
-fn put_plain(text: &mut Vec<u8>, metric: StationMetric, value: u64) -> Result<(), AllocError>
-    ensures { OnOk result (text.new.items ≡ text.old.items ++ plain_metric metric value) }
+fn put_plain(
+    text: &mut Vec<u8>,
+    station: u32,
+    metric: StationMetric,
+    value: u64,
+) -> Result<(), AllocError>
+    ensures { OnOk result (text.new.items ≡ text.old.items ++ plain_metric station metric value) }
 {
     let mut buffer = Buffer::new();
-    put_head(text, metric.name(), metric.help(), metric.kind())?;
-    text.extend_from_slice(metric.name().as_bytes())?;
-    text.extend_from_slice(b" ")?;
-    text.extend_from_slice(buffer.format(value).as_bytes())?;
-    text.extend_from_slice(b"\n")
+    put_metric_head(text, metric)?;
+    put_station_line(text, station, metric, buffer.format(value).as_bytes())
 }
 
 /// Adds how long the last round took, which is given in milliseconds.
 #[tactic(auto, unfolding(crate::specs::Prometheus::duration_text))]
-fn put_duration(text: &mut Vec<u8>, milliseconds: u64) -> Result<(), AllocError>
-    ensures { OnOk result (text.new.items ≡ text.old.items ++ duration_text milliseconds) }
+fn put_duration(
+    alloc: Global,
+    text: &mut Vec<u8>,
+    station: u32,
+    milliseconds: u64,
+) -> Result<(), AllocError>
+    ensures { OnOk result (text.new.items ≡ text.old.items ++ duration_text station milliseconds) }
 {
     let metric = StationMetric::Duration;
-    put_head(text, metric.name(), metric.help(), metric.kind())?;
-    text.extend_from_slice(metric.name().as_bytes())?;
-    text.extend_from_slice(b" ")?;
-    if !write_rate(text, true, u128::from(milliseconds)) {
+    let mut seconds = Vec::new(alloc);
+    if !write_rate(&mut seconds, true, u128::from(milliseconds)) {
         return Err(AllocError);
     }
-    text.extend_from_slice(b"\n")
+    put_metric_head(text, metric)?;
+    put_station_line(text, station, metric, seconds.as_slice())
 }
 
 /// Adds when the last round ended, in seconds since 1970, if one did.
-fn put_last_round(text: &mut Vec<u8>, round_at: Option<u64>) -> Result<(), AllocError>
-    ensures { OnOk result (text.new.items ≡ text.old.items ++ last_round_if round_at) }
+fn put_last_round(text: &mut Vec<u8>, station: u32, round_at: Option<u64>) -> Result<(), AllocError>
+    ensures { OnOk result (text.new.items ≡ text.old.items ++ last_round_if station round_at) }
 {
     match round_at {
         None => Ok(()),
-        Some(seconds) => put_plain(text, StationMetric::LastRound, seconds),
+        Some(seconds) => put_plain(text, station, StationMetric::LastRound, seconds),
     }
 }
 
-/// Adds a metric with a line for each peer.
+/// Adds how many samples the station owes each peer.
 #[tactic(auto, unfolding(crate::specs::Prometheus::debts_text))]
-fn put_debts(alloc: Global, text: &mut Vec<u8>, debts: &[(u32, u32)]) -> Result<(), AllocError>
-    ensures { OnOk result (text.new.items ≡ text.old.items ++ debts_text debts.now) }
+fn put_debts(
+    alloc: Global,
+    text: &mut Vec<u8>,
+    station: u32,
+    debts: &[(u32, u32)],
+) -> Result<(), AllocError>
+    ensures { OnOk result (text.new.items ≡ text.old.items ++ debts_text station debts.now) }
 {
-    let metric = StationMetric::Debt;
-    put_head(text, metric.name(), metric.help(), metric.kind())?;
+    put_metric_head(text, StationMetric::Debt)?;
     for (peer, count) in debts {
-        put_debt(alloc, text, *peer, *count)?;
+        put_debt(alloc, text, station, *peer, *count)?;
     }
     Ok(())
 }
 
-/// Adds a peer's line: its number is a label, and the value is how many samples the station owes it.
-fn put_debt(alloc: Global, text: &mut Vec<u8>, peer: u32, count: u32) -> Result<(), AllocError>
-    ensures { OnOk result (text.new.items ≡ text.old.items ++ debt_line (peer, count)) }
+/// Adds a peer's line: its number is a label, and the value is how many samples it is owed.
+fn put_debt(
+    alloc: Global,
+    text: &mut Vec<u8>,
+    station: u32,
+    peer: u32,
+    count: u32,
+) -> Result<(), AllocError>
+    ensures { OnOk result (text.new.items ≡ text.old.items ++ debt_line station (peer, count)) }
 {
-    let mut labels = Vec::new(alloc);
+    let labels = peer_labels(alloc, station, peer)?;
     let mut digits = Buffer::new();
-    put_label(&mut labels, "peer", digits.format(peer).as_bytes())?;
     let number = digits.format(count);
     put_line(
         text,

@@ -4,7 +4,7 @@ ghost use Rattle.std.specs.Prelude.{◌≡◌, ◌++◌, OnOk, IfOk, string_byte
 ghost use Rattle.mon_formats.specs.Prometheus.{one_if, reason_if, reason_line, refusals_text, target_help, target_labels, target_line, target_metric, target_name, target_type, target_value, targets_text};
 
 use crate::prometheus::instance::put_engine;
-use crate::prometheus::text::{put_head, put_label, put_line};
+use crate::prometheus::text::{put_head, put_line, put_more, put_station_label};
 use itoa::Buffer;
 use mon_page::TargetFigures;
 use std::alloc::{AllocError, Global};
@@ -38,18 +38,21 @@ impl TargetMetric {
         }
     }
 
-    /// What it is, in a sentence.
+    /// What it is, and what to do with it.
     fn help(self) -> &'static str
         ensures { result.now ≡ target_help self }
     {
         match self {
-            TargetMetric::Up => "1 where the last poll of a target was answered.",
-            TargetMetric::Rounds => "Rounds since a target answered, or since the station began.",
-            TargetMetric::Seconds => "Seconds since a target answered, or since the station began.",
+            TargetMetric::Up =>
+                "1 where the last poll of a target was answered. Look at the device or the way to it where it is 0.",
+            TargetMetric::Rounds =>
+                "Rounds since a target answered, or since the station began. Look at the device where it rises.",
+            TargetMetric::Seconds =>
+                "Seconds since a target answered, or since the station began. Alert where it exceeds some rounds.",
             TargetMetric::PollsGivenUp =>
-                "Polls of a target that the station gave up since it began.",
+                "Polls of a target that the station gave up since it began. Datagrams get lost where it rises and it is up.",
             TargetMetric::Refusal =>
-                "Why the last response of a target was refused, until it answers.",
+                "Why the last response of a target was refused, until it answers. Its label reason says what to correct.",
         }
     }
 
@@ -81,7 +84,7 @@ impl TargetMetric {
 }
 
 /// 1 for `true`, 0 for `false`.
-fn one_if(is_so: bool) -> u64
+pub(crate) fn one_if(is_so: bool) -> u64
     ensures { result ≡ one_if is_so }
 {
     if is_so { 1 } else { 0 }
@@ -92,15 +95,16 @@ fn one_if(is_so: bool) -> u64
 pub(crate) fn put_targets(
     alloc: Global,
     text: &mut Vec<u8>,
+    station: u32,
     targets: &[TargetFigures],
 ) -> Result<(), AllocError>
-    ensures { OnOk result (text.new.items ≡ text.old.items ++ targets_text targets.now) }
+    ensures { OnOk result (text.new.items ≡ text.old.items ++ targets_text station targets.now) }
 {
-    put_target_metric(alloc, text, targets, TargetMetric::Up)?;
-    put_target_metric(alloc, text, targets, TargetMetric::Rounds)?;
-    put_target_metric(alloc, text, targets, TargetMetric::Seconds)?;
-    put_target_metric(alloc, text, targets, TargetMetric::PollsGivenUp)?;
-    put_refusals(alloc, text, targets)
+    put_target_metric(alloc, text, station, targets, TargetMetric::Up)?;
+    put_target_metric(alloc, text, station, targets, TargetMetric::Rounds)?;
+    put_target_metric(alloc, text, station, targets, TargetMetric::Seconds)?;
+    put_target_metric(alloc, text, station, targets, TargetMetric::PollsGivenUp)?;
+    put_refusals(alloc, text, station, targets)
 }
 
 /// Adds a metric with a line for each target.
@@ -108,14 +112,16 @@ pub(crate) fn put_targets(
 fn put_target_metric(
     alloc: Global,
     text: &mut Vec<u8>,
+    station: u32,
     targets: &[TargetFigures],
     metric: TargetMetric,
 ) -> Result<(), AllocError>
-    ensures { OnOk result (text.new.items ≡ text.old.items ++ target_metric metric targets.now) }
+    ensures { OnOk result (text.new.items
+        ≡ text.old.items ++ target_metric station metric targets.now) }
 {
     put_head(text, metric.name(), metric.help(), metric.kind())?;
     for target in targets {
-        put_target(alloc, text, target, metric)?;
+        put_target(alloc, text, station, target, metric)?;
     }
     Ok(())
 }
@@ -124,23 +130,26 @@ fn put_target_metric(
 fn put_target(
     alloc: Global,
     text: &mut Vec<u8>,
+    station: u32,
     target: &TargetFigures,
     metric: TargetMetric,
 ) -> Result<(), AllocError>
-    ensures { OnOk result (text.new.items ≡ text.old.items ++ target_line metric target.now) }
+    ensures { OnOk result (text.new.items
+        ≡ text.old.items ++ target_line station metric target.now) }
 {
-    let labels = target_labels(alloc, target)?;
+    let labels = target_labels(alloc, station, target)?;
     let mut buffer = Buffer::new();
     let number = buffer.format(metric.value(target));
     put_line(text, metric.name(), labels.as_slice(), number.as_bytes())
 }
 
-/// The labels of a target: its address, its number, and its engine id in hex digits.
-fn target_labels(alloc: Global, target: &TargetFigures) -> Result<Vec<u8>, AllocError>
-    ensures { IfOk result (λ labels. labels.items ≡ target_labels target.now) }
+/// The labels of a target: the station's number, the target's address and number, and its engine id
+/// in hex digits.
+fn target_labels(alloc: Global, station: u32, target: &TargetFigures) -> Result<Vec<u8>, AllocError>
+    ensures { IfOk result (λ labels. labels.items ≡ target_labels station target.now) }
 {
     let mut labels = Vec::new(alloc);
-    put_target_labels(alloc, &mut labels, target)?;
+    put_target_labels(alloc, &mut labels, station, target)?;
     Ok(labels)
 }
 
@@ -149,15 +158,16 @@ fn target_labels(alloc: Global, target: &TargetFigures) -> Result<Vec<u8>, Alloc
 fn put_target_labels(
     alloc: Global,
     labels: &mut Vec<u8>,
+    station: u32,
     target: &TargetFigures,
 ) -> Result<(), AllocError>
-    ensures { OnOk result (labels.new.items ≡ labels.old.items ++ target_labels target.now) }
+    ensures { OnOk result (labels.new.items
+        ≡ labels.old.items ++ target_labels station target.now) }
 {
     let mut digits = Buffer::new();
-    put_label(labels, "target", target.address.as_bytes())?;
-    labels.extend_from_slice(b",")?;
-    put_label(labels, "number", digits.format(target.number).as_bytes())?;
-    labels.extend_from_slice(b",")?;
+    put_station_label(labels, station)?;
+    put_more(labels, "target", target.address.as_bytes())?;
+    put_more(labels, "number", digits.format(target.number).as_bytes())?;
     put_engine(alloc, labels, target.engine.as_slice())
 }
 
@@ -166,25 +176,32 @@ fn put_target_labels(
 fn put_refusals(
     alloc: Global,
     text: &mut Vec<u8>,
+    station: u32,
     targets: &[TargetFigures],
 ) -> Result<(), AllocError>
-    ensures { OnOk result (text.new.items ≡ text.old.items ++ refusals_text targets.now) }
+    ensures { OnOk result (text.new.items ≡ text.old.items ++ refusals_text station targets.now) }
 {
     let metric = TargetMetric::Refusal;
     put_head(text, metric.name(), metric.help(), metric.kind())?;
     for target in targets {
-        put_refusal(alloc, text, target)?;
+        put_refusal(alloc, text, station, target)?;
     }
     Ok(())
 }
 
 /// Adds the line of a target's refused response, if there is one.
-fn put_refusal(alloc: Global, text: &mut Vec<u8>, target: &TargetFigures) -> Result<(), AllocError>
-    ensures { OnOk result (text.new.items ≡ text.old.items ++ reason_if target.now target.now.refusal) }
+fn put_refusal(
+    alloc: Global,
+    text: &mut Vec<u8>,
+    station: u32,
+    target: &TargetFigures,
+) -> Result<(), AllocError>
+    ensures { OnOk result (text.new.items
+        ≡ text.old.items ++ reason_if station target.now target.now.refusal) }
 {
     match &target.refusal {
         None => Ok(()),
-        Some(reason) => put_reason(alloc, text, target, reason),
+        Some(reason) => put_reason(alloc, text, station, target, reason),
     }
 }
 
@@ -193,13 +210,14 @@ fn put_refusal(alloc: Global, text: &mut Vec<u8>, target: &TargetFigures) -> Res
 fn put_reason(
     alloc: Global,
     text: &mut Vec<u8>,
+    station: u32,
     target: &TargetFigures,
     reason: &String,
 ) -> Result<(), AllocError>
-    ensures { OnOk result (text.new.items ≡ text.old.items ++ reason_line target.now reason.now) }
+    ensures { OnOk result (text.new.items
+        ≡ text.old.items ++ reason_line station target.now reason.now) }
 {
-    let mut labels = target_labels(alloc, target)?;
-    labels.extend_from_slice(b",")?;
-    put_label(&mut labels, "reason", reason.as_bytes())?;
+    let mut labels = target_labels(alloc, station, target)?;
+    put_more(&mut labels, "reason", reason.as_bytes())?;
     put_line(text, TargetMetric::Refusal.name(), labels.as_slice(), b"1")
 }

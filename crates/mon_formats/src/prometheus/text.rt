@@ -3,7 +3,9 @@
 ghost use Rattle.std.specs.Prelude.{◌≡◌, ◌++◌, OnOk};
 ghost use Rattle.std.specs.List.{flat_map};
 ghost use Rattle.mon_formats.specs.Prometheus.{escaped, label_text, metric_line, head_text, comment_line};
+ghost use Rattle.mon_formats.specs.Prometheus.{more_label, station_label};
 
+use itoa::Buffer;
 use std::alloc::AllocError;
 
 /// Adds what a metric is, and of which type.
@@ -66,6 +68,24 @@ pub(crate) fn put_label(text: &mut Vec<u8>, label: &str, value: &[u8]) -> Result
     text.extend_from_slice(b"=\"")?;
     put_escaped(text, value)?;
     text.extend_from_slice(b"\"")
+}
+
+/// Adds one more label with its value.
+#[tactic(auto, unfolding(crate::specs::Prometheus::more_label))]
+pub(crate) fn put_more(text: &mut Vec<u8>, label: &str, value: &[u8]) -> Result<(), AllocError>
+    ensures { OnOk result (text.new.items ≡ text.old.items ++ more_label label.now value.now) }
+{
+    text.extend_from_slice(b",")?;
+    put_label(text, label, value)
+}
+
+/// Adds the number of a station as a label.
+#[tactic(auto, unfolding(crate::specs::Prometheus::station_label))]
+pub(crate) fn put_station_label(text: &mut Vec<u8>, station: u32) -> Result<(), AllocError>
+    ensures { OnOk result (text.new.items ≡ text.old.items ++ station_label station) }
+{
+    let mut digits = Buffer::new();
+    put_label(text, "station", digits.format(station).as_bytes())
 }
 
 /// Adds octets, of which a backslash, a quote and a line feed get a backslash before them.

@@ -1,9 +1,12 @@
-use Rattle.std.proofs.Common.{subst, sym}
+use Rattle.std.proofs.Common.{◌≡◌, ◌∙◌, ap, subst, sym}
 use Rattle.std.specs.Prelude.{option_map}
-use Rattle.mon_console.specs.Labelled.{IsLabelled}
+use Rattle.mon_console.specs.Labelled.{AreLabelled, IsLabelled, number_if, numbered_by}
+use Rattle.mon_console.specs.Printing.{numbered}
+use Rattle.mon_console.specs.declared.printing.Printing.{Printing}
 use Rattle.mon_host.specs.Log.{GoesOnBy}
 use Rattle.mon_console.proofs.Added.{failure_is}
 use Rattle.mon_console.specs.Settings.{Both}
+use Rattle.mon_settings.specs.declared.station.StationSettings.{StationSettings}
 use Rattle.mon_console.proofs.Stations.{after_labels, no_labels}
 use Rattle.mon_console.proofs.labels.read_labelled_station.Goals as goal
 
@@ -21,5 +24,11 @@ returns-in_err-labels g c =
     (no_labels printed path labels (c.in_ok-settings.settings, c.in_ok-settings.printing) failure before read after c.in_ok-settings.ensures c.in_err-labels.ensures)
 
 pub returns : goal.returns
-returns g c = after_labels c.args.printed c.args.path.now (option_map (λ p. p.now) c.args.labels) (c.in_ok-settings.settings, c.in_ok-settings.printing) c.in_ok-labels.labels
-    c.labelled.result (g.H.Host.log c.args.host.now) (g.H.Host.log c.read_station_file.new.host) (g.H.Host.log c.labels_in.new.host) c.in_ok-settings.ensures c.in_ok-labels.ensures c.labelled.ensures
+returns g c =
+    let both : StationSettings × Printing = (c.in_ok-settings.settings, c.in_ok-settings.printing) in
+    let number : c.number_if-number.result ≡ number_if c.args.printed.station_label c.in_ok-settings.settings.core.station =
+    c.number_if-number.ensures ∙ ap (number_if c.args.printed.station_label) c.station.ensures.station in
+    let by : c.with_station.result ≡ numbered_by c.args.printed both = c.with_station.ensures ∙ ap (λ n. numbered n c.in_ok-settings.printing) number in
+    after_labels c.args.printed c.args.path.now (option_map (λ p. p.now) c.args.labels) both c.in_ok-labels.labels
+    c.labelled.result (g.H.Host.log c.args.host.now) (g.H.Host.log c.read_station_file.new.host) (g.H.Host.log c.labels_in.new.host) c.in_ok-settings.ensures c.in_ok-labels.ensures
+    (subst (λ (p : Printing). AreLabelled c.in_ok-settings.settings p c.in_ok-labels.labels c.labelled.result) by c.labelled.ensures)

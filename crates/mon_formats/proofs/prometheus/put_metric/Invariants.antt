@@ -8,6 +8,6 @@ use Rattle.mon_formats.proofs.prometheus.put_metric.Given as goal
 
 -- what is written, and the lines that are left, are all lines
 abbrev pub invariant-loop-place : goal.invariant-loop-place
-invariant-loop-place l = (shown : List ℕ → List ℕ) (all : List Labelled) → HaveLabels shown all l.listing.entries.now l.listing.labels.now
-    → l.text.items ++ flat_map (entry_lines l.metric shown) (fresh l.listing.limit (drop l.place l.listing.ages.now) (drop l.place all))
-    ≡ l.initial.text.items ++ flat_map (entry_lines l.metric shown) (fresh l.listing.limit l.listing.ages.now all)
+invariant-loop-place l = (labels : Labelled → List ℕ) (all : List Labelled) → HaveLabels labels all l.listing.entries.now l.listing.given.now l.listing.labels.now
+    → l.text.items ++ flat_map (entry_lines l.metric labels) (fresh l.listing.limit (drop l.place l.listing.ages.now) (drop l.place all))
+    ≡ l.initial.text.items ++ flat_map (entry_lines l.metric labels) (fresh l.listing.limit l.listing.ages.now all)

@@ -9,3 +9,6 @@ returns-in-New c = subst (λ (w : Wish). IsDraft (source_in c.args.ground.now) w
 
 pub returns-in-Longer : goal.returns-in-Longer
 returns-in-Longer c = subst (λ (w : Wish). IsDraft (source_in c.args.ground.now) w c.args.size c.appended.result) (sym c.in-Longer.is) c.appended.ensures
+
+pub returns-in-Updated : goal.returns-in-Updated
+returns-in-Updated c = subst (λ (w : Wish). IsDraft (source_in c.args.ground.now) w c.args.size c.updated.result) (sym c.in-Updated.is) c.updated.ensures

@@ -1,7 +1,7 @@
 use Rattle.std.proofs.Common.{◌≡◌, List, ℕ, string_bytes}
 use Rattle.mon_console.specs.Files.{IsPrint}
 use Rattle.mon_station_commands.specs.Limits.{limits_text}
-use Rattle.mon_station_commands.proofs.Steps.{no_memory, printed}
+use Rattle.mon_file_commands.proofs.Promised.{no_memory, printed}
 use Rattle.mon_station_commands.proofs.limits.print_limits.Goals as goal
 
 pub returns-in_err-text : goal.returns-in_err-text

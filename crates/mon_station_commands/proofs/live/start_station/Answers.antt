@@ -2,7 +2,8 @@ use Rattle.std.proofs.Common.{List, ℕ, length, refl, string_bytes, subst}
 use Rattle.std.specs.Prelude.{None, Some, Ok, Err}
 use Rattle.mon_host.specs.Log.{GoesOnBy}
 use Rattle.mon_station.specs.State.{state_of}
-use Rattle.mon_station_commands.specs.Telling.{AreNoted, start_lines}
+use Rattle.mon_file_commands.specs.Line.{AreNoted}
+use Rattle.mon_station_commands.specs.Telling.{start_lines}
 use Rattle.mon_station_commands.proofs.Openings.{half_opened, opened, unopened, unwatched}
 use Rattle.mon_station_commands.proofs.Steps.{failure_is}
 use Rattle.mon_station_commands.proofs.live.start_station.Goals as goal

@@ -1,5 +1,6 @@
 use Rattle.mon_console.specs.Files.{IsPrint}
-use Rattle.mon_station_commands.proofs.Steps.{no_memory, plain, printed}
+use Rattle.mon_file_commands.proofs.Promised.{no_memory, printed}
+use Rattle.mon_station_commands.proofs.Steps.{plain}
 use Rattle.mon_station_commands.proofs.printing.print_report.Goals as goal
 
 pub returns-in_err-put_lines-clause-report : goal.returns-in_err-put_lines-clause-report

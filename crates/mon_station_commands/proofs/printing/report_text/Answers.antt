@@ -1,5 +1,5 @@
 use Rattle.std.proofs.Common.{◌∙◌}
-use Rattle.mon_station_commands.specs.Reporting.{entries_by}
+use Rattle.mon_file_commands.specs.Report.{entries_by}
 use Rattle.mon_station_commands.proofs.Steps.{report_is}
 use Rattle.mon_station_commands.proofs.printing.report_text.Goals as goal
 

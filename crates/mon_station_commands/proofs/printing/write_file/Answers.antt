@@ -1,5 +1,6 @@
 use Rattle.mon_console.specs.Files.{IsPublishing}
-use Rattle.mon_station_commands.proofs.Steps.{filed, no_memory}
+use Rattle.mon_file_commands.proofs.Promised.{no_memory}
+use Rattle.mon_station_commands.proofs.Steps.{filed}
 use Rattle.mon_station_commands.proofs.printing.write_file.Goals as goal
 
 pub returns-in_err-text : goal.returns-in_err-text

@@ -7,10 +7,10 @@ use Rattle.mon_udp.specs.declared.addr.Addr.{Addr}
 
 pub returns-in-None : goal.returns-in-None
 returns-in-None g c =
-    subst (λ (d : Option Addr). GoesOnBy (λ log. IsSeenIf d c.args.words.timing c.args.setup.reports c.args.setup.settings log c.run_unseen.result)
+    subst (λ (d : Option Addr). GoesOnBy (λ log. IsSeenIf d c.args.words c.args.setup.reports c.args.setup.settings log c.run_unseen.result)
     (g.H.Host.log c.args.host.now) (g.H.Host.log c.run_unseen.new.host)) (sym c.in-None.is) c.run_unseen.ensures
 
 pub returns-in-Some : goal.returns-in-Some
 returns-in-Some g c =
-    subst (λ (d : Option Addr). GoesOnBy (λ log. IsSeenIf d c.args.words.timing c.args.setup.reports c.args.setup.settings log c.run_shown.result)
+    subst (λ (d : Option Addr). GoesOnBy (λ log. IsSeenIf d c.args.words c.args.setup.reports c.args.setup.settings log c.run_shown.result)
     (g.H.Host.log c.args.host.now) (g.H.Host.log c.run_shown.new.host)) (sym c.in-Some.is) c.run_shown.ensures

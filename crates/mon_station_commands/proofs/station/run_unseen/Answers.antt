@@ -9,14 +9,14 @@ pub returns-in_err-socket : goal.returns-in_err-socket
 returns-in_err-socket g c =
     let failure = c.in_err-socket.field-0.0 in
     let r = c.from_residual.result in
-    unseen_unopened c.args.timing c.args.setup.reports c.args.setup.settings failure r (g.H.Host.log c.args.host.now) (g.H.Host.log c.open_unseen.new.host)
+    unseen_unopened c.args.words c.args.setup.reports c.args.setup.settings failure r (g.H.Host.log c.args.host.now) (g.H.Host.log c.open_unseen.new.host)
     (failure_is r failure c.from_residual.ensures.1) c.in_err-socket.ensures
 
 pub returns-in_err-transport : goal.returns-in_err-transport
 returns-in_err-transport g c =
     let failure = c.in_err-transport.field-0.0 in
     let r = c.from_residual-in_err-transport.result in
-    unseen_unheard c.args.timing c.args.setup.reports c.args.setup.settings c.in_ok-socket.place.at failure r (g.H.Host.log c.args.host.now)
+    unseen_unheard c.args.words c.args.setup.reports c.args.setup.settings c.in_ok-socket.place.at failure r (g.H.Host.log c.args.host.now)
     (g.H.Host.log c.open_unseen.new.host) (failure_is r failure c.from_residual-in_err-transport.ensures.1) c.in_ok-socket.ensures c.in_err-transport.ensures.failed
 
 pub returns-in_err-live : goal.returns-in_err-live
@@ -28,7 +28,7 @@ returns-in_err-live g c =
     let is = c.in_ok-transport.ensures in
     let opened = g.H.Host.log c.open_unseen.new.host in
     let end = g.H.Host.log c.start_station.new.host in
-    unseen_unstarted c.args.timing c.args.setup.reports s c.in_ok-socket.place.at failure r (g.H.Host.log c.args.host.now) opened end
+    unseen_unstarted c.args.words c.args.setup.reports s c.in_ok-socket.place.at failure r (g.H.Host.log c.args.host.now) opened end
     (failure_is r failure c.from_residual-in_err-live.ensures.1) c.in_ok-socket.ensures
     (started c.args.setup.reports.printing s c.in_ok-socket.place.at t.number (length t.engines.items) t.peers.items (Err failure) opened end
     is.number is.engines is.peers c.in_err-live.ensures.opening)
@@ -44,8 +44,8 @@ returns g c =
     let begun = g.H.Host.log c.start_station.new.host in
     let end = g.H.Host.log c.run_rounds.new.host in
     let same = c.in_ok-live.ensures.reports in
-    unseen_run c.args.timing reports s c.in_ok-socket.place.at (state_of live.station.life) c.run_rounds.result (g.H.Host.log c.args.host.now) opened begun end c.in_ok-socket.ensures
+    unseen_run c.args.words reports s c.in_ok-socket.place.at (state_of live.station.life) c.run_rounds.result (g.H.Host.log c.args.host.now) opened begun end c.in_ok-socket.ensures
     (started reports.printing s c.in_ok-socket.place.at t.number (length t.engines.items) t.peers.items (Ok (state_of live.station.life)) opened begun
     is.number is.engines is.peers c.in_ok-live.ensures.opening)
-    (run_of c.args.timing reports s live.reports live.kept c.run_rounds.result begun end (λ i. (same i).printing) (λ i. (same i).paths)
+    (run_of c.args.words reports s live.reports live.kept c.run_rounds.result begun end (λ i. (same i).printing) (λ i. (same i).paths)
     c.in_ok-live.ensures.kept c.run_rounds.ensures)

@@ -1,6 +1,6 @@
 use Rattle.std.proofs.Common.{◌≡◌, map, take}
 use Rattle.mon_host.specs.Log.{GoesOnBy}
-use Rattle.mon_station_commands.specs.Line.{noted}
+use Rattle.mon_file_commands.specs.Line.{noted}
 use Rattle.mon_station_commands.specs.Telling.{alarm_note}
 use Rattle.mon_station_commands.proofs.telling.tell_alarms.Given as goal
 

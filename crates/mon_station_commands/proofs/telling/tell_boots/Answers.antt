@@ -1,9 +1,9 @@
-use Rattle.mon_station_commands.specs.Line.{stated}
+use Rattle.mon_file_commands.specs.Line.{AreNoted, stated}
 use Rattle.mon_host.specs.declared.level.Level.TheVariants as level
 use Rattle.std.proofs.Common.{◌+◌, ◌∷◌, [], ℕ, ap, subst, sym}
 use Rattle.std.specs.Prelude.{None, Option, Some}
 use Rattle.mon_host.specs.Log.{GoesOnBy}
-use Rattle.mon_station_commands.specs.Telling.{AreNoted, restart_level, restart_line}
+use Rattle.mon_station_commands.specs.Telling.{restart_level, restart_line}
 use Rattle.mon_station_commands.proofs.Notes.{line_noted}
 use Rattle.mon_station_commands.proofs.telling.tell_boots.Goals as goal
 

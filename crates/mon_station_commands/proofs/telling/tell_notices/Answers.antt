@@ -3,7 +3,8 @@ use Rattle.std.specs.List.{flat_map}
 use Rattle.std.specs.Prelude.{Option}
 use Rattle.mon_host.specs.Log.{GoesOnBy}
 use Rattle.mon_rounds.specs.declared.reporting.Notice.{Notice}
-use Rattle.mon_station_commands.specs.Telling.{AreNoted, last_stray, notice_lines, stray_lines, strays_in, unreceived_lines, unsent_lines}
+use Rattle.mon_file_commands.specs.Line.{AreNoted}
+use Rattle.mon_station_commands.specs.Telling.{last_stray, notice_lines, stray_lines, strays_in, unreceived_lines, unsent_lines}
 use Rattle.mon_station_commands.proofs.Notes.{noted_on}
 use Rattle.mon_station_commands.proofs.telling.tell_notices.Goals as goal
 use Rattle.mon_udp.specs.declared.addr.Addr.{Addr}

@@ -2,7 +2,8 @@ use Rattle.mon_host.specs.declared.level.Level.TheVariants as level
 use Rattle.std.proofs.Common.{◌∙◌, ◌++◌, List, ℕ, ap, codes, decimal, subst, sym}
 use Rattle.std.specs.Prelude.{Option}
 use Rattle.mon_host.specs.Log.{GoesOnBy}
-use Rattle.mon_station_commands.specs.Telling.{AreNoted, plural, stray_lines}
+use Rattle.mon_file_commands.specs.Line.{AreNoted}
+use Rattle.mon_station_commands.specs.Telling.{plural, stray_lines}
 use Rattle.mon_station_commands.proofs.Notes.{line_noted, nine_pieces}
 use Rattle.mon_station_commands.proofs.telling.tell_strays.Goals as goal
 use Rattle.mon_udp.specs.Addr.{addr_text}

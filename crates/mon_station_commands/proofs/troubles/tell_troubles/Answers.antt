@@ -1,7 +1,8 @@
 use Rattle.std.proofs.Common.{◌∙◌, List, ℕ, ap, map, string_bytes, subst}
 use Rattle.std.specs.Prelude.{slice_get}
 use Rattle.mon_host.specs.Log.{GoesOnBy}
-use Rattle.mon_station_commands.specs.Telling.{AreNoted, text_lines}
+use Rattle.mon_file_commands.specs.Line.{AreNoted}
+use Rattle.mon_station_commands.specs.Telling.{text_lines}
 use Rattle.mon_station_commands.specs.Troubles.{IsText, key_in, level_of, text_at}
 use Rattle.mon_station_commands.specs.declared.troubles.Key.{Key}
 use Rattle.mon_station_commands.proofs.Changes.{all_said, change_more, some_said, unsaid_for}

@@ -1,6 +1,6 @@
 use Rattle.std.proofs.Common.{map}
 use Rattle.mon_host.specs.Log.{GoesOnBy}
-use Rattle.mon_station_commands.specs.Telling.{AreNoted}
+use Rattle.mon_file_commands.specs.Line.{AreNoted}
 use Rattle.mon_station_commands.specs.Troubles.{key_in, lines_before}
 use Rattle.mon_station_commands.proofs.troubles.tell_troubles.Given as goal
 

@@ -6,5 +6,6 @@ pub returns : goal.returns
 returns g c =
     let agents = agents_by (g.N.Opens.has_opened c.args.net.now) (g.N.Opens.has_failed c.args.net.now) g.N.Wire.Wire.told in
     let ports = ports_by (g.N.Listens.has_opened c.args.net.now) (g.N.Listens.has_failed c.args.net.now) g.N.Port.Port.told g.N.Port.Port.failures in
-    runs agents ports c.args.asked c.reads_input.result c.is_station-station.result c.run-done.result c.end.result _ _ _ _ c.reads_input.ensures c.is_station-station.ensures c.prepare.ensures
+    let saved = g.K.Saves.asked_save c.args.disks.now in
+    runs agents ports saved c.args.asked c.reads_input.result c.is_station-station.result c.run-done.result c.end.result _ _ _ _ c.reads_input.ensures c.is_station-station.ensures c.prepare.ensures
     c.run-done.ensures c.end.ensures

@@ -5,4 +5,4 @@ use Rattle.mon_formats.proofs.prometheus.station.put_debts.Given as goal
 
 -- those so far are written
 abbrev pub invariant-loop-peer : goal.invariant-loop-peer
-invariant-loop-peer l = l.text.items ≡ l.initial.text.items ++ flat_map debt_line (take l.peer-index l.debts)
+invariant-loop-peer l = l.text.items ≡ l.initial.text.items ++ flat_map (debt_line l.station) (take l.peer-index l.debts)

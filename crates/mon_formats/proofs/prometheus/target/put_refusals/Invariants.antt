@@ -5,4 +5,4 @@ use Rattle.mon_formats.proofs.prometheus.target.put_refusals.Given as goal
 
 -- those so far are written
 abbrev pub invariant-loop-target : goal.invariant-loop-target
-invariant-loop-target l = l.text.items ≡ l.initial.text.items ++ flat_map (λ t. reason_if t t.refusal) (take l.target-index l.targets)
+invariant-loop-target l = l.text.items ≡ l.initial.text.items ++ flat_map (λ t. reason_if l.station t t.refusal) (take l.target-index l.targets)

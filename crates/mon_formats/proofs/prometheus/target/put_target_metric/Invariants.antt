@@ -5,4 +5,4 @@ use Rattle.mon_formats.proofs.prometheus.target.put_target_metric.Given as goal
 
 -- the head and the lines so far are written
 abbrev pub invariant-loop-target : goal.invariant-loop-target
-invariant-loop-target l = l.text.items ≡ l.initial.text.items ++ flat_map (target_line l.metric) (take l.target-index l.targets)
+invariant-loop-target l = l.text.items ≡ l.initial.text.items ++ flat_map (target_line l.station l.metric) (take l.target-index l.targets)

@@ -1,0 +1,6 @@
+mod Alike
+mod Images
+mod Places
+mod Stops
+mod Sums
+mod Turns

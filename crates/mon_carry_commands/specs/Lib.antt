@@ -1,0 +1,12 @@
+pub mod Alike
+pub mod Carry
+pub mod Disks
+pub mod Engines
+pub mod Faults
+pub mod FirstSave
+pub mod Line
+pub mod Load
+pub mod Paths
+pub mod Previous
+pub mod Saving
+pub mod Side

@@ -1,0 +1,4 @@
+mod Ages
+pub mod Promised
+mod Rereads
+mod Ways

@@ -1,0 +1,9 @@
+use Rattle.std.proofs.Common.{◌≤◌, length, rules, ◌∙◌}
+use Rattle.mon_survey.specs.Edited.{only_comment, ends_line}
+use Rattle.mon_survey.proofs.Pieces.{feeds_line, one_more, first_line}
+use Rattle.mon_survey.proofs.editing.put_comments.Goals as goal
+
+pub loop-rest-preserved : goal.loop-rest-preserved
+loop-rest-preserved c =
+    let some : 1 ≤ length c.loop-rest.rest.now = search rules in
+    one_more ends_line feeds_line only_comment c.loop-rest.rest.now _ _ _ _ _ c.line_end.result some (c.line_end.ensures.number ∙ first_line 10 c.loop-rest.rest.now) c.split_at.ensures.front c.split_at.ensures.back (search rules) c.loop-rest.invariant

@@ -1,0 +1,299 @@
+//! A file of labels with an agent's interfaces as they are now, and the names that it said before.
+
+ghost use Rattle.std.specs.Prelude.{◌≡◌, ◌⊎◌, ◌↔◌, ◌++◌, IfErr, IfOk, IsTrue, None, OnOk, Some, option_copied, option_map, string_bytes};
+ghost use Rattle.std.specs.Str.{IsUtf8};
+ghost use Rattle.hex.specs.Hex.{encode_lower};
+ghost use Rattle.toml.specs.Data.{Items};
+ghost use Rattle.toml.specs.View.{items_view, view};
+ghost use Rattle.mon_survey.specs.Edited.{quoted, text_without};
+ghost use Rattle.mon_survey.specs.Labels.{interfaces_in};
+ghost use Rattle.mon_survey.specs.Meant.{IsUnlike};
+ghost use Rattle.mon_survey.specs.Moved.{at_in, at_of};
+ghost use Rattle.mon_survey.specs.Relabelled.{AreKnownIn, AreRest, AreRestIn, IsNoRest, IsNotRelabelled, IsRelabelled, IsRest, ReadsRest, indexes_then, is_index, is_known, known_at, known_by, known_in};
+
+use crate::changes::{indexes_left, new_counters};
+use crate::choice::{Choice, has_part};
+use crate::editing::{quoted, text_without};
+use crate::fault::{SurveyFault, given};
+use crate::labelled::{interfaces, is_of, is_same, labels_of, number_at, text_at, tree};
+use crate::moving::{Known, Places};
+use crate::tables::{Source, indexes_of};
+use crate::updating::Renamed;
+use mon_ber::Octets;
+use mon_board::Watched;
+use std::alloc::{AllocError, Global};
+use toml::Value;
+
+/// U+FFFD, which a file of labels has in place of what is not UTF-8.
+const REPLACEMENT: &[u8] = &[239, 191, 189];
+
+/// Returns `true` if the number is an ifIndex.
+fn is_index(number: i64) -> bool
+    ensures { result ≡ is_index number }
+{
+    0 <= number && number <= 4_294_967_295
+}
+
+/// Returns `true` if a name says something, and was UTF-8.
+fn is_known(name: &[u8]) -> bool
+    ensures { result ≡ is_known name.now }
+{
+    match name {
+        [] => false,
+        _ => !has_part(name, REPLACEMENT),
+    }
+}
+
+/// Adds a name at an index, if both are there and the name is known.
+fn add_known(
+    alloc: Global,
+    all: &mut Vec<Known>,
+    index: Option<i64>,
+    name: Option<&str>,
+) -> Result<(), AllocError>
+    ensures { OnOk result (all.new.items ≡ all.old.items ++ known_by index (option_copied name.entry)) }
+{
+    let Some(number) = index else {
+        return Ok(());
+    };
+    let Some(name) = name else {
+        return Ok(());
+    };
+    if !is_index(number) || !is_known(name.as_bytes()) {
+        return Ok(());
+    }
+    let name = Octets::from_slice(alloc, name.as_bytes())?;
+    all.push(Known {
+        index: number.unsigned_abs() as u32,
+        name,
+    })?;
+    Ok(())
+}
+
+/// Adds the name that a table says of an interface, if it is one of this engine.
+fn add_known_at(
+    alloc: Global,
+    all: &mut Vec<Known>,
+    engine: &str,
+    value: &Value,
+) -> Result<(), AllocError>
+    ensures { OnOk result (all.new.items ≡ all.old.items ++ known_at engine.now (view value.now)) }
+{
+    if is_of(engine, text_at(value, "engine")) {
+        add_known(
+            alloc,
+            all,
+            number_at(value, "index"),
+            text_at(value, "ifName"),
+        )
+    } else {
+        Ok(())
+    }
+}
+
+/// Adds the names that tables say of the interfaces of this engine.
+fn add_known_in(
+    alloc: Global,
+    all: &mut Vec<Known>,
+    engine: &str,
+    values: &[Value],
+) -> Result<(), AllocError>
+    ensures { OnOk result (all.new.items ≡ all.old.items ++ known_in engine.now (items_view values.now)) }
+{
+    let [value, values @ ..] = values else {
+        return Ok(());
+    };
+    add_known_at(alloc, all, engine, value)?;
+    add_known_in(alloc, all, engine, values)
+}
+
+/// The names that tables say of the interfaces of this engine, if there is a list of tables.
+fn known_by(
+    alloc: Global,
+    engine: &str,
+    values: Option<&[Value]>,
+) -> Result<Vec<Known>, SurveyFault>
+    ensures gives { IfOk result (λ v. (items : Items) × (option_map (λ v. items_view v.now) values.entry ≡ Some items) × (v.items ≡ known_in engine.now items)) }
+    ensures fault { IfErr result (λ e. (e ≡ SurveyFault.OutOfMemory) ⊎ ((e ≡ SurveyFault.BadLabels) × (option_map (λ v. items_view v.now) values.entry ≡ None))) }
+{
+    let Some(values) = values else {
+        return Err(SurveyFault::BadLabels);
+    };
+    let mut all = Vec::new(alloc);
+    add_known_in(alloc, &mut all, engine, values)?;
+    Ok(all)
+}
+
+/// Returns the names that a file of labels says of the interfaces of this engine. Empty names are left
+/// out, and those with U+FFFD, which is in place of what is not UTF-8.
+///
+/// # Errors
+/// `BadLabels` where the text is not TOML or its `interface` no list; `OutOfMemory`.
+pub fn known_names(alloc: Global, text: &str, engine: &[u8]) -> Result<Vec<Known>, SurveyFault>
+    ensures gives { IfOk result (λ v. AreKnownIn text.now (encode_lower engine.now) v.items) }
+    ensures fault { IfErr result (λ e. (e ≡ SurveyFault.OutOfMemory) ⊎ ((e ≡ SurveyFault.BadLabels) × (interfaces_in text.now ≡ None))) }
+{
+    let digits = hex::encode(alloc, engine)?;
+    let read = given!(tree(alloc, text));
+    known_by(alloc, digits.as_str(), interfaces(&read))
+}
+
+/// Returns `true` if the new tables are those of the old ones that are of other engines.
+fn are_rest(engine: &str, old: &[Value], new: &[Value]) -> bool
+    ensures { IsTrue result ↔ AreRest engine.now (items_view old.now) (items_view new.now) }
+{
+    let [one, old @ ..] = old else {
+        return new.is_empty();
+    };
+    if is_of(engine, text_at(one, "engine")) {
+        return are_rest(engine, old, new);
+    }
+    let [other, new @ ..] = new else {
+        return false;
+    };
+    is_same(one, other) && are_rest(engine, old, new)
+}
+
+/// The indexes of the interfaces that are left and of the new ones.
+fn indexes_then(
+    alloc: Global,
+    places: &Places<'_>,
+    choice: &Choice<'_>,
+    instances: &[Watched],
+) -> Result<Vec<u32>, AllocError>
+    ensures { IfOk result (λ v. v.items ≡ indexes_then choice.now (at_of places.now) instances.now) }
+{
+    let mut indexes = indexes_left(alloc, places, instances)?;
+    let counters = new_counters(alloc, places, choice, instances)?;
+    let added = indexes_of(alloc, &counters)?;
+    indexes.extend_from_slice(&added)?;
+    Ok(indexes)
+}
+
+/// Returns `true` if there are new tables, which are those of the old ones that are of other engines.
+fn are_rest_in(engine: &str, old: &[Value], new: Option<&[Value]>) -> bool
+    ensures { IsTrue result ↔ AreRestIn engine.now (items_view old.now) (option_map (λ v. items_view v.now) new.entry) }
+{
+    match new {
+        Some(new) => are_rest(engine, old, new),
+        None => false,
+    }
+}
+
+/// Returns `true` if the text is read as those of the old tables that are of other engines.
+fn reads_rest(alloc: Global, engine: &str, before: &[Value], text: &str) -> Result<bool, AllocError>
+    ensures { IfOk result (λ is. IsTrue is ↔ ReadsRest engine.now (items_view before.now) text.now) }
+{
+    let read = match tree(alloc, text) {
+        Ok(read) => read,
+        Err(SurveyFault::BadLabels) => return Ok(false),
+        Err(_) => return Err(AllocError),
+    };
+    Ok(are_rest_in(engine, before, interfaces(&read)))
+}
+
+/// Returns the text, if it is read as those of the old tables that are of other engines.
+fn confirm_rest(
+    alloc: Global,
+    engine: &str,
+    before: &[Value],
+    text: String,
+) -> Result<String, SurveyFault>
+    ensures gives { IfOk result (λ same. (same ≡ text) × ReadsRest engine.now (items_view before.now) (string_bytes text)) }
+    ensures fault { IfErr result (IsUnlike (ReadsRest engine.now (items_view before.now) (string_bytes text))) }
+{
+    if reads_rest(alloc, engine, before, text.as_str())? {
+        Ok(text)
+    } else {
+        Err(SurveyFault::Misread)
+    }
+}
+
+/// The old text without its blocks of this engine, but with the comments in them, if it is read as
+/// the tables of other engines.
+fn rest_after(
+    alloc: Global,
+    engine: &str,
+    old: &str,
+    before: &[Value],
+) -> Result<String, SurveyFault>
+    requires { interfaces_in old.now ≡ Some (items_view before.now) }
+    ensures is { IfOk result (λ t. string_bytes t ≡ text_without (quoted engine.now) old.now) }
+    ensures reads { IfOk result (λ t. ReadsRest engine.now (items_view before.now) (string_bytes t)) }
+    ensures fault { IfErr result (λ e. (e ≡ SurveyFault.OutOfMemory) ⊎ IsNoRest old.now engine.now e) }
+{
+    let own = quoted(alloc, engine)?;
+    let octets = text_without(alloc, own.as_slice(), old.as_bytes())?;
+    match String::from_utf8(octets) {
+        Ok(text) => confirm_rest(alloc, engine, before, text),
+        Err(_) => Err(SurveyFault::Misread),
+    }
+}
+
+/// The old text without its blocks of this engine, if its tables of other engines are left.
+fn rest_by(
+    alloc: Global,
+    engine: &str,
+    old: &str,
+    before: Option<&[Value]>,
+) -> Result<String, SurveyFault>
+    requires { interfaces_in old.now ≡ option_map (λ v. items_view v.now) before }
+    ensures is { IfOk result (λ t. string_bytes t ≡ text_without (quoted engine.now) old.now) }
+    ensures rest { IfOk result (λ t. IsRest engine.now old.now (text_without (quoted engine.now) old.now)) }
+    ensures fault { IfErr result (λ e. (e ≡ SurveyFault.OutOfMemory) ⊎ IsNoRest old.now engine.now e) }
+{
+    match before {
+        Some(before) => rest_after(alloc, engine, old, before),
+        None => Err(SurveyFault::BadLabels),
+    }
+}
+
+/// The old text without its blocks of this engine, if its tables of other engines are left.
+fn rest_of(alloc: Global, engine: &str, old: &str) -> Result<String, SurveyFault>
+    ensures is { IfOk result (λ t. string_bytes t ≡ text_without (quoted engine.now) old.now) }
+    ensures rest { IfOk result (λ t. IsRest engine.now old.now (text_without (quoted engine.now) old.now)) }
+    ensures fault { IfErr result (λ e. (e ≡ SurveyFault.OutOfMemory) ⊎ IsNoRest old.now engine.now e) }
+{
+    let was = given!(tree(alloc, old));
+    rest_by(alloc, engine, old, interfaces(&was))
+}
+
+/// The file of these interfaces, with the old tables of other engines.
+fn relabelled(source: &Source<'_>, old: &str, indexes: &[u32]) -> Result<String, SurveyFault>
+    ensures reads { IfOk result (λ text. IsRelabelled old.now source.now.engine.now source.now.answers.now indexes.now (string_bytes text)) }
+    ensures fault { IfErr result (IsNotRelabelled old.now source.now.engine.now source.now.answers.now indexes.now) }
+{
+    let rest = given!(rest_of(source.alloc, source.engine, old));
+    let text = given!(labels_of(source, rest.as_str(), indexes));
+    Ok(text)
+}
+
+/// Returns a file of labels with an agent's interfaces as they are now: the old text without the
+/// blocks of its engine, of which the comments stay, and then a table of each interface that settings
+/// which watch this poll after `update`. The whole was read back, as the old tables of other engines
+/// and these.
+///
+/// # Errors
+/// `BadLabels` where the old text is not TOML or its `interface` no list; `SameEngine` where a table
+/// of the engine is no block of its own; `TooManyInterfaces` with their number in all, above 4,096;
+/// `Misread` where the text is read as others; `OutOfMemory`.
+pub fn relabel(
+    alloc: Global,
+    old: &str,
+    renamed: &Renamed<'_>,
+    choice: &Choice<'_>,
+    instances: &[Watched],
+) -> Result<String, SurveyFault>
+    ensures reads { IfOk result (λ text. IsRelabelled old.now (encode_lower (at_in renamed.now).engine) (at_in renamed.now).cells (indexes_then choice.now (at_in renamed.now) instances.now) (string_bytes text)) }
+    ensures fault { IfErr result (IsNotRelabelled old.now (encode_lower (at_in renamed.now).engine) (at_in renamed.now).cells (indexes_then choice.now (at_in renamed.now) instances.now)) }
+{
+    let places = renamed.places();
+    let indexes = indexes_then(alloc, &places, choice, instances)?;
+    let digits = hex::encode(alloc, places.engine)?;
+    let source = Source {
+        alloc,
+        engine: digits.as_str(),
+        answers: places.answers,
+    };
+    relabelled(&source, old, &indexes)
+}
