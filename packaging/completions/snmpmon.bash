@@ -27,7 +27,7 @@ _snmpmon() {
     COMPREPLY=()
     if [ "${#words[@]}" -lt 2 ]; then
         options='--version -h --help'
-        [[ $cur == -* ]] || options='replay get next bulk walk set settings agent answer mib station report carry selftest rehearse help'
+        [[ $cur == -* ]] || options='replay get next bulk walk set settings agent answer mib station report carry healthz selftest rehearse help'
         _snmpmon_offer "$options" "$cur"
         return
     fi
@@ -38,7 +38,7 @@ _snmpmon() {
         replay)
             options=' --report --format --columns -m --module --names -h --help '
             again=' -m --module '
-            takes=([--format]='text json prometheus columns html' [-m]='@*' [--module]='@*')
+            takes=([--format]='text json prometheus openmetrics columns html' [-m]='@*' [--module]='@*')
             operands=('-')
             ;;
         get)
@@ -97,13 +97,13 @@ _snmpmon() {
         station)
             options=' --rounds --check --follow-settings --interval --phase --report-every --save-every --stale-after --alarm-after --log-levels --out --http --http-host --labels --station-label --format --columns --sort -m --module --names -h --help '
             again=' --http-host -m --module '
-            takes=([--rounds]='-' [--interval]='-' [--phase]='-' [--report-every]='-' [--save-every]='-' [--stale-after]='-' [--alarm-after]='-' [--out]='@*' [--http]='-' [--http-host]='-' [--labels]='@*' [--format]='text json prometheus columns html' [--sort]='name rate alarm age' [-m]='@*' [--module]='@*')
+            takes=([--rounds]='-' [--interval]='-' [--phase]='-' [--report-every]='-' [--save-every]='-' [--stale-after]='-' [--alarm-after]='-' [--out]='@*' [--http]='-' [--http-host]='-' [--labels]='@*' [--format]='text json prometheus openmetrics columns html' [--sort]='name rate alarm age' [-m]='@*' [--module]='@*')
             operands=('@*.toml')
             ;;
         report)
             options=' --file --labels --station-label --format --columns --sort -m --module --names -h --help '
             again=' -m --module '
-            takes=([--file]='@*' [--labels]='@*' [--format]='text json prometheus columns html' [--sort]='name rate alarm age' [-m]='@*' [--module]='@*')
+            takes=([--file]='@*' [--labels]='@*' [--format]='text json prometheus openmetrics columns html' [--sort]='name rate alarm age' [-m]='@*' [--module]='@*')
             operands=('@*.toml')
             ;;
         carry)
@@ -112,6 +112,10 @@ _snmpmon() {
             takes=([--drop]='-')
             operands=('@*.toml' '@*.toml')
             ;;
+        healthz)
+            options=' -h --help '
+            operands=('-')
+            ;;
         selftest)
             options=' -h --help '
             ;;
@@ -119,7 +123,7 @@ _snmpmon() {
             options=' -h --help '
             operands=('@*.toml' '-')
             ;;
-        help) operands=('replay get next bulk walk set settings agent answer mib station report carry selftest rehearse') ;;
+        help) operands=('replay get next bulk walk set settings agent answer mib station report carry healthz selftest rehearse') ;;
         *) return ;;
     esac
     local place=0 value=

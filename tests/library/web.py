@@ -151,9 +151,10 @@ def exchange_at_an_age(address, pieces):
     return told, closed, before
 
 
-def get(address, path, method="GET"):
-    """The head and the body of a response."""
-    octets, _ = exchange(address, [f"{method} {path} HTTP/1.1\r\nHost: localhost\r\nConnection: close\r\n\r\n".encode()])
+def get(address, path, method="GET", accept=()):
+    """The head and the body of a response to a request with these fields Accept."""
+    fields = "".join(f"Accept: {value}\r\n" for value in accept)
+    octets, _ = exchange(address, [f"{method} {path} HTTP/1.1\r\nHost: localhost\r\n{fields}Connection: close\r\n\r\n".encode()])
     head, _, body = octets.partition(b"\r\n\r\n")
     return head.decode(), body
 

@@ -384,7 +384,23 @@ def metric(name, labels, value):
     return f"{name}{{{shown}}} {value}\n" if labels else f"{name} {value}\n"
 
 
-def prometheus(instances, station=None, label=None):
+def plain_head(name, kind, words):
+    """The first two lines of a metric in Prometheus' text format."""
+    return f"# HELP {name} {words}\n# TYPE {name} {kind}\n"
+
+
+def family_head(name, kind, words):
+    """Those in OpenMetrics 1.0, which names the family: its samples have a suffix that its type gives."""
+    kind = "info" if name.endswith("_info") else kind
+    return plain_head(name.removesuffix({"counter": "_total", "info": "_info"}.get(kind, "")), kind, words)
+
+
+def open_metrics(instances, station=None, label=None):
+    """The report in OpenMetrics 1.0."""
+    return prometheus(instances, station, label, family_head) + "# EOF\n"
+
+
+def prometheus(instances, station=None, label=None, head=plain_head):
     """The report, and what a running `Station` says of itself; with a number as `label` each series
     of an instance has it as its label `station`.
     """
@@ -410,7 +426,7 @@ def prometheus(instances, station=None, label=None):
     if station:
         lines.update(station.lines(instances, label))
         shown = [name for name in METRICS if name != "snmpmon_last_round_timestamp_seconds" or station.round_at is not None]
-    heads = {name: f"# HELP {name} {words}\n# TYPE {name} {kind}\n" for name, (kind, words) in METRICS.items()}
+    heads = {name: head(name, kind, words) for name, (kind, words) in METRICS.items()}
     return "".join(heads[name] + "".join(lines.get(name, [])) for name in shown)
 
 
@@ -422,4 +438,4 @@ def cells(it, stale):
     return value, rate, "stale" if stale else "RAISED" if raised else "clear" if it.alarms else "-"
 
 
-FORMATS = {"text": text, "json": json_text, "prometheus": prometheus}
+FORMATS = {"text": text, "json": json_text, "prometheus": prometheus, "openmetrics": open_metrics}

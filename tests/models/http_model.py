@@ -5,6 +5,7 @@ of status, media type and body, and `names` are the names of hosts that are serv
 """
 import ipaddress
 import re
+from fractions import Fraction
 
 REASONS = {
     200: "OK",
@@ -19,6 +20,7 @@ REASONS = {
     505: "HTTP Version Not Supported",
 }
 PROMETHEUS = "text/plain; version=0.0.4; charset=utf-8"
+OPEN_METRICS = "application/openmetrics-text; version=1.0.0; charset=utf-8"
 HTML = "text/html; charset=utf-8"
 PLAIN = "text/plain; charset=utf-8"
 POLICY = "default-src 'none'; style-src 'unsafe-inline'; base-uri 'none'; form-action 'none'; frame-ancestors 'none'"
@@ -31,6 +33,15 @@ KNOWN = (b"POST", b"PUT", b"DELETE", b"CONNECT", b"OPTIONS", b"TRACE", b"PATCH")
 # RFC 3986, section 3.2.2: a registered name, an IPv4 address among them, or a literal in brackets; then maybe a port.
 NAMED = re.compile(rb"((?:[A-Za-z0-9\-._~!$&'()*+,;=]|%[0-9A-Fa-f]{2})*)(?::[0-9]*)?")
 LITERAL = re.compile(rb"\[([0-9A-Fa-f:.]+)\](?::[0-9]*)?")
+# RFC 9110, sections 12.5.1, 5.6.6 and 12.4.2, but for quoted strings.
+PARAMETER = rb"(" + TOKEN + rb")=(" + TOKEN + rb")"
+RANGE = re.compile(rb"(" + TOKEN + rb"/" + TOKEN + rb")((?:[ \t]*;[ \t]*(?:" + TOKEN + rb"=" + TOKEN + rb")?)*)")
+QUALITY = re.compile(rb"0(\.[0-9]{0,3})?|1(\.0{0,3})?")
+# By how exactly they name it, the media types that name a format; and its version.
+FORMATS = {
+    "open_metrics": ([b"application/openmetrics-text"], b"1.0.0"),
+    "text": ([b"*/*", b"text/*", b"text/plain"], b"0.0.4"),
+}
 
 
 def head_of(octets):
@@ -84,6 +95,36 @@ def path_of(target):
     return target.split(b"?")[0]
 
 
+def quality(ranges, name):
+    """How much a format is wanted: as the range says that names it most exactly."""
+    types, version = FORMATS[name]
+    ranks = [
+        (types.index(media), b"version" in said, weight)
+        for media, said, weight in ranges
+        if media in types and said.get(b"version", version) == version
+    ]
+    return max(ranks, default=(0, False, 0))[2]
+
+
+def prefers_open_metrics(values):
+    """Whether fields Accept with these values ask for OpenMetrics at least as much as for the text format."""
+    ranges = []
+    for element in b",".join(values).split(b","):
+        if not element.strip(b" \t"):
+            continue
+        found = RANGE.fullmatch(element.strip(b" \t"))
+        if not found:
+            return False
+        said = {}
+        for parameter, value in re.findall(PARAMETER, found[2]):
+            said.setdefault(parameter.lower(), value)
+        weight = said.get(b"q", b"1")
+        if not QUALITY.fullmatch(weight):
+            return False
+        ranges.append((found[1].lower(), said, Fraction(weight.decode().rstrip("."))))
+    return 0 < quality(ranges, "open_metrics") >= quality(ranges, "text")
+
+
 def length_is_0(values):
     return all(re.fullmatch(rb"0+", value) for value in values)
 
@@ -117,7 +158,10 @@ def judge(head, names):
     if method not in (b"GET", b"HEAD"):
         return (405 if method in KNOWN else 501), True, stays
     routes = {b"/metrics": "metrics", b"/report.json": "report", b"/": "page", b"/healthz": "health"}
-    return routes.get(path_of(target), 404), method == b"GET", stays
+    route = routes.get(path_of(target), 404)
+    if route == "metrics" and prefers_open_metrics(named(b"accept")):
+        route = "open_metrics"
+    return route, method == b"GET", stays
 
 
 def response(status, media, body, stays, with_body):
@@ -160,6 +204,7 @@ HOSTS = [b"localhost"] * 20 + [b"LOCALHOST:80", b"127.0.0.1", b"127.0.0.1:9161",
 HOSTS += [b"a b", b"a/b", b"user@h", b"h:port", b"h:99999", b"[::1", b"h,h2", b"localhost:", b":80", b"a%41", b"a%4", b"[::1]x", b"evil.example"]
 FIELDS = [b"Host: a", b"host:b", b"Connection: close", b"Connection: a, CLOSE", b"Content-Length: 0", b"Content-Length: 4", b"Content-Length: x"]
 FIELDS += [b"Transfer-Encoding: chunked", b"Transfer-Encoding:", b"X: \xff\t", b"X : y", b" folded", b"\rX: y", b"X: a\rb", b"Accept: */*"]
+FIELDS += [b"Accept: application/openmetrics-text", b"ACCEPT: application/openmetrics-text;q=0.5", b"accept: text/plain;q=0.7"]
 
 
 def request(random):

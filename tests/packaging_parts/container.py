@@ -31,6 +31,7 @@ LIMITS += "--ulimit nofile=64:64 --ulimit nproc=64:64".split()
 # doesn't see those of version 2.
 WITHOUT_UNIFIED = ["unshare", "--mount", "sh", "-c"]
 WITHOUT_UNIFIED += ['umount /sys/fs/cgroup/unified; exec "$@"', "sh"]
+HEALTH_CHECK = ["CMD", "/usr/bin/snmpmon", "healthz", "127.0.0.1:9732"]
 # How long what is waited for may take.
 SECONDS = 600
 # The first objects of two interfaces of examples/agent-large.toml: the start of the count and what
@@ -235,6 +236,15 @@ def try_tool(tool, program):
         check_image(image, program)
         for what, wrong in wrong_images(image, program):
             holds(f"an image with {what} is not refused", refused(check_image, wrong, program))
+        storage.build(program, BUILDAH_FORMAT="docker")
+        same("its health check in Docker's format", health_check(storage), HEALTH_CHECK)
+
+
+def health_check(storage):
+    """The command of the image's health check; the OCI's format has none."""
+    said = json.loads(storage("inspect", "--type", "image", NAME))
+    found = said[0]["Healthcheck"] if storage.tool == "podman" else said["Docker"]["config"]["Healthcheck"]
+    return found["Test"]
 
 
 def try_podman(program):
@@ -392,6 +402,8 @@ def try_second_life(edge, windows):
     )
     check_windows(windows_of(report))
     edge.wait_for("a round in time", edge.is_healthy)
+    asked = edge.lab.run("healthz", "{}:{}".format(*edge.address))
+    same("what healthz says", (asked[0], asked[2]), ("healthy\n", 0))
 
 
 def live(edge):

@@ -12,7 +12,7 @@ from pathlib import Path
 from library.lab import Lab
 from packaging_parts.common import LeftOut, holds, need, ran, run, same
 from packaging_parts.dashboard import SAMPLE, metrics_of
-from packaging_parts.watched import ALERTS, FOLDER, RULES, Watched, replace
+from packaging_parts.watched import ALERTS, FOLDER, RULES, Watched, asked, replace
 
 CASES = "snmpmon-tests.yml"
 # How long nothing more may come after what is waited for.
@@ -272,6 +272,15 @@ class Alerted(Watched):
         ]
 
 
+def read_as_open_metrics(watched):
+    """Prometheus asks for OpenMetrics and gets it: only there are these families called so."""
+    data = asked(watched.ports[3], "targets/metadata")
+    types = {it["metric"]: it["type"] for it in data if it["metric"].startswith("snmpmon")}
+    wanted = {"snmpmon": "info", "snmpmon_samples_taken": "counter", "snmpmon_counted": "counter"}
+    same("families", {name: types.get(name) for name in wanted}, wanted)
+    same("families with a suffix", [it for it in types if it.endswith(("_total", "_info"))], [])
+
+
 def follow_alarm(watched):
     """Rates by interface, and the alarm of the second one: once, with edge1 and gi0/1."""
     watched.wait_for(
@@ -322,6 +331,7 @@ def try_alert(program):
         stack.callback(lab.close)
         watched = Alerted(lab, stack)
         follow_alarm(watched)
+        read_as_open_metrics(watched)
         follow_device(watched)
         same(
             "alerts of other kinds",

@@ -59,6 +59,7 @@ its_name lists commands.Mib = refl
 its_name lists commands.Station = refl
 its_name lists commands.Report = refl
 its_name lists commands.Carry = refl
+its_name lists commands.Healthz = refl
 its_name lists commands.SelfTest = refl
 its_name lists commands.Rehearse = refl
 
@@ -276,6 +277,7 @@ fits lists commands.Mib = (tt, (tt, tt))
 fits lists commands.Station = (tt, ((λ v e. or_false _ e, by_sign), (tt, (tt, ((λ v e. or_false _ e, by_sign), ((λ v e. or_false _ e, by_sign), ((λ v e. or_false _ e, by_sign), ((λ v e. or_false _ e, by_sign), ((λ v e. or_false _ e, by_sign), ((λ v e. or_false _ e, by_sign), (tt, (tt, (tt, (tt, (tt, (tt, (tt, (tt, (tt, (tt, (tt, tt)))))))))))))))))))))
 fits lists commands.Report = (tt, (tt, (tt, (tt, (tt, (tt, (tt, (tt, (tt, tt)))))))))
 fits lists commands.Carry = (tt, (tt, (tt, (tt, (tt, tt)))))
+fits lists commands.Healthz = (tt, tt)
 fits lists commands.SelfTest = tt
 fits lists commands.Rehearse = (tt, ((λ v e. or_false _ e, by_sign), tt))
 
@@ -294,6 +296,7 @@ wanted lists commands.Mib = refl
 wanted lists commands.Station = refl
 wanted lists commands.Report = refl
 wanted lists commands.Carry = refl
+wanted lists commands.Healthz = refl
 wanted lists commands.SelfTest = refl
 wanted lists commands.Rehearse = refl
 
@@ -312,6 +315,7 @@ leaves lists commands.Mib = (refl, refl)
 leaves lists commands.Station = (refl, refl)
 leaves lists commands.Report = (refl, refl)
 leaves lists commands.Carry = (refl, refl)
+leaves lists commands.Healthz = (refl, refl)
 leaves lists commands.SelfTest = (refl, refl)
 leaves lists commands.Rehearse = (refl, refl)
 
@@ -358,6 +362,7 @@ finds commands.Mib = refl
 finds commands.Station = refl
 finds commands.Report = refl
 finds commands.Carry = refl
+finds commands.Healthz = refl
 finds commands.SelfTest = refl
 finds commands.Rehearse = refl
 

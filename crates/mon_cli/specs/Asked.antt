@@ -217,6 +217,7 @@ Says commands.Mib rows (asked.Mib w) = IsMib rows w
 Says commands.Station rows (asked.Station w) = IsStation rows w
 Says commands.Report rows (asked.Report w) = IsSaved rows w
 Says commands.Carry rows (asked.Carry w) = IsCarry rows w
+Says commands.Healthz rows (asked.Healthz w) = w.address.now ≡ text_in (codes "ADDRESS") rows
 Says commands.SelfTest rows asked.SelfTest = ⊤
 Says commands.Rehearse rows (asked.Rehearse w) = IsSettings rows w.settings × IsNumberOr 32 1 (one_of (codes "K") rows) w.stations
 Says _ rows _ = ⊥

@@ -18,6 +18,7 @@ word_of commands.Mib = codes "mib"
 word_of commands.Station = codes "station"
 word_of commands.Report = codes "report"
 word_of commands.Carry = codes "carry"
+word_of commands.Healthz = codes "healthz"
 word_of commands.SelfTest = codes "selftest"
 word_of commands.Rehearse = codes "rehearse"
 
@@ -25,5 +26,5 @@ word_of commands.Rehearse = codes "rehearse"
 abbrev pub choices : List Choice
 choices = commands.Replay ∷ commands.Get ∷ commands.Next ∷ commands.Bulk ∷ commands.Walk
     ∷ commands.Set ∷ commands.Settings ∷ commands.Agent ∷ commands.Answer ∷ commands.Mib
-    ∷ commands.Station ∷ commands.Report ∷ commands.Carry ∷ commands.SelfTest ∷ commands.Rehearse
-    ∷ []
+    ∷ commands.Station ∷ commands.Report ∷ commands.Carry ∷ commands.Healthz ∷ commands.SelfTest
+    ∷ commands.Rehearse ∷ []

@@ -28,7 +28,8 @@ use Rattle.mon_cli.specs.declared.lines.Form.TheVariants.{Place, Long, Short, Bo
 
 -- the texts for the formats, for the kinds and for the orders of rows
 abbrev pub IsLists : Lists → Type 0
-IsLists lists = (texts lists.formats.now ≡ codes "text" ∷ codes "json" ∷ codes "prometheus" ∷ codes "columns" ∷ codes "html" ∷ [])
+IsLists lists = (texts lists.formats.now
+    ≡ codes "text" ∷ codes "json" ∷ codes "prometheus" ∷ codes "openmetrics" ∷ codes "columns" ∷ codes "html" ∷ [])
     × (texts lists.kinds.now ≡ codes "integer" ∷ codes "string" ∷ codes "hex" ∷ codes "oid" ∷ codes "ip"
     ∷ codes "counter32" ∷ codes "gauge32" ∷ codes "timeticks" ∷ codes "counter64" ∷ [])
     × (texts lists.sorts.now ≡ codes "name" ∷ codes "rate" ∷ codes "alarm" ∷ codes "age" ∷ [])

@@ -139,6 +139,7 @@ arguments commands.Carry = word (codes "OLD") Text ∷ word (codes "NEW") Text
     ∷ repeated (codes "drop")
     ∷ flag (codes "dry-run")
     ∷ flag (codes "previous") ∷ []
+arguments commands.Healthz = word (codes "ADDRESS") Text ∷ []
 arguments commands.SelfTest = []
 arguments commands.Rehearse = settings ∷ word (codes "K") (up_to 1 16) ∷ []
 

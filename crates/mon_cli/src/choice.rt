@@ -19,6 +19,7 @@ pub enum Choice {
     Station,
     Report,
     Carry,
+    Healthz,
     SelfTest,
     Rehearse,
 }
@@ -43,6 +44,7 @@ impl Choice {
             "station" => Some(Choice::Station),
             "report" => Some(Choice::Report),
             "carry" => Some(Choice::Carry),
+            "healthz" => Some(Choice::Healthz),
             "selftest" => Some(Choice::SelfTest),
             "rehearse" => Some(Choice::Rehearse),
             _ => None,
@@ -67,6 +69,7 @@ impl Choice {
             Choice::Station => "station",
             Choice::Report => "report",
             Choice::Carry => "carry",
+            Choice::Healthz => "healthz",
             Choice::SelfTest => "selftest",
             Choice::Rehearse => "rehearse",
         }

@@ -12,7 +12,8 @@ mod texts;
 pub use choice::Choice;
 pub use matches::read_command;
 pub use meaning::{
-    AgentArgs, AnswerArgs, Asked, BulkArgs, CarryArgs, MibArgs, Named, Printed, RehearseArgs,
-    ReplayArgs, ReportArgs, Request, Scene, SetArgs, SettingsArgs, StationArgs, Timing, WalkArgs,
+    AgentArgs, AnswerArgs, Asked, BulkArgs, CarryArgs, HealthzArgs, MibArgs, Named, Printed,
+    RehearseArgs, ReplayArgs, ReportArgs, Request, Scene, SetArgs, SettingsArgs, StationArgs,
+    Timing, WalkArgs,
 };
 pub use parser::{VERSION, read};

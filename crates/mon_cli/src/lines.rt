@@ -493,6 +493,15 @@ const LOST_FILE: Line = Line {
 lost, without alarms; in place of SETTINGS",
 };
 
+const STATION_ADDRESS: Line = Line {
+    id: "ADDRESS",
+    form: Form::Place,
+    takes: Takes::One(Value::Text),
+    needed: true,
+    shown: "ADDRESS",
+    help: "Where the station serves HTTP, a.b.c.d:port",
+};
+
 const OLD_SETTINGS: Line = Line {
     id: "OLD",
     form: Form::Place,
@@ -615,6 +624,8 @@ static SAVED: [Line; 9] = [
 
 static CARRY: [Line; 5] = [OLD_SETTINGS, NEW_SETTINGS, DROP, DRY_RUN, PREVIOUS];
 
+static HEALTHZ: [Line; 1] = [STATION_ADDRESS];
+
 static REHEARSE: [Line; 2] = [SETTINGS, STATIONS];
 
 /// The options and operands of a command, in the order in which help has them.
@@ -634,6 +645,7 @@ pub(crate) fn lines_of(choice: Choice) -> &'static [Line]
         Choice::Station => STATION.as_slice(),
         Choice::Report => SAVED.as_slice(),
         Choice::Carry => CARRY.as_slice(),
+        Choice::Healthz => HEALTHZ.as_slice(),
         Choice::SelfTest => &[],
         Choice::Rehearse => REHEARSE.as_slice(),
     }

@@ -12,8 +12,9 @@ ghost use Rattle.mon_cli.specs.declared.meaning.Asked.TheVariants as asked;
 
 use crate::choice::Choice;
 use crate::meaning::{
-    AgentArgs, AnswerArgs, Asked, BulkArgs, CarryArgs, MibArgs, Named, Printed, RehearseArgs,
-    ReplayArgs, ReportArgs, Request, Scene, SetArgs, SettingsArgs, StationArgs, Timing, WalkArgs,
+    AgentArgs, AnswerArgs, Asked, BulkArgs, CarryArgs, HealthzArgs, MibArgs, Named, Printed,
+    RehearseArgs, ReplayArgs, ReportArgs, Request, Scene, SetArgs, SettingsArgs, StationArgs,
+    Timing, WalkArgs,
 };
 use clap::ArgMatches;
 use mon_formats::{Format, Sort};
@@ -357,6 +358,9 @@ fn asked_by<'m, 'a>(choice: Choice, matches: &'m ArgMatches<'a>) -> Asked<'m, 'a
         Choice::Station => Asked::Station(station(matches)),
         Choice::Report => Asked::Report(saved(matches)),
         Choice::Carry => Asked::Carry(carry(matches)),
+        Choice::Healthz => Asked::Healthz(HealthzArgs {
+            address: text(matches, "ADDRESS"),
+        }),
         Choice::Rehearse => Asked::Rehearse(RehearseArgs {
             settings: text(matches, "SETTINGS"),
             stations: number_or(matches, "K", 1),

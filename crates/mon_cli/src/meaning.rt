@@ -230,6 +230,13 @@ pub struct CarryArgs<'m, 'a> {
     pub previous: bool,
 }
 
+/// The station that `healthz` asks.
+#[derive(Clone, Copy)]
+pub struct HealthzArgs<'a> {
+    /// Where it serves HTTP.
+    pub address: &'a str,
+}
+
 /// The stations that `rehearse` makes.
 #[derive(Clone, Copy)]
 pub struct RehearseArgs<'a> {
@@ -257,6 +264,7 @@ pub enum Asked<'m, 'a> {
     Station(StationArgs<'m, 'a>),
     Report(ReportArgs<'m, 'a>),
     Carry(CarryArgs<'m, 'a>),
+    Healthz(HealthzArgs<'a>),
     SelfTest,
     Rehearse(RehearseArgs<'a>),
 }

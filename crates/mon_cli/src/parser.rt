@@ -16,7 +16,14 @@ use std::convert::AsStr;
 /// The name and the version, as `--version` prints them.
 pub const VERSION: &str = "snmpmon 0.1.0\n";
 
-static FORMATS: [&str; 5] = ["text", "json", "prometheus", "columns", "html"];
+static FORMATS: [&str; 6] = [
+    "text",
+    "json",
+    "prometheus",
+    "openmetrics",
+    "columns",
+    "html",
+];
 
 /// The names of the kinds of values.
 static KINDS: [&str; 9] = [
@@ -129,7 +136,7 @@ fn one<'a>(alloc: Global, lists: Lists<'a>, choice: Choice) -> Result<Command<'a
 }
 
 /// The commands, in the order of the list in help.
-const CHOICES: [Choice; 15] = [
+const CHOICES: [Choice; 16] = [
     Choice::Replay,
     Choice::Get,
     Choice::Next,
@@ -143,6 +150,7 @@ const CHOICES: [Choice; 15] = [
     Choice::Station,
     Choice::Report,
     Choice::Carry,
+    Choice::Healthz,
     Choice::SelfTest,
     Choice::Rehearse,
 ];

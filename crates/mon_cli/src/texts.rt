@@ -41,10 +41,10 @@ agent counts nothing.
 
   8000000001 1.3.6.1.2.1.2.2.1.10.1 n=3 3:100..3:110 Counter32=9 delta=2 span=10 rate=0.200
 
---format prints such a report in another format: json, prometheus, columns, a
-table for people, or html, a page for a browser; then refused lines are named on
-standard error. With --names names stand as ifInOctets.1, by the modules that -m
-gives.
+--format prints such a report in another format: json, prometheus, openmetrics,
+columns, a table for people, or html, a page for a browser; then refused lines
+are named on standard error. With --names names stand as ifInOctets.1, by the
+modules that -m gives.
 
 Examples: snmpmon replay 8 < examples/three-responses.hex
           snmpmon replay 8 --report < examples/three-responses.hex
@@ -251,11 +251,12 @@ whose settings are lost by what it holds itself, without alarms. --station-label
 needs SETTINGS, which have the station's number.
 
 --format json prints an object, --format prometheus the text that Prometheus
-reads, --format html a page for a browser, --columns a table for people, whose
-rows --sort puts in an order: by name, or the greatest rate, raised alarms or
-the greatest age first. With --names names stand as ifInOctets.1, by the modules
-of the settings and those that -m gives. With --labels FILE Prometheus' text, the
-page and the table have ifName and ifAlias of each interface that FILE lists.
+reads, --format openmetrics the same in OpenMetrics 1.0, --format html a page for
+a browser, --columns a table for people, whose rows --sort puts in an order: by
+name, or the greatest rate, raised alarms or the greatest age first. With --names
+names stand as ifInOctets.1, by the modules of the settings and those that -m
+gives. With --labels FILE Prometheus' text, OpenMetrics, the page and the table
+have ifName and ifAlias of each interface that FILE lists.
 
 Examples: snmpmon report examples/station.toml
           snmpmon report examples/station.toml --columns --sort rate
@@ -285,6 +286,15 @@ that is damaged or of other instances; both files stay as they were.
 Examples: snmpmon carry old.toml new.toml --dry-run
           snmpmon carry old.toml new.toml
           snmpmon carry --previous station.toml.previous station.toml";
+
+const HEALTHZ_MORE: &str =
+    "Asks the station that serves HTTP at ADDRESS (station --http) for /healthz, and
+prints `healthy` if it answers with status 200: rounds end in time. Else it ends
+with status 1 and says why: mon_health_commands 2 Unhealthy for another status,
+mon_app 2 Timeout if nothing comes within two seconds. It is the health check of
+a container that has no shell.
+
+Example: snmpmon healthz 127.0.0.1:9732";
 
 const SELFTEST_MORE: &str =
     "Polls an agent in memory three times, saves what was taken, finds it again, and
@@ -335,6 +345,7 @@ pub(crate) fn about<'a>(choice: Choice) -> &'a str {
         Choice::Station => "Polls agents, and keeps, shares and saves what they answer",
         Choice::Report => "Prints the report of what a station has saved",
         Choice::Carry => "Carries saved windows over to changed settings",
+        Choice::Healthz => "Asks a running station whether its rounds end in time",
         Choice::SelfTest => "Tries a station in memory on an agent in memory",
         Choice::Rehearse => "Makes the steps of a script with stations in memory",
     }
@@ -356,6 +367,7 @@ pub(crate) fn more<'a>(choice: Choice) -> &'a str {
         Choice::Station => STATION_MORE,
         Choice::Report => REPORT_FILE_MORE,
         Choice::Carry => CARRY_MORE,
+        Choice::Healthz => HEALTHZ_MORE,
         Choice::SelfTest => SELFTEST_MORE,
         Choice::Rehearse => REHEARSE_MORE,
     }

@@ -1,6 +1,7 @@
 pub mod Arrays
 pub mod Depths
 pub mod Entries
+pub mod Families
 pub mod Fresh
 pub mod Labels
 pub mod LastDot

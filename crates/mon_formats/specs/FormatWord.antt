@@ -1,12 +1,13 @@
 -- The words that name formats.
 use Rattle.std.specs.Prelude.{ℕ, List, codes}
 use Rattle.mon_formats.specs.declared.format.Format.{Format}
-use Rattle.mon_formats.specs.declared.format.Format.TheVariants.{Text, Json, Prometheus, Columns, Html}
+use Rattle.mon_formats.specs.declared.format.Format.TheVariants.{Text, Json, Prometheus, OpenMetrics, Columns, Html}
 
 -- the word that names a format
 abbrev pub format_word : Format → List ℕ
 format_word Text = codes "text"
 format_word Json = codes "json"
 format_word Prometheus = codes "prometheus"
+format_word OpenMetrics = codes "openmetrics"
 format_word Columns = codes "columns"
 format_word Html = codes "html"

@@ -1,7 +1,9 @@
--- A report as Prometheus reads it: the text exposition format, version 0.0.4. Each metric has a line `# HELP`, a line `# TYPE`, and then
--- its lines together. What a running station says of itself has its number as the label `station`. The series of instances have that
--- label just if a number is given for it: the reports of several stations on the same devices then have no series in common.
-use Rattle.std.specs.Prelude.{ℕ, ℤ, Bool, true, false, not, List, [], ◌∷◌, ◌++◌, Option, Some, None, codes, decimal, length, ◌==◌, if◌then◌else◌, slice_index, String, string_bytes}
+-- A report as Prometheus reads it: in its text exposition format, version 0.0.4, or in OpenMetrics 1.0 (github.com/prometheus/OpenMetrics,
+-- specification/OpenMetrics.md). Each metric has a line `# HELP`, a line `# TYPE`, and then its lines together; there are no empty lines.
+-- The formats differ in what these two lines call a metric and its type, and in the end. Timestamps, units and exemplars are not written.
+-- What a running station says of itself has its number as the label `station`. The series of instances have that label just if a number
+-- is given for it: the reports of several stations on the same devices then have no series in common.
+use Rattle.std.specs.Prelude.{◌≡◌, ℕ, ℤ, Bool, true, false, not, List, [], ◌∷◌, ◌++◌, Option, Some, None, codes, decimal, length, ◌==◌, if◌then◌else◌, slice_index, String, string_bytes, take, ◌-◌}
 use Rattle.std.specs.Char.{is_ascii_digit}
 use Rattle.std.specs.Fmt.{signed_decimal}
 use Rattle.std.specs.List.{after_first, before_first, flat_map}
@@ -29,6 +31,10 @@ use Rattle.mon_formats.specs.declared.prometheus.station.StationMetric.{StationM
 use Rattle.mon_formats.specs.declared.prometheus.station.StationMetric.TheVariants.{Info, Incarnation, Taken, GivenUp, Debt, FailedSaves, Strangers, Duration, Interval, Overruns, LastRound, Age}
 use Rattle.mon_formats.specs.declared.prometheus.target.TargetMetric.{TargetMetric}
 use Rattle.mon_formats.specs.declared.prometheus.target.TargetMetric.TheVariants.{Up, Rounds, Seconds, PollsGivenUp, Refusal}
+use Rattle.mon_formats.specs.declared.prometheus.text.Exposition.{Exposition}
+use Rattle.mon_formats.specs.declared.prometheus.text.Exposition.TheVariants.{Prometheus, OpenMetrics}
+use Rattle.mon_formats.specs.declared.prometheus.text.Kind.{Kind}
+use Rattle.mon_formats.specs.declared.prometheus.text.Kind.TheVariants as kinds
 use Rattle.mon_page.specs.Cells.{newest_of, value_of, rate_of}
 
 -- a character of a label's value: a backslash, a quote and a line feed have a backslash before them
@@ -58,9 +64,47 @@ metric_line metric labels value = metric ++ codes "{" ++ labels ++ codes "} " ++
 unfoldable pub comment_line : List ℕ → List ℕ → List ℕ → List ℕ
 comment_line keyword metric content = codes "# " ++ keyword ++ codes " " ++ metric ++ codes " " ++ content ++ codes "\n"
 
--- what a metric is, and of which type
-unfoldable pub head_text : List ℕ → List ℕ → List ℕ → List ℕ
-head_text metric help type = comment_line (codes "HELP") metric help ++ comment_line (codes "TYPE") metric type
+-- The word for a type. A metric whose labels say something and whose value is always 1 is an info of OpenMetrics, and a gauge of the
+-- text format, which has no infos.
+abbrev pub type_word : Exposition → Kind → List ℕ
+type_word format kinds.Counter = codes "counter"
+type_word format kinds.Gauge = codes "gauge"
+type_word Prometheus kinds.Info = codes "gauge"
+type_word OpenMetrics kinds.Info = codes "info"
+
+-- how many octets at the end of a sample's name are no part of its family's name: in OpenMetrics the `_total` of a counter and the `_info`
+-- of an info (sections "Counter" and "Info")
+abbrev pub suffix_length : Exposition → Kind → ℕ
+suffix_length Prometheus kind = 0
+suffix_length OpenMetrics kinds.Counter = 6
+suffix_length OpenMetrics kinds.Info = 5
+suffix_length OpenMetrics kinds.Gauge = 0
+
+-- what the lines `# HELP` and `# TYPE` call a metric of this type, whose samples have this name
+unfoldable pub family_name : Exposition → Kind → (sample : List ℕ) → List ℕ
+family_name format kind sample = take (length sample - suffix_length format kind) sample
+
+-- the suffix that OpenMetrics gives the samples of a family of this type
+abbrev pub suffix : Kind → List ℕ
+suffix kinds.Counter = codes "_total"
+suffix kinds.Info = codes "_info"
+suffix kinds.Gauge = []
+
+-- the samples of a metric of this type have its family's name and then the suffix
+abbrev pub IsNamed : Kind → (sample : List ℕ) → Type 0
+IsNamed kind sample = sample ≡ family_name OpenMetrics kind sample ++ suffix kind
+
+-- What a metric is, and of which type. The text of help has neither a backslash nor a quote nor a line feed (mon_formats::laws::helps),
+-- so it is the same with the escapes of both formats.
+unfoldable pub head_text : Exposition → List ℕ → List ℕ → Kind → List ℕ
+head_text format metric help kind =
+    comment_line (codes "HELP") (family_name format kind metric) help
+    ++ comment_line (codes "TYPE") (family_name format kind metric) (type_word format kind)
+
+-- the end of a text: OpenMetrics has a last line, by which a reader sees that nothing is cut off
+abbrev pub end_text : Exposition → List ℕ
+end_text Prometheus = []
+end_text OpenMetrics = codes "# EOF\n"
 
 -- what a metric is called
 abbrev pub name_of : Metric → List ℕ
@@ -81,13 +125,13 @@ help_of Alarm = codes "1 where the alarm of a rule is raised: alert on it. Thres
 help_of Speed = codes "Speed of an interface in bits a second. Divide 8 * snmpmon_rate of octets by it for the part in use."
 
 -- its type
-abbrev pub type_of : Metric → List ℕ
-type_of Counted = codes "counter"
-type_of Number = codes "gauge"
-type_of Samples = codes "gauge"
-type_of Rate = codes "gauge"
-type_of Alarm = codes "gauge"
-type_of Speed = codes "gauge"
+abbrev pub type_of : Metric → Kind
+type_of Counted = kinds.Counter
+type_of Number = kinds.Gauge
+type_of Samples = kinds.Gauge
+type_of Rate = kinds.Gauge
+type_of Alarm = kinds.Gauge
+type_of Speed = kinds.Gauge
 
 -- one more label with its value
 unfoldable pub more_label : List ℕ → List ℕ → List ℕ
@@ -209,16 +253,16 @@ abbrev pub entry_lines : Metric → (Labelled → List ℕ) → Labelled → Lis
 entry_lines metric labels i = lines_of metric (labels i) i
 
 -- a metric: what it is, and its lines of all instances
-unfoldable pub metric_text : Metric → (Labelled → List ℕ) → List Labelled → List ℕ
-metric_text metric labels instances =
-    head_text (name_of metric) (help_of metric) (type_of metric) ++ flat_map (entry_lines metric labels) instances
+unfoldable pub metric_text : Exposition → Metric → (Labelled → List ℕ) → List Labelled → List ℕ
+metric_text format metric labels instances =
+    head_text format (name_of metric) (help_of metric) (type_of metric) ++ flat_map (entry_lines metric labels) instances
 
 -- all lines of the instances, metric by metric: of each how many samples it has and how fast its interface is, and the values, rates and
 -- alarms of some
-unfoldable pub instances_text : (Labelled → List ℕ) → (all some : List Labelled) → List ℕ
-instances_text labels all some =
-    metric_text Counted labels some ++ metric_text Number labels some ++ metric_text Samples labels all ++ metric_text Rate labels some
-    ++ metric_text Alarm labels some ++ metric_text Speed labels all
+unfoldable pub instances_text : Exposition → (Labelled → List ℕ) → (all some : List Labelled) → List ℕ
+instances_text format labels all some =
+    metric_text format Counted labels some ++ metric_text format Number labels some ++ metric_text format Samples labels all
+    ++ metric_text format Rate labels some ++ metric_text format Alarm labels some ++ metric_text format Speed labels all
 
 -- ---- the station itself
 -- what a metric of the station itself is called
@@ -252,55 +296,55 @@ station_help LastRound = codes "When the last round ended, in seconds since 1970
 station_help Age = codes "Rounds since an instance had a new sample, or since the station began. It is stale from --stale-after on."
 
 -- its type
-abbrev pub station_type : StationMetric → List ℕ
-station_type Info = codes "gauge"
-station_type Incarnation = codes "gauge"
-station_type Taken = codes "counter"
-station_type GivenUp = codes "counter"
-station_type Debt = codes "gauge"
-station_type FailedSaves = codes "counter"
-station_type Strangers = codes "counter"
-station_type Duration = codes "gauge"
-station_type Interval = codes "gauge"
-station_type Overruns = codes "counter"
-station_type LastRound = codes "gauge"
-station_type Age = codes "gauge"
+abbrev pub station_type : StationMetric → Kind
+station_type Info = kinds.Info
+station_type Incarnation = kinds.Gauge
+station_type Taken = kinds.Counter
+station_type GivenUp = kinds.Counter
+station_type Debt = kinds.Gauge
+station_type FailedSaves = kinds.Counter
+station_type Strangers = kinds.Counter
+station_type Duration = kinds.Gauge
+station_type Interval = kinds.Gauge
+station_type Overruns = kinds.Counter
+station_type LastRound = kinds.Gauge
+station_type Age = kinds.Gauge
 
 -- the first two lines of a metric of the station
-abbrev pub station_head : StationMetric → List ℕ
-station_head metric = head_text (station_name metric) (station_help metric) (station_type metric)
+abbrev pub station_head : Exposition → StationMetric → List ℕ
+station_head format metric = head_text format (station_name metric) (station_help metric) (station_type metric)
 
 -- the line of a metric that has no label but the station's number
 abbrev pub station_line : (station : ℕ) → StationMetric → List ℕ → List ℕ
 station_line station metric value = metric_line (station_name metric) (station_label station) value
 
 -- a metric of that line
-unfoldable pub plain_metric : (station : ℕ) → StationMetric → ℕ → List ℕ
-plain_metric station metric value = station_head metric ++ station_line station metric (decimal value)
+unfoldable pub plain_metric : Exposition → (station : ℕ) → StationMetric → ℕ → List ℕ
+plain_metric format station metric value = station_head format metric ++ station_line station metric (decimal value)
 
 -- the program's version
 abbrev pub version : List ℕ
 version = codes "0.1.0"
 
 -- which program and which station it is: the version is one more label
-unfoldable pub info_text : (station : ℕ) → List ℕ
-info_text station = station_head Info ++ metric_line (station_name Info) (station_label station ++ more_label (codes "version") version) (codes "1")
+unfoldable pub info_text : Exposition → (station : ℕ) → List ℕ
+info_text format station = station_head format Info ++ metric_line (station_name Info) (station_label station ++ more_label (codes "version") version) (codes "1")
 
 -- how long the last round took: milliseconds, written as seconds with three digits after the point
-unfoldable pub duration_text : (station milliseconds : ℕ) → List ℕ
-duration_text station milliseconds = station_head Duration ++ station_line station Duration (rate_text (Some milliseconds))
+unfoldable pub duration_text : Exposition → (station milliseconds : ℕ) → List ℕ
+duration_text format station milliseconds = station_head format Duration ++ station_line station Duration (rate_text (Some milliseconds))
 
 -- when the last round ended, in seconds since 1970; nothing before the end of the first one
-abbrev pub last_round_if : (station : ℕ) → Option ℕ → List ℕ
-last_round_if station None = []
-last_round_if station (Some seconds) = plain_metric station LastRound seconds
+abbrev pub last_round_if : Exposition → (station : ℕ) → Option ℕ → List ℕ
+last_round_if format station None = []
+last_round_if format station (Some seconds) = plain_metric format station LastRound seconds
 
 -- what a station says of its rounds: how long the last one took, how long one may take, how many took longer, and when the last one
 -- ended
-unfoldable pub rounds_text : Figures → List ℕ
-rounds_text f =
-    duration_text f.station f.round_ms ++ plain_metric f.station Interval f.interval ++ plain_metric f.station Overruns f.overruns
-    ++ last_round_if f.station f.round_at
+unfoldable pub rounds_text : Exposition → Figures → List ℕ
+rounds_text format f =
+    duration_text format f.station f.round_ms ++ plain_metric format f.station Interval f.interval
+    ++ plain_metric format f.station Overruns f.overruns ++ last_round_if format f.station f.round_at
 
 -- ---- peers
 -- the labels of a peer: the station's number, and the peer's
@@ -312,8 +356,8 @@ abbrev pub debt_line : (station : ℕ) → ℕ × ℕ → List ℕ
 debt_line station d = metric_line (station_name Debt) (peer_labels station d.0) (decimal d.1)
 
 -- the debts to all peers
-unfoldable pub debts_text : (station : ℕ) → List (ℕ × ℕ) → List ℕ
-debts_text station debts = station_head Debt ++ flat_map (debt_line station) debts
+unfoldable pub debts_text : Exposition → (station : ℕ) → List (ℕ × ℕ) → List ℕ
+debts_text format station debts = station_head format Debt ++ flat_map (debt_line station) debts
 
 -- 1 for true, 0 for false
 abbrev pub one_if : Bool → ℕ
@@ -331,8 +375,8 @@ peer_help PeerUp = codes "1 where a peer was heard within the rounds of --stale-
 peer_help LastHeard = codes "Whole rounds since a datagram came from a peer, or since the station began. Look at that peer where it rises."
 
 -- the first two lines of a metric of peers: its value may fall
-abbrev pub peer_head : PeerMetric → List ℕ
-peer_head metric = head_text (peer_name metric) (peer_help metric) (codes "gauge")
+abbrev pub peer_head : Exposition → PeerMetric → List ℕ
+peer_head format metric = head_text format (peer_name metric) (peer_help metric) kinds.Gauge
 
 -- what a metric says of a peer
 abbrev pub peer_value : PeerMetric → PeerFigures → ℕ
@@ -344,12 +388,12 @@ abbrev pub peer_line : (station : ℕ) → PeerMetric → PeerFigures → List �
 peer_line station metric p = metric_line (peer_name metric) (peer_labels station p.station) (decimal (peer_value metric p))
 
 -- a metric with a line for each peer
-unfoldable pub peer_metric : (station : ℕ) → PeerMetric → List PeerFigures → List ℕ
-peer_metric station metric peers = peer_head metric ++ flat_map (peer_line station metric) peers
+unfoldable pub peer_metric : Exposition → (station : ℕ) → PeerMetric → List PeerFigures → List ℕ
+peer_metric format station metric peers = peer_head format metric ++ flat_map (peer_line station metric) peers
 
 -- what a station says of its peers, metric by metric
-unfoldable pub peers_text : (station : ℕ) → List PeerFigures → List ℕ
-peers_text station peers = peer_metric station PeerUp peers ++ peer_metric station LastHeard peers
+unfoldable pub peers_text : Exposition → (station : ℕ) → List PeerFigures → List ℕ
+peers_text format station peers = peer_metric format station PeerUp peers ++ peer_metric format station LastHeard peers
 
 -- ---- targets
 -- what a metric of a target is called
@@ -369,16 +413,16 @@ target_help PollsGivenUp = codes "Polls of a target that the station gave up sin
 target_help Refusal = codes "Why the last response of a target was refused, until it answers. Its label reason says what to correct."
 
 -- its type
-abbrev pub target_type : TargetMetric → List ℕ
-target_type Up = codes "gauge"
-target_type Rounds = codes "gauge"
-target_type Seconds = codes "gauge"
-target_type PollsGivenUp = codes "counter"
-target_type Refusal = codes "gauge"
+abbrev pub target_type : TargetMetric → Kind
+target_type Up = kinds.Gauge
+target_type Rounds = kinds.Gauge
+target_type Seconds = kinds.Gauge
+target_type PollsGivenUp = kinds.Counter
+target_type Refusal = kinds.Info
 
 -- the first two lines of a metric of targets
-abbrev pub target_head : TargetMetric → List ℕ
-target_head metric = head_text (target_name metric) (target_help metric) (target_type metric)
+abbrev pub target_head : Exposition → TargetMetric → List ℕ
+target_head format metric = head_text format (target_name metric) (target_help metric) (target_type metric)
 
 -- the labels of a target: the station's number, where the target's agent is reached, its number, which keeps targets at one address
 -- apart, and its engine id in hex digits
@@ -400,8 +444,8 @@ abbrev pub target_line : (station : ℕ) → TargetMetric → TargetFigures → 
 target_line station metric t = metric_line (target_name metric) (target_labels station t) (decimal (target_value metric t))
 
 -- a metric with a line for each target
-unfoldable pub target_metric : (station : ℕ) → TargetMetric → List TargetFigures → List ℕ
-target_metric station metric targets = target_head metric ++ flat_map (target_line station metric) targets
+unfoldable pub target_metric : Exposition → (station : ℕ) → TargetMetric → List TargetFigures → List ℕ
+target_metric format station metric targets = target_head format metric ++ flat_map (target_line station metric) targets
 
 -- why a target's last response was refused, as one more label of a line
 unfoldable pub reason_line : {A : Type 0} → (station : ℕ) → TargetFigures → String A → List ℕ
@@ -414,24 +458,25 @@ reason_if station t None = []
 reason_if station t (Some reason) = reason_line station t reason
 
 -- the refusals of all targets that have one
-unfoldable pub refusals_text : (station : ℕ) → List TargetFigures → List ℕ
-refusals_text station targets = target_head Refusal ++ flat_map (λ t. reason_if station t t.refusal) targets
+unfoldable pub refusals_text : Exposition → (station : ℕ) → List TargetFigures → List ℕ
+refusals_text format station targets = target_head format Refusal ++ flat_map (λ t. reason_if station t t.refusal) targets
 
 -- what a station says of its targets, metric by metric
-unfoldable pub targets_text : (station : ℕ) → List TargetFigures → List ℕ
-targets_text station targets =
-    target_metric station Up targets ++ target_metric station Rounds targets ++ target_metric station Seconds targets
-    ++ target_metric station PollsGivenUp targets ++ refusals_text station targets
+unfoldable pub targets_text : Exposition → (station : ℕ) → List TargetFigures → List ℕ
+targets_text format station targets =
+    target_metric format station Up targets ++ target_metric format station Rounds targets
+    ++ target_metric format station Seconds targets ++ target_metric format station PollsGivenUp targets
+    ++ refusals_text format station targets
 
 -- what a station says of itself since its start, by its number: the program's version and its incarnation, how many samples it took and
--- how many polls it gave up, by the number of each peer how many samples it owes that peer and when the peer was heard, how many saves
+-- how many polls it gave up, by the number of each peer how many samples it owes that peer and when its last datagram came, how many saves
 -- failed, how many datagrams strangers sent, and what it says of its rounds and of each target
-unfoldable pub station_text : Figures → List ℕ
-station_text f =
-    info_text f.station ++ plain_metric f.station Incarnation f.incarnation ++ plain_metric f.station Taken f.taken
-    ++ plain_metric f.station GivenUp f.given_up ++ debts_text f.station f.debts.items ++ peers_text f.station f.peers.items
-    ++ plain_metric f.station FailedSaves f.failed_saves ++ plain_metric f.station Strangers f.strangers
-    ++ rounds_text f ++ targets_text f.station f.targets.items
+unfoldable pub station_text : Exposition → Figures → List ℕ
+station_text format f =
+    info_text format f.station ++ plain_metric format f.station Incarnation f.incarnation ++ plain_metric format f.station Taken f.taken
+    ++ plain_metric format f.station GivenUp f.given_up ++ debts_text format f.station f.debts.items
+    ++ peers_text format f.station f.peers.items ++ plain_metric format f.station FailedSaves f.failed_saves
+    ++ plain_metric format f.station Strangers f.strangers ++ rounds_text format f ++ targets_text format f.station f.targets.items
 
 -- ---- ages of instances
 -- the line of an instance that had no new sample in this many rounds
@@ -445,8 +490,8 @@ age_lines labels (age ∷ ages) [] = []
 age_lines labels (age ∷ ages) (i ∷ is) = age_line labels i age ++ age_lines labels ages is
 
 -- the ages of all instances
-unfoldable pub ages_text : (Labelled → List ℕ) → List ℕ → List Labelled → List ℕ
-ages_text labels ages instances = station_head Age ++ age_lines labels ages instances
+unfoldable pub ages_text : Exposition → (Labelled → List ℕ) → List ℕ → List Labelled → List ℕ
+ages_text format labels ages instances = station_head format Age ++ age_lines labels ages instances
 
 -- the instances whose values are reported: of a running station those that are fresh, else all
 abbrev pub fresh_by : Option Figures → List Labelled → List Labelled
@@ -454,15 +499,18 @@ fresh_by None instances = instances
 fresh_by (Some f) instances = fresh f.stale_after f.ages.items instances
 
 -- nothing if there is no station
-abbrev pub station_text_if : (Labelled → List ℕ) → List Labelled → Option Figures → List ℕ
-station_text_if labels instances None = []
-station_text_if labels instances (Some f) = station_text f ++ ages_text labels f.ages.items instances
+abbrev pub station_text_if : Exposition → (Labelled → List ℕ) → List Labelled → Option Figures → List ℕ
+station_text_if format labels instances None = []
+station_text_if format labels instances (Some f) = station_text format f ++ ages_text format labels f.ages.items instances
 
 -- The instances by their labels, metric by metric, and then the station, if there is one. Values, rates and alarms are those of fresh
 -- instances: so Prometheus marks what is left out as stale by itself.
-abbrev pub report_by : (Labelled → List ℕ) → List Labelled → Option Figures → List ℕ
-report_by labels instances figures = instances_text labels instances (fresh_by figures instances) ++ station_text_if labels instances figures
+abbrev pub report_by : Exposition → (Labelled → List ℕ) → List Labelled → Option Figures → List ℕ
+report_by format labels instances figures =
+    instances_text format labels instances (fresh_by figures instances) ++ station_text_if format labels instances figures
 
--- that report, with the number that each series of an instance has as its label `station`, if it is given
-unfoldable pub prometheus_report : (station : Option ℕ) → (shown : List ℕ → List ℕ) → List Labelled → Option Figures → List ℕ
-prometheus_report station shown instances figures = report_by (instance_labels station shown) instances figures
+-- that report and the end, with the number that each series of an instance has as its label `station`, if it is given
+unfoldable pub prometheus_report : Exposition → (station : Option ℕ) → (shown : List ℕ → List ℕ) → List Labelled → Option Figures
+    → List ℕ
+prometheus_report format station shown instances figures =
+    report_by format (instance_labels station shown) instances figures ++ end_text format

@@ -9,6 +9,7 @@ ghost use Rattle.mon_formats.specs.declared.format.Format.TheVariants.{Json};
 use crate::as_json::json_report;
 use crate::named::named_report;
 use crate::prometheus::prometheus_report;
+use crate::prometheus::text::Exposition;
 use mon_page::{Extras, page_report};
 use mon_report::Entry;
 use mon_smi::NameTexts;
@@ -24,6 +25,8 @@ pub enum Format {
     Json,
     /// Prometheus' text exposition format, version 0.0.4.
     Prometheus,
+    /// OpenMetrics 1.0, which Prometheus reads too.
+    OpenMetrics,
     /// A table for people.
     Columns,
     /// A page for a browser.
@@ -40,6 +43,7 @@ impl Format {
             "text" => Some(Format::Text),
             "json" => Some(Format::Json),
             "prometheus" => Some(Format::Prometheus),
+            "openmetrics" => Some(Format::OpenMetrics),
             "columns" => Some(Format::Columns),
             "html" => Some(Format::Html),
             _ => None,
@@ -53,10 +57,10 @@ impl Format {
 /// | Extras | Formats |
 /// |---|---|
 /// | `station` | all but the lines of text |
-/// | `labels` | Prometheus' text, a table and a page |
+/// | `labels` | Prometheus' text, OpenMetrics, a table and a page |
 /// | `presentation.label`, `presentation.file_age` | a page |
 /// | `presentation.sort` | a table |
-/// | `presentation.station` | Prometheus' text: each series of an instance has it as a label |
+/// | `presentation.station` | Prometheus' text, OpenMetrics: each series of an instance has it as a label |
 ///
 /// # Errors
 /// `AllocError` if there is no memory for it.
@@ -75,7 +79,12 @@ pub fn format_report<S: NameTexts>(
     match format {
         Format::Text => named_report(alloc, buffer, names, entries),
         Format::Json => json_report(alloc, buffer, names, entries, extras.station),
-        Format::Prometheus => prometheus_report(alloc, buffer, names, entries, extras),
+        Format::Prometheus => {
+            prometheus_report(Exposition::Prometheus, buffer, names, entries, extras)
+        }
+        Format::OpenMetrics => {
+            prometheus_report(Exposition::OpenMetrics, buffer, names, entries, extras)
+        }
         Format::Columns => table_report(alloc, buffer, names, entries, extras),
         Format::Html => page_report(alloc, buffer, names, entries, extras),
     }

@@ -21,7 +21,7 @@ mod metric;
 mod peer;
 mod station;
 mod target;
-mod text;
+pub(crate) mod text;
 
 use instance::{Labelled, labels_of, speed_of};
 use itoa::Buffer;
@@ -34,12 +34,13 @@ use mon_sample::Sample;
 use mon_smi::NameTexts;
 use station::{StationMetric, put_metric_head, put_station};
 use std::alloc::{AllocError, Global};
-use text::{put_head, put_label, put_line};
+use text::{Exposition, put_end, put_head, put_label, put_line};
 
 /// Instances with what is given for them and the texts of their labels, which all lines of an
 /// instance have, and of a running station in how many rounds each had no new sample.
 #[derive(Clone, Copy)]
 struct Listing<'a, 'e> {
+    format: Exposition,
     entries: &'a [Entry<'e>],
     given: &'a [InstanceLabels],
     labels: &'a [Vec<u8>],
@@ -56,6 +57,7 @@ impl<'a, 'e> Listing<'a, 'e> {
         ensures given { result.given.now ≡ self.entry.given.now }
         ensures labels { result.labels.now ≡ self.entry.labels.now }
         ensures ages { result.ages.now ≡ [] }
+        ensures format { result.format ≡ self.entry.format }
     {
         Listing { ages: &[], ..self }
     }
@@ -68,49 +70,69 @@ impl<'a, 'e> Listing<'a, 'e> {
     }
 }
 
-/// The report in Prometheus' text exposition format.
+/// The report in Prometheus' text exposition format or in OpenMetrics.
 pub(crate) fn prometheus_report<S: NameTexts>(
-    alloc: Global,
+    format: Exposition,
     buffer: Vec<u8>,
     names: &S,
     entries: &[Entry],
     extras: Extras<'_>,
 ) -> Result<Vec<u8>, AllocError>
     ensures { IfOk result (λ text. text.items
-        ≡ prometheus_report extras.entry.presentation.now.station (S.shown names.now)
+        ≡ prometheus_report format extras.entry.presentation.now.station (S.shown names.now)
         (labelled extras.entry.labels.now entries.now)
         (option_map (λ f. f.now) extras.entry.station)) }
 {
     let mut text = buffer;
     text.clear();
-    put_report(alloc, &mut text, names, entries, extras)?;
+    put_report(format, &mut text, names, entries, extras)?;
     Ok(text)
 }
 
-/// Adds the report.
+/// Adds the report and the end.
 #[tactic(auto, unfolding(crate::specs::Prometheus::prometheus_report))]
 fn put_report<S: NameTexts>(
-    alloc: Global,
+    format: Exposition,
     text: &mut Vec<u8>,
     names: &S,
     entries: &[Entry],
     extras: Extras<'_>,
 ) -> Result<(), AllocError>
     ensures { OnOk result (text.new.items ≡ text.old.items
-        ++ prometheus_report extras.entry.presentation.now.station (S.shown names.now)
+        ++ prometheus_report format extras.entry.presentation.now.station (S.shown names.now)
         (labelled extras.entry.labels.now entries.now)
         (option_map (λ f. f.now) extras.entry.station)) }
 {
+    let alloc = *text.allocator();
     let station = extras.presentation.station;
     let labels = label_texts(alloc, names, entries, extras.labels, station)?;
     let plain = Listing {
+        format,
         entries,
         given: extras.labels,
         labels: labels.as_slice(),
         ages: &[],
         limit: 0,
     };
-    match extras.station {
+    put_listing(alloc, text, plain, extras.station)?;
+    put_end(format, text)
+}
+
+/// Adds the report of instances, and of a running station if there is one.
+fn put_listing(
+    alloc: Global,
+    text: &mut Vec<u8>,
+    plain: Listing,
+    station: Option<&Figures>,
+) -> Result<(), AllocError>
+    requires long { length plain.labels.now ≡ length plain.entries.now }
+    requires all { plain.ages.now ≡ [] }
+    ensures { (labels : AnyLabelled → List ℕ) (all : List AnyLabelled)
+        → HaveLabels labels all plain.entry.entries.now plain.entry.given.now plain.entry.labels.now
+        → OnOk result (text.new.items ≡ text.old.items
+        ++ report_by plain.entry.format labels all (option_map (λ f. f.now) station.entry)) }
+{
+    match station {
         None => put_instances(alloc, text, plain),
         Some(figures) => put_running(alloc, text, plain, figures),
     }
@@ -163,7 +185,7 @@ fn put_running(
     ensures { (labels : AnyLabelled → List ℕ) (all : List AnyLabelled)
         → HaveLabels labels all plain.entry.entries.now plain.entry.given.now plain.entry.labels.now
         → OnOk result (text.new.items
-        ≡ text.old.items ++ report_by labels all (Some figures.now)) }
+        ≡ text.old.items ++ report_by plain.entry.format labels all (Some figures.now)) }
 {
     let listing = Listing {
         ages: figures.ages.as_slice(),
@@ -171,7 +193,7 @@ fn put_running(
         ..plain
     };
     put_instances(alloc, text, listing)?;
-    put_station(alloc, text, figures)?;
+    put_station(listing.format, text, figures)?;
     put_ages(text, listing)
 }
 
@@ -183,7 +205,7 @@ fn put_instances(alloc: Global, text: &mut Vec<u8>, listing: Listing) -> Result<
         → HaveLabels labels all listing.entry.entries.now listing.entry.given.now
         listing.entry.labels.now
         → OnOk result (text.new.items ≡ text.old.items
-        ++ instances_text labels all (fresh listing.entry.limit listing.entry.ages.now all)) }
+        ++ instances_text listing.entry.format labels all (fresh listing.entry.limit listing.entry.ages.now all)) }
 {
     put_metric(alloc, text, listing, Metric::Counted)?;
     put_metric(alloc, text, listing, Metric::Number)?;
@@ -206,9 +228,15 @@ fn put_metric(
         → HaveLabels labels all listing.entry.entries.now listing.entry.given.now
         listing.entry.labels.now
         → OnOk result (text.new.items ≡ text.old.items
-        ++ metric_text metric labels (fresh listing.entry.limit listing.entry.ages.now all)) }
+        ++ metric_text listing.entry.format metric labels (fresh listing.entry.limit listing.entry.ages.now all)) }
 {
-    put_head(text, metric.name(), metric.help(), metric.kind())?;
+    put_head(
+        listing.format,
+        text,
+        metric.name(),
+        metric.help(),
+        metric.kind(),
+    )?;
     for place in 0..listing.entries.len() {
         if listing.is_fresh(place) {
             let labelled = labelled_at(listing.entries, listing.given, place);
@@ -227,9 +255,9 @@ fn put_ages(text: &mut Vec<u8>, listing: Listing) -> Result<(), AllocError>
         → HaveLabels labels all listing.entry.entries.now listing.entry.given.now
         listing.entry.labels.now
         → OnOk result (text.new.items
-        ≡ text.old.items ++ ages_text labels listing.entry.ages.now all) }
+        ≡ text.old.items ++ ages_text listing.entry.format labels listing.entry.ages.now all) }
 {
-    put_metric_head(text, StationMetric::Age)?;
+    put_metric_head(listing.format, text, StationMetric::Age)?;
     for place in 0..listing.entries.len().min(listing.ages.len()) {
         put_age(text, listing.labels[place].as_slice(), listing.ages[place])?;
     }

@@ -1,6 +1,6 @@
 -- Verdicts of heads.
 use native.Mathlib.Omega.{arith}
-use Rattle.std.proofs.Common.{◌≡◌, ◌≤◌, ◌<◌, ◌+◌, ◌⊎◌, inl, inr, ◌∙◌, ap, sym, subst, refl, ℕ, Bool, true, false, List, [], ◌∷◌, ◌++◌, Option, Some, None, Result, Ok, Err, length, map, take, drop, nat_lt, cond}
+use Rattle.std.proofs.Common.{◌≡◌, ◌≤◌, ◌<◌, ◌+◌, ◌⊎◌, inl, inr, ◌∙◌, ap, sym, subst, refl, ℕ, Bool, true, false, List, [], ◌∷◌, ◌++◌, Option, Some, None, option_map, Result, Ok, Err, length, map, take, drop, nat_lt, cond}
 use Rattle.std.proofs.lemmas.Bool.Decides.{nat_tests}
 use Rattle.std.specs.Prelude.{MatchBool, ◌==◌, ◌&&◌}
 use Rattle.std.specs.List.{flat_map}
@@ -24,7 +24,8 @@ use Rattle.mon_http.specs.declared.request.Verdict.{Verdict}
 use Rattle.mon_http.specs.Front.{head_length, line_count}
 use Rattle.mon_http.specs.Request.{directed, judged, long_status, method_status, routed, served, is_served, has_good_fields, stays_open, refusal, verdict_of, bad_status, most_lines, IsGood, IsBad, IsVerdict, IsJudged}
 use Rattle.mon_http.specs.Host.{has_good_hosts, host_field, host_of, is_served_host}
-use Rattle.mon_http.specs.Route.{path_of, route_at}
+use Rattle.mon_http.specs.Accept.{accepts_open_metrics}
+use Rattle.mon_http.specs.Route.{by_format, path_of, route_at}
 use Rattle.mon_http.specs.Conversation.{len_of}
 use Rattle.mon_http.proofs.Fronts.{drop_all}
 
@@ -115,27 +116,30 @@ module _ (names : List (List ℕ)) where
   len_routed method keep_alive len None = refl
   len_routed method keep_alive len (Some route) = refl
 
-  pub len_served : (method target : List ℕ) (keep_alive : Bool) (len : ℕ) → len_of (served method target keep_alive len) ≡ len
-  len_served method target keep_alive len = at (is_served method)
+  pub len_served : (method target : List ℕ) (om keep_alive : Bool) (len : ℕ) → len_of (served method target om keep_alive len) ≡ len
+  len_served method target om keep_alive len = at (is_served method)
     where
-      at : (b : Bool) → len_of (cond b (routed method keep_alive len (route_at (path_of target))) (refusal (method_status method) keep_alive len)) ≡ len
-      at true = len_routed method keep_alive len (route_at (path_of target))
+      route : Option Route
+      route = option_map (by_format om) (route_at (path_of target))
+
+      at : (b : Bool) → len_of (cond b (routed method keep_alive len route) (refusal (method_status method) keep_alive len)) ≡ len
+      at true = len_routed method keep_alive len route
       at false = refl
 
-  pub len_directed : (host method target : List ℕ) (keep_alive : Bool) (len : ℕ) → len_of (directed names host method target keep_alive len) ≡ len
-  len_directed host method target keep_alive len = at (is_served_host names host)
+  pub len_directed : (host method target : List ℕ) (om keep_alive : Bool) (len : ℕ) → len_of (directed names host method target om keep_alive len) ≡ len
+  len_directed host method target om keep_alive len = at (is_served_host names host)
     where
-      at : (b : Bool) → len_of (cond b (served method target keep_alive len) (refusal Misdirected keep_alive len)) ≡ len
-      at true = len_served method target keep_alive len
+      at : (b : Bool) → len_of (cond b (served method target om keep_alive len) (refusal Misdirected keep_alive len)) ≡ len
+      at true = len_served method target om keep_alive len
       at false = refl
 
-  pub len_judged : (method target : List ℕ) (minor : ℕ) (known : KnownFields) (field : List ℕ) (len : ℕ)
-      → len_of (judged names method target minor known field len) ≡ len
+  pub len_judged : (method target : List ℕ) (minor : ℕ) (known : KnownFields) (field : List ℕ) (om : Bool) (len : ℕ)
+      → len_of (judged names method target minor known field om len) ≡ len
   unfolding judged
-  len_judged method target minor known field len = at (has_good_fields minor known && has_good_hosts target field)
+  len_judged method target minor known field om len = at (has_good_fields minor known && has_good_hosts target field)
     where
-      at : (b : Bool) → len_of (cond b (directed names (host_of target field) method target (stays_open minor known) len) (refusal BadRequest false len)) ≡ len
-      at true = len_directed (host_of target field) method target (stays_open minor known) len
+      at : (b : Bool) → len_of (cond b (directed names (host_of target field) method target om (stays_open minor known) len) (refusal BadRequest false len)) ≡ len
+      at true = len_directed (host_of target field) method target om (stays_open minor known) len
       at false = refl
 
   pub verdict_len : (head : List ℕ) (v : Verdict) → IsVerdict names head v → len_of v ≡ length head
@@ -144,7 +148,7 @@ module _ (names : List (List ℕ)) where
     where
       at : (b : Bool) → MatchBool b (v ≡ refusal HeaderFieldsTooLarge false (length head)) (IsGood names head v ⊎ IsBad head v) → len_of v ≡ length head
       at true e = ap len_of e
-      at false (inl (h, y, e)) = ap len_of e ∙ len_judged _ _ _ _ _ (length head)
+      at false (inl (h, y, e)) = ap len_of e ∙ len_judged _ _ _ _ _ _ (length head)
       at false (inr (bad, e)) = ap len_of e
 
   pub judged_len : (octets : List ℕ) (v : Verdict) → IsJudged names octets v → len_of v ≤ length octets
@@ -201,7 +205,8 @@ module _ (names : List (List ℕ)) where
   pub read_verdict : (head : List ℕ) (headers : List HeaderSpan) (r : Result (Status RequestSpans) Error) (spans : RequestSpans) (v : Verdict)
       → line_count head ≤ 34 → whole_of r (length head) ≡ Some spans → IfComplete r (IsRequestOf head headers)
       → v ≡ judged names (span_bytes head spans.method) (span_bytes head spans.path) spans.version
-      (known_fields (map (header_bytes head) (take spans.headers headers))) (host_field (map (header_bytes head) (take spans.headers headers))) (length head)
+      (known_fields (map (header_bytes head) (take spans.headers headers))) (host_field (map (header_bytes head) (take spans.headers headers)))
+      (accepts_open_metrics (map (header_bytes head) (take spans.headers headers))) (length head)
       → IsVerdict names head v
   read_verdict head headers r spans v few e complete same =
       let (is, len) = whole_len r (length head) spans e in
@@ -214,7 +219,7 @@ module _ (names : List (List ℕ)) where
       let fields = map (header_bytes head) (take spans.headers headers) in
       good_verdict head v h few reads
       (same
-      ∙ ap (λ (m : List ℕ). judged names m (span_bytes head spans.path) spans.version (known_fields fields) (host_field fields) n) at.method
-      ∙ ap (λ (t : List ℕ). judged names h.method t spans.version (known_fields fields) (host_field fields) n) at.path
-      ∙ ap (λ (k : ℕ). judged names h.method h.target k (known_fields fields) (host_field fields) n) at.version
-      ∙ ap (λ (f : List (List ℕ × List ℕ)). judged names h.method h.target h.minor (known_fields f) (host_field f) n) at.fields)
+      ∙ ap (λ (m : List ℕ). judged names m (span_bytes head spans.path) spans.version (known_fields fields) (host_field fields) (accepts_open_metrics fields) n) at.method
+      ∙ ap (λ (t : List ℕ). judged names h.method t spans.version (known_fields fields) (host_field fields) (accepts_open_metrics fields) n) at.path
+      ∙ ap (λ (k : ℕ). judged names h.method h.target k (known_fields fields) (host_field fields) (accepts_open_metrics fields) n) at.version
+      ∙ ap (λ (f : List (List ℕ × List ℕ)). judged names h.method h.target h.minor (known_fields f) (host_field f) (accepts_open_metrics f) n) at.fields)

@@ -1,4 +1,5 @@
 pub mod Route
+pub mod Accept
 pub mod Front
 pub mod Scan
 pub mod Whole

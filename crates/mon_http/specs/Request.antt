@@ -1,5 +1,5 @@
 -- What a request asks for, and what octets are answered by.
-use Rattle.std.specs.Prelude.{◌≡◌, ℕ, ◌≤◌, ◌<◌, ◌⊎◌, Bool, true, false, not, ◌&&◌, ◌||◌, List, [], length, map, take, codes, ◌==◌, nat_lt, bytes_eq, Option, Some, None, MatchOption, MatchBool, if◌then◌else◌}
+use Rattle.std.specs.Prelude.{◌≡◌, ℕ, ◌≤◌, ◌<◌, ◌⊎◌, Bool, true, false, not, ◌&&◌, ◌||◌, List, [], length, map, take, codes, ◌==◌, nat_lt, bytes_eq, Option, Some, None, option_map, MatchOption, MatchBool, if◌then◌else◌}
 use Rattle.std.specs.List.{list_any}
 use Rattle.httparse.specs.Grammar.{RequestHead, ReadsRequest}
 use Rattle.httparse.specs.Spans.{name_and_value}
@@ -15,7 +15,8 @@ use Rattle.mon_http.specs.declared.route.Route.{Route}
 use Rattle.mon_http.specs.declared.request.Verdict.{Verdict}
 use Rattle.mon_http.specs.declared.request.Verdict.TheVariants.{Asked, Refused}
 use Rattle.mon_http.specs.Host.{has_good_hosts, host_field, host_of, is_served_host}
-use Rattle.mon_http.specs.Route.{path_of, route_at}
+use Rattle.mon_http.specs.Accept.{accepts_open_metrics}
+use Rattle.mon_http.specs.Route.{by_format, path_of, route_at}
 use Rattle.mon_http.specs.Front.{head_length, line_count, names_other_version}
 
 -- the connection stays open after the answer (RFC 9112, section 9.3); HTTP/1.0 closes
@@ -61,29 +62,34 @@ is_known method = bytes_eq method (codes "POST") || (bytes_eq method (codes "PUT
 abbrev pub method_status : List ℕ → Status
 method_status method = if is_known method then MethodNotAllowed else NotImplemented
 
--- a request with good fields for a host that is served
-abbrev pub served : List ℕ → List ℕ → Bool → ℕ → Verdict
-served method target keep_alive len =
-    if is_served method then routed method keep_alive len (route_at (path_of target))
+-- a request with good fields for a host that is served, which accepts OpenMetrics or does not
+abbrev pub served : List ℕ → List ℕ → (open_metrics keep_alive : Bool) → ℕ → Verdict
+served method target open_metrics keep_alive len =
+    if is_served method
+    then routed method keep_alive len (option_map (by_format open_metrics) (route_at (path_of target)))
     else refusal (method_status method) keep_alive len
 
 -- a request with good fields for this host: 421 if it is not served (RFC 9110, section 15.5.20)
-abbrev pub directed : List (List ℕ) → List ℕ → List ℕ → List ℕ → Bool → ℕ → Verdict
-directed names host method target keep_alive len =
-    if is_served_host names host then served method target keep_alive len else refusal Misdirected keep_alive len
+abbrev pub directed : List (List ℕ) → List ℕ → List ℕ → List ℕ → (open_metrics keep_alive : Bool) → ℕ
+    → Verdict
+directed names host method target open_metrics keep_alive len =
+    if is_served_host names host then served method target open_metrics keep_alive len
+    else refusal Misdirected keep_alive len
 
 -- What a request of these parts and this length asks for, or why it is refused. Its field Host has
--- this value, and these names are served.
-unfoldable pub judged : List (List ℕ) → List ℕ → List ℕ → ℕ → KnownFields → List ℕ → ℕ → Verdict
-judged names method target minor known field len =
+-- this value, its fields Accept prefer OpenMetrics or do not, and these names are served.
+unfoldable pub judged : List (List ℕ) → List ℕ → List ℕ → ℕ → KnownFields → List ℕ
+    → (open_metrics : Bool) → ℕ → Verdict
+judged names method target minor known field open_metrics len =
     if has_good_fields minor known && has_good_hosts target field
-    then directed names (host_of target field) method target (stays_open minor known) len
+    then directed names (host_of target field) method target open_metrics (stays_open minor known) len
     else refusal BadRequest false len
 
 -- what a request head of this length asks for, or why it is refused
 abbrev pub verdict_of : List (List ℕ) → RequestHead → ℕ → Verdict
 verdict_of names h len = let fields = map name_and_value h.fields in
-    judged names h.method h.target h.minor (known_fields fields) (host_field fields) len
+    judged names h.method h.target h.minor (known_fields fields) (host_field fields)
+    (accepts_open_metrics fields) len
 
 -- the most octets of a head
 abbrev pub most_octets : ℕ

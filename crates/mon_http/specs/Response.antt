@@ -5,14 +5,14 @@ use Rattle.httpdate.specs.declared.date.HttpDate.{HttpDate as Date}
 use Rattle.mon_http.specs.declared.response.Status.{Status}
 use Rattle.mon_http.specs.declared.response.Status.TheVariants.{Success, BadRequest, NotFound, MethodNotAllowed, UriTooLong, Misdirected, HeaderFieldsTooLarge, NotImplemented, ServiceUnavailable, VersionNotSupported}
 use Rattle.mon_http.specs.declared.response.Media.{Media}
-use Rattle.mon_http.specs.declared.response.Media.TheVariants.{Prometheus, Json, Html, Plain}
+use Rattle.mon_http.specs.declared.response.Media.TheVariants.{Prometheus, OpenMetrics as OpenMetricsText, Json, Html, Plain}
 use Rattle.mon_http.specs.declared.response.Head.{Head}
 use Rattle.mon_http.specs.declared.answer.LastRound.{LastRound}
 use Rattle.mon_http.specs.declared.answer.Answer.{Answer}
 use Rattle.mon_http.specs.declared.answer.Answer.TheVariants as An
 use Rattle.mon_http.specs.declared.body.Body.{Body}
 use Rattle.mon_http.specs.declared.route.Route.{Route}
-use Rattle.mon_http.specs.declared.route.Route.TheVariants.{Metrics, Report, Page, Health}
+use Rattle.mon_http.specs.declared.route.Route.TheVariants.{Metrics, OpenMetrics, Report, Page, Health}
 use Rattle.mon_http.specs.declared.request.Request.{Request}
 use Rattle.mon_http.specs.declared.request.Refusal.{Refusal}
 
@@ -34,9 +34,10 @@ abbrev pub allow_field : Status → List ℕ
 allow_field MethodNotAllowed = codes "Allow: GET, HEAD\r\n"
 allow_field _ = []
 
--- the media type (RFC 9110, section 8.3)
+-- the media type (RFC 9110, section 8.3); that of OpenMetrics is of its specification, section "Media Type"
 abbrev pub media_text : Media → List ℕ
 media_text Prometheus = codes "text/plain; version=0.0.4; charset=utf-8"
+media_text OpenMetricsText = codes "application/openmetrics-text; version=1.0.0; charset=utf-8"
 media_text Json = codes "application/json"
 media_text Html = codes "text/html; charset=utf-8"
 media_text Plain = codes "text/plain; charset=utf-8"
@@ -128,6 +129,7 @@ unhealthy_reply last = record { status = ServiceUnavailable; media = Plain; body
 -- the reply that an answer means
 abbrev pub reply_of : Answer → Reply
 reply_of (An.Metrics text) = record { status = Success; media = Prometheus; body = text.now }
+reply_of (An.OpenMetrics text) = record { status = Success; media = OpenMetricsText; body = text.now }
 reply_of (An.Report text) = record { status = Success; media = Json; body = text.now }
 reply_of (An.Page text) = record { status = Success; media = Html; body = text.now }
 reply_of (An.Healthy last) = healthy_reply last
@@ -137,6 +139,7 @@ reply_of An.OutOfMemory = record { status = ServiceUnavailable; media = Plain; b
 -- the answer is one to a request for this route
 abbrev pub fits : Route → Answer → Bool
 fits Metrics (An.Metrics _) = true
+fits OpenMetrics (An.OpenMetrics _) = true
 fits Report (An.Report _) = true
 fits Page (An.Page _) = true
 fits Health (An.Healthy _) = true

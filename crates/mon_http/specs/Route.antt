@@ -1,8 +1,8 @@
 -- What is served at which request target.
-use Rattle.std.specs.Prelude.{ℕ, Bool, List, [], ◌∷◌, Option, Some, None, take, drop, length, codes, ◌&&◌, ◌||◌, ◌==◌, nat_le, bytes_eq, if◌then◌else◌}
+use Rattle.std.specs.Prelude.{ℕ, Bool, true, false, List, [], ◌∷◌, Option, Some, None, take, drop, length, codes, ◌&&◌, ◌||◌, ◌==◌, nat_le, bytes_eq, if◌then◌else◌}
 use Rattle.http1.specs.Text.{eq_ignore_case}
 use Rattle.mon_http.specs.declared.route.Route.{Route}
-use Rattle.mon_http.specs.declared.route.Route.TheVariants.{Metrics, Report, Page, Health}
+use Rattle.mon_http.specs.declared.route.Route.TheVariants.{Metrics, OpenMetrics, Report, Page, Health}
 
 -- the octets before the first that is one of these two
 abbrev pub before : ℕ → ℕ → List ℕ → List ℕ
@@ -38,3 +38,8 @@ route_at path =
     else if bytes_eq path (codes "/") then Some Page
     else if bytes_eq path (codes "/healthz") then Some Health
     else None
+
+-- a route, where the figures are in OpenMetrics if the request accepts it
+abbrev pub by_format : (open_metrics : Bool) → Route → Route
+by_format true Metrics = OpenMetrics
+by_format _ route = route

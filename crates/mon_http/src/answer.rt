@@ -18,8 +18,10 @@ pub struct LastRound {
 /// What a station answers. Each route has its own; `OutOfMemory` is for any.
 #[derive(Clone, Copy)]
 pub enum Answer<'a> {
-    /// To `/metrics`: figures in Prometheus' text format.
+    /// To `/metrics`: figures in Prometheus' text format, version 0.0.4.
     Metrics(&'a [u8]),
+    /// To `/metrics`: figures in OpenMetrics 1.0.
+    OpenMetrics(&'a [u8]),
     /// To `/report.json`: the report as JSON.
     Report(&'a [u8]),
     /// To `/`: the page.
@@ -49,6 +51,7 @@ impl<'a> Answer<'a> {
     {
         match self {
             Answer::Metrics(_) => Media::Prometheus,
+            Answer::OpenMetrics(_) => Media::OpenMetrics,
             Answer::Report(_) => Media::Json,
             Answer::Page(_) => Media::Html,
             _ => Media::Plain,
@@ -61,10 +64,10 @@ impl<'a> Answer<'a> {
         ensures { body_text result ≡ (reply_of self.entry).body }
     {
         match self {
-            Answer::Metrics(text) | Answer::Report(text) | Answer::Page(text) => Body {
-                text,
-                last: None,
-            },
+            Answer::Metrics(text)
+            | Answer::OpenMetrics(text)
+            | Answer::Report(text)
+            | Answer::Page(text) => Body { text, last: None },
             Answer::Healthy(last) => Body {
                 text: b"ok: ",
                 last: Some(last),

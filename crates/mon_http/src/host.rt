@@ -43,7 +43,7 @@ fn is_name_from(missing: u8, rest: &[u8]) -> bool
 }
 
 /// Returns `true` if these are digits.
-fn are_digits(text: &[u8]) -> bool
+pub(crate) fn are_digits(text: &[u8]) -> bool
     ensures { result ≡ list_all is_ascii_digit text.now }
 {
     text.iter().all(|octet| octet.is_ascii_digit())

@@ -4,6 +4,7 @@
 //! and sends what is pending.
 #![tactic(auto)]
 
+mod accept;
 mod answer;
 mod body;
 mod connection;

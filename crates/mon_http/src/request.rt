@@ -5,10 +5,11 @@ ghost use Rattle.std.specs.List.{list_any};
 ghost use Rattle.mon_http.specs.Whole.{whole_of};
 ghost use Rattle.mon_http.specs.Request.{has_no_content, has_good_fields, is_known, long_status, method_status, served, judged, bad_status, refusal, IsVerdict};
 
+use crate::accept::accepts_open_metrics;
 use crate::front::{line_count, names_other_version};
 use crate::host::{has_good_hosts, host_field, host_of, is_served_host};
 use crate::response::Status;
-use crate::route::{Route, route_of};
+use crate::route::{Route, by_format, route_of};
 use http1::fields::{ContentLength, KnownFields, TransferEncoding};
 use httparse::spans::{EMPTY_HEADER_SPAN, RequestSpans, parse_request};
 
@@ -106,15 +107,15 @@ fn method_status(method: &[u8]) -> Status
 }
 
 /// Judges a request with good fields for a host that is served.
-fn served(method: &[u8], target: &[u8], keep_alive: bool, len: usize) -> Verdict
-    ensures { result ≡ served method.now target.now keep_alive len }
+fn served(method: &[u8], target: &[u8], open_metrics: bool, keep_alive: bool, len: usize) -> Verdict
+    ensures { result ≡ served method.now target.now open_metrics keep_alive len }
 {
     let with_body = method == b"GET".as_slice();
     let is_head = method == b"HEAD".as_slice();
     if with_body || is_head {
         match route_of(target) {
             Some(route) => Verdict::Asked(Request {
-                route,
+                route: by_format(open_metrics, route),
                 with_body,
                 keep_alive,
                 len,
@@ -135,6 +136,8 @@ struct Parts<'a> {
     minor: u8,
     /// The value of its field Host.
     host: &'a [u8],
+    /// Its fields Accept prefer OpenMetrics.
+    open_metrics: bool,
     /// The number of octets of its head.
     len: usize,
 }
@@ -142,13 +145,16 @@ struct Parts<'a> {
 /// Judges a request of these parts, where these names are served.
 #[tactic(auto, unfolding(crate::specs::Request::judged))]
 fn judged(names: &[String], parts: Parts<'_>, known: &KnownFields) -> Verdict
-    ensures { result ≡ judged (map string_bytes names.now) parts.entry.method.now parts.entry.target.now parts.entry.minor known.now parts.entry.host.now parts.entry.len }
+    ensures { result ≡ judged (map string_bytes names.now) parts.entry.method.now
+        parts.entry.target.now parts.entry.minor known.now parts.entry.host.now
+        parts.entry.open_metrics parts.entry.len }
 {
     let Parts {
         method,
         target,
         minor,
         host,
+        open_metrics,
         len,
     } = parts;
     if !has_good_fields(minor, known) || !has_good_hosts(target, host) {
@@ -156,7 +162,7 @@ fn judged(names: &[String], parts: Parts<'_>, known: &KnownFields) -> Verdict
     }
     let keep_alive = minor == 1 && !known.close;
     if is_served_host(names, host_of(target, host)) {
-        served(method, target, keep_alive, len)
+        served(method, target, open_metrics, keep_alive, len)
     } else {
         refuse(Status::Misdirected, keep_alive, len)
     }
@@ -223,6 +229,7 @@ pub(crate) fn judge(names: &[String], head: &[u8]) -> Verdict
                 target: found.path.of(head),
                 minor: found.version,
                 host: host_field(head, fields),
+                open_metrics: accepts_open_metrics(head, fields),
                 len: head.len(),
             };
             judged(names, parts, &known)

@@ -25,7 +25,10 @@ pub enum Status {
 /// The media type of a body.
 #[derive(Clone, Copy, Debug, PartialEq, Eq)]
 pub enum Media {
+    /// Prometheus' text format, version 0.0.4.
     Prometheus,
+    /// OpenMetrics 1.0.
+    OpenMetrics,
     Json,
     Html,
     Plain,
@@ -76,6 +79,7 @@ fn media_text(media: Media) -> &'static [u8]
 {
     match media {
         Media::Prometheus => b"text/plain; version=0.0.4; charset=utf-8",
+        Media::OpenMetrics => b"application/openmetrics-text; version=1.0.0; charset=utf-8",
         Media::Json => b"application/json",
         Media::Html => b"text/html; charset=utf-8",
         Media::Plain => b"text/plain; charset=utf-8",

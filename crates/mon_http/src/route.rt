@@ -1,15 +1,17 @@
 //! What is served at which request target.
 
 ghost use Rattle.std.specs.Prelude.{◌≡◌, ◌≤◌, ◌+◌, IsTrue, length};
-ghost use Rattle.mon_http.specs.Route.{authority_of, before, is_absolute, or_root, origin_form, path_of, route_at};
+ghost use Rattle.mon_http.specs.Route.{authority_of, before, by_format, is_absolute, or_root, origin_form, path_of, route_at};
 
 use http1::text::eq_ignore_case;
 
 /// What is served.
 #[derive(Clone, Copy, Debug, PartialEq, Eq)]
 pub enum Route {
-    /// `/metrics`: figures in Prometheus' text format.
+    /// `/metrics`: figures in Prometheus' text format, version 0.0.4.
     Metrics,
+    /// `/metrics`: figures in OpenMetrics 1.0, if the request accepts it.
+    OpenMetrics,
     /// `/report.json`: the report as JSON.
     Report,
     /// `/`: the page for a browser.
@@ -70,6 +72,16 @@ fn path_of(target: &[u8]) -> &[u8]
     ensures { result.now ≡ path_of target.now }
 {
     before(origin_form(target), b'?', b'?')
+}
+
+/// Returns the route, where the figures are in OpenMetrics if the request accepts it.
+pub(crate) fn by_format(open_metrics: bool, route: Route) -> Route
+    ensures { result ≡ by_format open_metrics route }
+{
+    match route {
+        Route::Metrics if open_metrics => Route::OpenMetrics,
+        _ => route,
+    }
 }
 
 /// Returns the route of a request target, or `None` if nothing is served there.

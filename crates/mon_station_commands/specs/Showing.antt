@@ -4,7 +4,7 @@ use Rattle.std.specs.Global.{Vec}
 use Rattle.mon_alarms.specs.Announcing.{announced_states}
 use Rattle.mon_console.specs.Shown.{shown_by}
 use Rattle.mon_formats.specs.Formats.{formatted}
-use Rattle.mon_formats.specs.declared.format.Format.TheVariants.{Html, Json, Prometheus}
+use Rattle.mon_formats.specs.declared.format.Format.TheVariants.{Html, Json, OpenMetrics, Prometheus}
 use Rattle.mon_page.specs.declared.figures.Figures.{Figures}
 use Rattle.mon_page.specs.declared.extras.InstanceLabels.{InstanceLabels}
 use Rattle.mon_page.specs.declared.extras.Presentation.{Presentation}
@@ -18,12 +18,13 @@ use Rattle.mon_station_commands.specs.declared.live.Reports.{Reports}
 use Rattle.mon_web.specs.Site.{View, with_texts}
 use Rattle.mon_web.specs.Texts.{Texts}
 
--- Texts are the report of these instances in the formats of a site's three routes: of figures for
+-- Texts are the report of these instances in the formats of a site's texts: of figures for
 -- which this holds, with names shown so, and with these labels, presented so.
 pub record AreTexts (Holds : Figures → Type 0) (shown : List ℕ → List ℕ) (entries : List Entry) (labels : List InstanceLabels) (presentation : Presentation) (texts : Texts) : Type 0 where
   pub figures : Figures
   pub holds : Holds figures
   pub metrics : texts.metrics ≡ formatted Prometheus shown entries (Some figures) labels presentation
+  pub open_metrics : texts.open_metrics ≡ formatted OpenMetrics shown entries (Some figures) labels presentation
   pub report : texts.report ≡ formatted Json shown entries (Some figures) labels presentation
   pub page : texts.page ≡ formatted Html shown entries (Some figures) labels presentation
 

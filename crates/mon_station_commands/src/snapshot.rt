@@ -92,9 +92,10 @@ impl Draft {
     }
 }
 
-/// The texts of the three routes.
+/// The texts of the three routes, of which the figures have two.
 pub(crate) struct Drafts {
     metrics: Draft,
+    open_metrics: Draft,
     report: Draft,
     page: Draft,
 }
@@ -104,6 +105,7 @@ impl Drop for Drafts {
     fn drop(self) {
         let Drafts {
             metrics: _,
+            open_metrics: _,
             report: _,
             page: _,
         } = self;
@@ -117,6 +119,7 @@ impl Drafts {
     {
         Drafts {
             metrics: Draft::blank(Vec::new(alloc)),
+            open_metrics: Draft::blank(Vec::new(alloc)),
             report: Draft::blank(Vec::new(alloc)),
             page: Draft::blank(Vec::new(alloc)),
         }
@@ -128,11 +131,13 @@ impl Drafts {
     {
         let Drafts {
             metrics,
+            open_metrics,
             report,
             page,
         } = self;
         Drafts {
             metrics: Draft::blank(metrics.text),
+            open_metrics: Draft::blank(open_metrics.text),
             report: Draft::blank(report.text),
             page: Draft::blank(page.text),
         }
@@ -185,6 +190,10 @@ impl Content for Snapshot {
     fn make(&mut self, text: Text) -> Result<(), AllocError> {
         match text {
             Text::Metrics => self.drafts.metrics.make(&self.source, Format::Prometheus),
+            Text::OpenMetrics => self
+                .drafts
+                .open_metrics
+                .make(&self.source, Format::OpenMetrics),
             Text::Report => self.drafts.report.make(&self.source, Format::Json),
             Text::Page => self.drafts.page.make(&self.source, Format::Html),
         }
@@ -193,6 +202,7 @@ impl Content for Snapshot {
     fn text(&self, text: Text) -> &[u8] {
         match text {
             Text::Metrics => self.drafts.metrics.text.as_slice(),
+            Text::OpenMetrics => self.drafts.open_metrics.text.as_slice(),
             Text::Report => self.drafts.report.text.as_slice(),
             Text::Page => self.drafts.page.text.as_slice(),
         }

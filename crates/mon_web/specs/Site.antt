@@ -1,9 +1,9 @@
 -- What a station shows over HTTP, and what it answers to a request.
 use Rattle.std.specs.Prelude.{ℕ, ◌-◌, ◌/◌, Bool, false, IfSome, List, map, string_bytes, Option, Some, None, codes, nat_le, option_map, if◌then◌else◌}
 use Rattle.mon_http.specs.declared.response.Status.TheVariants.{Success, ServiceUnavailable}
-use Rattle.mon_http.specs.declared.response.Media.TheVariants.{Prometheus, Json, Html, Plain}
+use Rattle.mon_http.specs.declared.response.Media.TheVariants.{Prometheus, OpenMetrics as OpenMetricsText, Json, Html, Plain}
 use Rattle.mon_http.specs.declared.route.Route.{Route}
-use Rattle.mon_http.specs.declared.route.Route.TheVariants.{Metrics, Report, Page, Health}
+use Rattle.mon_http.specs.declared.route.Route.TheVariants.{Metrics, OpenMetrics, Report, Page, Health}
 use Rattle.mon_http.specs.Response.{Reply, healthy_reply, unhealthy_reply}
 use Rattle.mon_http.specs.declared.answer.LastRound.{LastRound}
 use Rattle.mon_web.specs.Texts.{Texts}
@@ -32,6 +32,7 @@ view_of says site = record {
 -- content has the text for a route, if there is content and the route has a text
 abbrev pub IsMadeFor : {C : Type 0} → (made : C → Text → Type 0) → Option C → Route → Type 0
 IsMadeFor made content Metrics = IfSome content (λ c. made c texts.Metrics)
+IsMadeFor made content OpenMetrics = IfSome content (λ c. made c texts.OpenMetrics)
 IsMadeFor made content Report = IfSome content (λ c. made c texts.Report)
 IsMadeFor made content Page = IfSome content (λ c. made c texts.Page)
 IsMadeFor made content Health = Unit {0}
@@ -64,6 +65,11 @@ health_reply (Some ended) limit now =
 abbrev pub metrics_reply : Texts → Reply
 metrics_reply texts = record { status = Success; media = Prometheus; body = texts.metrics }
 
+-- the reply with the figures in OpenMetrics
+abbrev pub open_metrics_reply : Texts → Reply
+open_metrics_reply texts =
+    record { status = Success; media = OpenMetricsText; body = texts.open_metrics }
+
 -- the reply with the report
 abbrev pub report_reply : Texts → Reply
 report_reply texts = record { status = Success; media = Json; body = texts.report }
@@ -80,6 +86,7 @@ text_reply reply (Some texts) = reply texts
 -- the reply of a site to a request for a route at this time
 abbrev pub reply_for : View → ℕ → Route → Reply
 reply_for view now Metrics = text_reply metrics_reply view.texts
+reply_for view now OpenMetrics = text_reply open_metrics_reply view.texts
 reply_for view now Report = text_reply report_reply view.texts
 reply_for view now Page = text_reply page_reply view.texts
 reply_for view now Health = health_reply view.ended view.limit now

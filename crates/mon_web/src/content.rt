@@ -1,12 +1,14 @@
-//! What a site shows: three texts, each of which is made when it is asked for.
+//! What a site shows: four texts, each of which is made when it is asked for.
 
 use std::alloc::AllocError;
 
 /// A text that a site shows.
 #[derive(Clone, Copy)]
 pub enum Text {
-    /// The figures in Prometheus' text format.
+    /// The figures in Prometheus' text format, version 0.0.4.
     Metrics,
+    /// The figures in OpenMetrics 1.0.
+    OpenMetrics,
     /// The report as JSON.
     Report,
     /// The page for a browser.

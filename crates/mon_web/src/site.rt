@@ -3,7 +3,7 @@
 ghost use Rattle.std.specs.Prelude.{◌≡◌, IfSome, IsTrue, None, OnOk, Some};
 ghost use Rattle.mon_http.specs.Response.{fits, reply_of};
 ghost use Rattle.mon_http.specs.declared.route.Route.TheVariants as Route;
-ghost use Rattle.mon_web.specs.Site.{IsMadeFor, ended_at, health_reply, is_healthy, last_round, metrics_reply, page_reply, reply_for, report_reply, text_reply, view_of};
+ghost use Rattle.mon_web.specs.Site.{IsMadeFor, ended_at, health_reply, is_healthy, last_round, metrics_reply, open_metrics_reply, page_reply, reply_for, report_reply, text_reply, view_of};
 ghost use Rattle.mon_web.specs.declared.content.Text.TheVariants as Texts;
 
 use crate::content::{Content, Text};
@@ -134,6 +134,7 @@ impl<C: Content> Site<C> {
     {
         match route {
             Route::Metrics => self.make_text(Text::Metrics),
+            Route::OpenMetrics => self.make_text(Text::OpenMetrics),
             Route::Report => self.make_text(Text::Report),
             Route::Page => self.make_text(Text::Page),
             Route::Health => Ok(()),
@@ -161,6 +162,7 @@ impl<C: Content> Site<C> {
     {
         match route {
             Route::Metrics => self.metrics(),
+            Route::OpenMetrics => self.open_metrics(),
             Route::Report => self.report(),
             Route::Page => self.page(),
             Route::Health => self.health(now),
@@ -175,6 +177,18 @@ impl<C: Content> Site<C> {
     {
         match &self.content {
             Some(content) => Answer::Metrics(content.text(Text::Metrics)),
+            None => Answer::OutOfMemory,
+        }
+    }
+
+    fn open_metrics(&self) -> Answer<'_>
+        requires { IfSome self.now.content (λ c. C.made c Texts.OpenMetrics) }
+        ensures reply { reply_of result
+            ≡ text_reply open_metrics_reply (view_of C.says self.now).texts }
+        ensures fits { IsTrue (fits Route.OpenMetrics result) }
+    {
+        match &self.content {
+            Some(content) => Answer::OpenMetrics(content.text(Text::OpenMetrics)),
             None => Answer::OutOfMemory,
         }
     }

@@ -3,6 +3,7 @@ use Rattle.std.proofs.Common.{◌≡◌, ◌∙◌, List, ℕ, [], ◌∷◌, �
 use Rattle.std.specs.Prelude.{Bool, true, false, IsErrAnd, Option, Some, Result, Ok, Err}
 use Rattle.mon_app.specs.Network.{Agents, Ports}
 use Rattle.mon_carry_commands.specs.Saving.{Saved}
+use Rattle.mon_health_commands.specs.Health.{Stations}
 use Rattle.mon_cli.specs.declared.meaning.Asked.{Asked}
 use Rattle.mon_console.specs.Failure.{IsMemory}
 use Rattle.mon_console.specs.Files.{IsPrint}
@@ -23,18 +24,18 @@ ends station What given status before between after done end = record {
   on = goes_on done.more end.more before between after done.on end.on;
 }
 
-pub runs : (agents : Agents) (ports : Ports) (saved : Saved) (asked : Asked) (reads station : Bool) (given : Result Unit Failure) (status : ℕ) (start before between after : Option (List AtHost))
-    → reads ≡ reads_input asked → station ≡ is_station asked → GoesOnBy (IsBefore reads) start before → GoesOnBy (λ log. Does agents ports saved asked log given) before between
-    → GoesOnBy (λ log. IsEnd station given log status) between after → GoesOnBy (λ log. IsRunFor agents ports saved asked log status) start after
-runs agents ports saved asked reads station given status start before between after is same first done end =
-    let run = ends station (Does agents ports saved asked) given status before between after done end in
+pub runs : (agents : Agents) (ports : Ports) (saved : Saved) (stations : Stations) (asked : Asked) (reads station : Bool) (given : Result Unit Failure) (status : ℕ) (start before between after : Option (List AtHost))
+    → reads ≡ reads_input asked → station ≡ is_station asked → GoesOnBy (IsBefore reads) start before → GoesOnBy (λ log. Does agents ports saved stations asked log given) before between
+    → GoesOnBy (λ log. IsEnd station given log status) between after → GoesOnBy (λ log. IsRunFor agents ports saved stations asked log status) start after
+runs agents ports saved stations asked reads station given status start before between after is same first done end =
+    let run = ends station (Does agents ports saved stations asked) given status before between after done end in
     record {
       more = first.more ++ run.more;
       holds = record {
         begin = first.more;
         before = subst (λ (b : Bool). IsBefore b first.more) is first.holds;
         rest = run.more;
-        run = subst (λ (b : Bool). IsRun b (Does agents ports saved asked) run.more status) same run.holds;
+        run = subst (λ (b : Bool). IsRun b (Does agents ports saved stations asked) run.more status) same run.holds;
         log_is = refl;
       };
       on = goes_on first.more run.more start before after first.on run.on;

@@ -24,6 +24,7 @@ use Rattle.mon_console.specs.Failure.{IsMemory, IsTold}
 use Rattle.mon_console.specs.Files.{IsPrint}
 use Rattle.mon_console.specs.declared.failure.Failure.{Failure}
 use Rattle.mon_settings_commands.specs.Command.{AreSettings}
+use Rattle.mon_health_commands.specs.Health.{IsHealthz, Stations}
 use Rattle.mon_carry_commands.specs.Carry.{IsCarryCommand}
 use Rattle.mon_carry_commands.specs.Saving.{Saved}
 use Rattle.mon_file_commands.specs.Command.{IsReportCommand}
@@ -95,24 +96,25 @@ IsUsage usage.DisplayVersion log status = IsRun false IsShown log status
 IsUsage _ log status = (line : List ℕ) × IsRefused line log status
 
 -- what a command does
-abbrev pub Does : Agents → Ports → Saved → Asked → List AtHost → Result Unit Failure → Type 0
-Does agents ports saved asked.Version log result = IsPrint (codes "snmpmon 0.1.0\n") log result
-Does agents ports saved (asked.Replay words) log result = IsRecording words log result
-Does agents ports saved (asked.Get request) log result = IsGetting agents request log result
-Does agents ports saved (asked.Next request) log result = IsGettingNext agents request log result
-Does agents ports saved (asked.Bulk words) log result = IsAskingMany agents words log result
-Does agents ports saved (asked.Walk words) log result = IsWalking agents words log result
-Does agents ports saved (asked.Set words) log result = IsSetting agents words log result
-Does agents ports saved (asked.Settings words) log result = AreSettings agents words log result
-Does agents ports saved (asked.Agent words) log result = IsServingAgent ports words log result
-Does agents ports saved (asked.Answer words) log result = IsAnswering words log result
-Does agents ports saved (asked.Mib words) log result =
+abbrev pub Does : Agents → Ports → Saved → Stations → Asked → List AtHost → Result Unit Failure → Type 0
+Does agents ports saved stations asked.Version log result = IsPrint (codes "snmpmon 0.1.0\n") log result
+Does agents ports saved stations (asked.Replay words) log result = IsRecording words log result
+Does agents ports saved stations (asked.Get request) log result = IsGetting agents request log result
+Does agents ports saved stations (asked.Next request) log result = IsGettingNext agents request log result
+Does agents ports saved stations (asked.Bulk words) log result = IsAskingMany agents words log result
+Does agents ports saved stations (asked.Walk words) log result = IsWalking agents words log result
+Does agents ports saved stations (asked.Set words) log result = IsSetting agents words log result
+Does agents ports saved stations (asked.Settings words) log result = AreSettings agents words log result
+Does agents ports saved stations (asked.Agent words) log result = IsServingAgent ports words log result
+Does agents ports saved stations (asked.Answer words) log result = IsAnswering words log result
+Does agents ports saved stations (asked.Mib words) log result =
     IsMib words.file.now (map (λ f. f.now) words.modules.now) log result
-Does agents ports saved (asked.Station words) log result = IsStation words log result
-Does agents ports saved (asked.Report words) log result = IsReportCommand words log result
-Does agents ports saved (asked.Carry words) log result = IsCarryCommand saved words log result
-Does agents ports saved asked.SelfTest log result = IsSelfTest log result
-Does agents ports saved (asked.Rehearse words) log result = IsRehearsing words log result
+Does agents ports saved stations (asked.Station words) log result = IsStation words log result
+Does agents ports saved stations (asked.Report words) log result = IsReportCommand words log result
+Does agents ports saved stations (asked.Carry words) log result = IsCarryCommand saved words log result
+Does agents ports saved stations (asked.Healthz words) log result = IsHealthz stations words.address.now log result
+Does agents ports saved stations asked.SelfTest log result = IsSelfTest log result
+Does agents ports saved stations (asked.Rehearse words) log result = IsRehearsing words log result
 
 -- whether a command reads lines from standard input
 abbrev pub reads_input : Asked → Bool
@@ -142,11 +144,11 @@ IsBefore true log = Hints log
 IsBefore false log = log ≡ []
 
 -- the command is run; first comes the line at a terminal, if it reads from one
-pub record IsRunFor (agents : Agents) (ports : Ports) (saved : Saved) (asked : Asked) (log : List AtHost) (status : ℕ) : Type 0 where
+pub record IsRunFor (agents : Agents) (ports : Ports) (saved : Saved) (stations : Stations) (asked : Asked) (log : List AtHost) (status : ℕ) : Type 0 where
   pub begin : List AtHost
   pub before : IsBefore (reads_input asked) begin
   pub rest : List AtHost
-  pub run : IsRun (is_station asked) (Does agents ports saved asked) rest status
+  pub run : IsRun (is_station asked) (Does agents ports saved stations asked) rest status
   pub log_is : log ≡ begin ++ rest
 
 -- what is said of a station without rounds
@@ -174,7 +176,7 @@ abbrev pub no_columns : List ℕ
 no_columns = codes "snmpmon: --sort wants --columns; see snmpmon report --help\n"
 
 -- The command is run, unless a station or a report lacks something, which one line says.
-pub record IsStartOf (agents : Agents) (ports : Ports) (saved : Saved) (asked : Asked) (log : List AtHost) (status : ℕ) : Type 0 where
+pub record IsStartOf (agents : Agents) (ports : Ports) (saved : Saved) (stations : Stations) (asked : Asked) (log : List AtHost) (status : ℕ) : Type 0 where
   pub rounds : LacksRounds asked → IsRefused no_rounds log status
   pub interval : ¬ (LacksRounds asked) → LacksInterval asked → IsRefused no_interval log status
   pub source : ¬ (LacksRounds asked) → ¬ (LacksInterval asked) → LacksSource asked
@@ -184,7 +186,7 @@ pub record IsStartOf (agents : Agents) (ports : Ports) (saved : Saved) (asked : 
   pub columns : ¬ (LacksRounds asked) → ¬ (LacksInterval asked) → ¬ (LacksSource asked)
       → ¬ (LacksNumber asked) → LacksColumns asked → IsRefused no_columns log status
   pub run : ¬ (LacksRounds asked) → ¬ (LacksInterval asked) → ¬ (LacksSource asked)
-      → ¬ (LacksNumber asked) → ¬ (LacksColumns asked) → IsRunFor agents ports saved asked log status
+      → ¬ (LacksNumber asked) → ¬ (LacksColumns asked) → IsRunFor agents ports saved stations asked log status
 
 -- what arguments ask for, by the rows that the command line makes of them
 pub record IsAskedBy (words : List Text) (a : Asked) : Type 0 where
@@ -194,15 +196,15 @@ pub record IsAskedBy (words : List Text) (a : Asked) : Type 0 where
       (rows_of (found_of matches)) (subcommand_rows_of matches) a
 
 -- what the program does with its arguments: it starts the command, or says why there is none
-abbrev pub IsStartWith : Agents → Ports → Saved → List Text → List AtHost → ℕ → Type 0
-IsStartWith agents ports saved words log status = ((a : Asked) × IsAskedBy words a × IsStartOf agents ports saved a log status)
+abbrev pub IsStartWith : Agents → Ports → Saved → Stations → List Text → List AtHost → ℕ → Type 0
+IsStartWith agents ports saved stations words log status = ((a : Asked) × IsAskedBy words a × IsStartOf agents ports saved stations a log status)
     ⊎ ((e : Error) × Reads words (Err e) × IsUsage (kind_of e) log status)
 
 -- the arguments were listed, and the program does what they say
-pub record IsListedStart (agents : Agents) (ports : Ports) (saved : Saved) (log : List AtHost) (status : ℕ) : Type 0 where
+pub record IsListedStart (agents : Agents) (ports : Ports) (saved : Saved) (stations : Stations) (log : List AtHost) (status : ℕ) : Type 0 where
   pub words : List Text
   pub rest : List AtHost
-  pub start : IsStartWith agents ports saved words rest status
+  pub start : IsStartWith agents ports saved stations words rest status
   pub log_is : log ≡ Listed words ∷ rest
 
 -- the arguments could not be listed, for this reason
@@ -214,5 +216,5 @@ pub record IsUnlistedStart (log : List AtHost) (status : ℕ) : Type 0 where
 
 -- A whole run: what is done from the first call to the last, and the exit status. Agents are reached and
 -- ports opened by a network.
-abbrev pub IsStart : Agents → Ports → Saved → List AtHost → ℕ → Type 0
-IsStart agents ports saved log status = IsListedStart agents ports saved log status ⊎ IsUnlistedStart log status
+abbrev pub IsStart : Agents → Ports → Saved → Stations → List AtHost → ℕ → Type 0
+IsStart agents ports saved stations log status = IsListedStart agents ports saved stations log status ⊎ IsUnlistedStart log status

@@ -4,6 +4,7 @@ ghost use Rattle.std.specs.Prelude.{◌≡◌, false, map, string_bytes};
 ghost use Rattle.clap.specs.Values.{kind_of};
 ghost use Rattle.mon_app.specs.Network.{agents_by, ports_by};
 ghost use Rattle.mon_cli.specs.Asked.{IsWithin};
+ghost use Rattle.mon_health_commands.specs.Health.{stations_by};
 ghost use Rattle.mon_host.specs.Log.{GoesOnBy};
 ghost use Rattle.mon_host.specs.Reason.{why};
 ghost use Rattle.snmpmon.specs.Start.{Does, Hints, IsBefore, IsEnd, IsRefused, IsRun, IsRunFor, IsShown, IsStart, IsStartOf, IsStartWith, IsUnlisted, IsUsage, is_station, reads_input, status_of};
@@ -18,6 +19,7 @@ use mon_commands::{
 };
 use mon_console::{Failure, Fault, print};
 use mon_file_commands::print_saved_report;
+use mon_health_commands::{Connects, ask_health};
 use mon_host::{Host, Level, Reason};
 use mon_settings_commands::print_settings;
 use mon_station_commands::run_station;
@@ -53,20 +55,34 @@ const NO_NUMBER: &str =
 /// The line for rows that are to be sorted of a report that is no table.
 const NO_COLUMNS: &str = "snmpmon: --sort wants --columns; see snmpmon report --help\n";
 
+/// What commands reach besides their host.
+#[derive(Drop)]
+pub struct Means<N, K, C> {
+    /// Agents, and ports at which one is served.
+    pub net: N,
+    /// Disks that hold a station's windows.
+    pub disks: K,
+    /// Stations that serve HTTP.
+    pub streams: C,
+}
+
 /// Runs the command that the arguments name, and returns the exit status.
 pub fn start<
     R: Clock + Files<File = File> + Net + AllocGlobal,
     N: Opens + Listens,
     K: Saves,
+    C: Connects,
     H: Host,
->(rt: &R, net: &N, disks: &K, host: &mut H) -> u8
-    ensures { GoesOnBy (λ log. IsStart (agents_by (N.Opens.has_opened net.now)
-        (N.Opens.has_failed net.now) N.Wire.told) (ports_by (N.Listens.has_opened net.now)
-        (N.Listens.has_failed net.now) N.Port.told N.Port.failures)
-        (K.asked_save disks.now) log result) (H.log host.old) (H.log host.new) }
+>(rt: &R, means: &Means<N, K, C>, host: &mut H) -> u8
+    ensures { GoesOnBy (λ log. IsStart (agents_by (N.Opens.has_opened means.now.net)
+        (N.Opens.has_failed means.now.net) N.Wire.told) (ports_by (N.Listens.has_opened means.now.net)
+        (N.Listens.has_failed means.now.net) N.Port.told N.Port.failures)
+        (K.asked_save means.now.disks)
+        (stations_by (C.has_connected means.now.streams) (C.has_failed means.now.streams)
+        C.Stream.log) log result) (H.log host.old) (H.log host.new) }
 {
     match host.arguments() {
-        Ok(words) => start_with(rt, net, disks, host, words.as_slice()),
+        Ok(words) => start_with(rt, means, host, words.as_slice()),
         Err(reason) => end_unlisted(host, reason),
     }
 }
@@ -95,16 +111,19 @@ fn start_with<
     R: Clock + Files<File = File> + Net + AllocGlobal,
     N: Opens + Listens,
     K: Saves,
+    C: Connects,
     H: Host,
->(rt: &R, net: &N, disks: &K, host: &mut H, words: &[String]) -> u8
-    ensures { GoesOnBy (λ log. IsStartWith (agents_by (N.Opens.has_opened net.now)
-        (N.Opens.has_failed net.now) N.Wire.told) (ports_by (N.Listens.has_opened net.now)
-        (N.Listens.has_failed net.now) N.Port.told N.Port.failures)
-        (K.asked_save disks.now) (map string_bytes words.now) log result)
+>(rt: &R, means: &Means<N, K, C>, host: &mut H, words: &[String]) -> u8
+    ensures { GoesOnBy (λ log. IsStartWith (agents_by (N.Opens.has_opened means.now.net)
+        (N.Opens.has_failed means.now.net) N.Wire.told) (ports_by (N.Listens.has_opened means.now.net)
+        (N.Listens.has_failed means.now.net) N.Port.told N.Port.failures)
+        (K.asked_save means.now.disks)
+        (stations_by (C.has_connected means.now.streams) (C.has_failed means.now.streams)
+        C.Stream.log) (map string_bytes words.now) log result)
         (H.log host.old) (H.log host.new) }
 {
     match read(rt.alloc(), words) {
-        Ok(matches) => start_command(rt, net, disks, host, read_command(&matches)),
+        Ok(matches) => start_command(rt, means, host, read_command(&matches)),
         Err(error) => end_usage(rt.alloc(), host, &error),
     }
 }
@@ -147,13 +166,16 @@ fn start_command<
     R: Clock + Files<File = File> + Net + AllocGlobal,
     N: Opens + Listens,
     K: Saves,
+    C: Connects,
     H: Host,
->(rt: &R, net: &N, disks: &K, host: &mut H, asked: Asked<'_, '_>) -> u8
+>(rt: &R, means: &Means<N, K, C>, host: &mut H, asked: Asked<'_, '_>) -> u8
     requires { IsWithin asked }
-    ensures { GoesOnBy (λ log. IsStartOf (agents_by (N.Opens.has_opened net.now)
-        (N.Opens.has_failed net.now) N.Wire.told) (ports_by (N.Listens.has_opened net.now)
-        (N.Listens.has_failed net.now) N.Port.told N.Port.failures)
-        (K.asked_save disks.now) asked.entry log result)
+    ensures { GoesOnBy (λ log. IsStartOf (agents_by (N.Opens.has_opened means.now.net)
+        (N.Opens.has_failed means.now.net) N.Wire.told) (ports_by (N.Listens.has_opened means.now.net)
+        (N.Listens.has_failed means.now.net) N.Port.told N.Port.failures)
+        (K.asked_save means.now.disks)
+        (stations_by (C.has_connected means.now.streams) (C.has_failed means.now.streams)
+        C.Stream.log) asked.entry log result)
         (H.log host.old) (H.log host.new) }
 {
     if asked.lacks_rounds() {
@@ -171,7 +193,7 @@ fn start_command<
     if asked.lacks_columns() {
         return refuse(host, NO_COLUMNS);
     }
-    run_to_end(rt, net, disks, host, asked)
+    run_to_end(rt, means, host, asked)
 }
 
 /// Runs a command, and returns the exit status.
@@ -179,18 +201,21 @@ fn run_to_end<
     R: Clock + Files<File = File> + Net + AllocGlobal,
     N: Opens + Listens,
     K: Saves,
+    C: Connects,
     H: Host,
->(rt: &R, net: &N, disks: &K, host: &mut H, asked: Asked<'_, '_>) -> u8
+>(rt: &R, means: &Means<N, K, C>, host: &mut H, asked: Asked<'_, '_>) -> u8
     requires { IsWithin asked }
-    ensures { GoesOnBy (λ log. IsRunFor (agents_by (N.Opens.has_opened net.now)
-        (N.Opens.has_failed net.now) N.Wire.told) (ports_by (N.Listens.has_opened net.now)
-        (N.Listens.has_failed net.now) N.Port.told N.Port.failures)
-        (K.asked_save disks.now) asked.entry log result)
+    ensures { GoesOnBy (λ log. IsRunFor (agents_by (N.Opens.has_opened means.now.net)
+        (N.Opens.has_failed means.now.net) N.Wire.told) (ports_by (N.Listens.has_opened means.now.net)
+        (N.Listens.has_failed means.now.net) N.Port.told N.Port.failures)
+        (K.asked_save means.now.disks)
+        (stations_by (C.has_connected means.now.streams) (C.has_failed means.now.streams)
+        C.Stream.log) asked.entry log result)
         (H.log host.old) (H.log host.new) }
 {
     prepare(host, reads_input(&asked));
     let station = is_station(&asked);
-    let done = run(rt, net, disks, host, asked);
+    let done = run(rt, means, host, asked);
     end(host, done, station)
 }
 
@@ -259,20 +284,22 @@ fn status_of(station: bool, fault: Fault) -> u8
 }
 
 /// Does what the arguments ask for.
-fn run<R: Clock + Files<File = File> + Net + AllocGlobal, N: Opens + Listens, K: Saves, H: Host>(
-    rt: &R,
-    net: &N,
-    disks: &K,
-    host: &mut H,
-    asked: Asked<'_, '_>,
-) -> Result<(), Failure>
+fn run<
+    R: Clock + Files<File = File> + Net + AllocGlobal,
+    N: Opens + Listens,
+    K: Saves,
+    C: Connects,
+    H: Host,
+>(rt: &R, means: &Means<N, K, C>, host: &mut H, asked: Asked<'_, '_>) -> Result<(), Failure>
     requires { IsWithin asked }
-    ensures { GoesOnBy (λ log. Does (agents_by (N.Opens.has_opened net.now)
-        (N.Opens.has_failed net.now) N.Wire.told) (ports_by (N.Listens.has_opened net.now)
-        (N.Listens.has_failed net.now) N.Port.told N.Port.failures)
-        (K.asked_save disks.now) asked.entry log result) (H.log host.old) (H.log host.new) }
+    ensures { GoesOnBy (λ log. Does (agents_by (N.Opens.has_opened means.now.net)
+        (N.Opens.has_failed means.now.net) N.Wire.told) (ports_by (N.Listens.has_opened means.now.net)
+        (N.Listens.has_failed means.now.net) N.Port.told N.Port.failures)
+        (K.asked_save means.now.disks)
+        (stations_by (C.has_connected means.now.streams) (C.has_failed means.now.streams)
+        C.Stream.log) asked.entry log result) (H.log host.old) (H.log host.new) }
 {
-    let alloc = rt.alloc();
+    let (alloc, net, disks) = (rt.alloc(), &means.net, &means.disks);
     match asked {
         Asked::Version => print(alloc, host, VERSION.as_bytes()),
         Asked::Replay(words) => print_recorded(alloc, host, words),
@@ -288,6 +315,7 @@ fn run<R: Clock + Files<File = File> + Net + AllocGlobal, N: Opens + Listens, K:
         Asked::Station(words) => run_station(rt, host, words),
         Asked::Report(words) => print_saved_report(alloc, host, words),
         Asked::Carry(words) => carry_windows(alloc, disks, host, words),
+        Asked::Healthz(words) => ask_health(alloc, host, &means.streams, words.address),
         Asked::SelfTest => run_self_test(alloc, host),
         Asked::Rehearse(words) => print_rehearsal(alloc, host, words),
     }

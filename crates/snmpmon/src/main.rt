@@ -7,8 +7,10 @@
 
 mod commands;
 
+use commands::Means;
 use mon_app::SystemNetwork;
 use mon_carry_commands::Disks;
+use mon_health_commands::Tcp;
 use mon_host::{System, Terminals};
 use std::io::IsTerminal;
 use std::process::ExitCode;
@@ -19,6 +21,10 @@ fn main(rt: HostRuntime) -> ExitCode {
         output: rt.stdout().is_terminal(),
     };
     let mut host = System::new(&rt, terminals);
-    let (network, disks) = (SystemNetwork::new(&rt), Disks::new(&rt));
-    ExitCode::from(commands::start(&rt, &network, &disks, &mut host))
+    let means = Means {
+        net: SystemNetwork::new(&rt),
+        disks: Disks::new(&rt),
+        streams: Tcp::new(&rt),
+    };
+    ExitCode::from(commands::start(&rt, &means, &mut host))
 }

@@ -50,7 +50,8 @@ LINES = {
     "answer_without_names": ("src/lines.rt", "TIMES, MODULE, NAMES]", "TIMES, MODULE, MODULE]"),
     "set_value_before_kind": ("src/lines.rt", "NAME, KIND, VALUE, MODULE", "NAME, VALUE, KIND, MODULE"),
     "no_rehearse": ("src/parser.rt", "    Choice::SelfTest,\n    Choice::Rehearse,", "    Choice::SelfTest,\n    Choice::SelfTest,"),
-    "a_format_by_another_word": ("src/parser.rt", '"text", "json", "prometheus", "columns"', '"text", "json", "prom", "columns"'),
+    "a_format_by_another_word": ("src/parser.rt", '    "prometheus",\n    "openmetrics",', '    "prom",\n    "openmetrics",'),
+    "open_metrics_by_another_word": ("src/parser.rt", '    "openmetrics",', '    "open-metrics",'),
     "a_kind_by_another_word": ("src/parser.rt", '    "gauge32",', '    "gauge",'),
 }
 

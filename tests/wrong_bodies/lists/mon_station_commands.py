@@ -310,6 +310,8 @@ BUGS = {
     "a_text_of_no_instances": ("src/snapshot.rt", "            .text_in(buffer, format, entries.as_slice(), Some(&self.figures))", "            .text_in(buffer, format, &[], Some(&self.figures))"),
     "a_text_by_states_over_the_windows": ("src/snapshot.rt", "announced_entries(alloc, &self.board, self.states.as_slice())?", "announced_entries(alloc, &self.board, &[])?"),
     "metrics_as_json": ("src/snapshot.rt", "self.drafts.metrics.make(&self.source, Format::Prometheus)", "self.drafts.metrics.make(&self.source, Format::Json)"),
+    "open_metrics_as_prometheus_text": ("src/snapshot.rt", ".make(&self.source, Format::OpenMetrics)", ".make(&self.source, Format::Prometheus)"),
+    "the_figures_for_open_metrics": ("src/snapshot.rt", "            Text::OpenMetrics => self.drafts.open_metrics.text.as_slice(),", "            Text::OpenMetrics => self.drafts.metrics.text.as_slice(),"),
     "the_page_is_not_made": ("src/snapshot.rt", "            Text::Page => self.drafts.page.make(&self.source, Format::Html),", "            Text::Page => Ok(()),"),
     "the_page_for_the_report": ("src/snapshot.rt", "            Text::Report => self.drafts.report.text.as_slice(),", "            Text::Report => self.drafts.page.text.as_slice(),"),
     "an_empty_page": ("src/snapshot.rt", "            Text::Page => self.drafts.page.text.as_slice(),", "            Text::Page => &[],"),

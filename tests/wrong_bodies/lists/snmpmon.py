@@ -48,18 +48,18 @@ BUGS = {
     ),
     "does_nothing_and_ends_well": (
         "src/commands.rt",
-        "    match host.arguments() {\n        Ok(words) => start_with(rt, net, disks, host, words.as_slice()),\n        Err(reason) => end_unlisted(host, reason),\n    }\n",
+        "    match host.arguments() {\n        Ok(words) => start_with(rt, means, host, words.as_slice()),\n        Err(reason) => end_unlisted(host, reason),\n    }\n",
         "    0\n",
     ),
     "lists_its_arguments_and_ends_well": (
         "src/commands.rt",
-        "        Ok(words) => start_with(rt, net, disks, host, words.as_slice()),",
+        "        Ok(words) => start_with(rt, means, host, words.as_slice()),",
         "        Ok(_) => 0,",
     ),
     "lists_its_arguments_twice": (
         "src/commands.rt",
-        "    match host.arguments() {\n        Ok(words) => start_with(rt, net, disks, host, words.as_slice()),\n        Err(reason) => end_unlisted(host, reason),\n    }\n",
-        "    let _ = host.arguments();\n    match host.arguments() {\n        Ok(words) => start_with(rt, net, disks, host, words.as_slice()),\n        Err(reason) => end_unlisted(host, reason),\n    }\n",
+        "    match host.arguments() {\n        Ok(words) => start_with(rt, means, host, words.as_slice()),\n        Err(reason) => end_unlisted(host, reason),\n    }\n",
+        "    let _ = host.arguments();\n    match host.arguments() {\n        Ok(words) => start_with(rt, means, host, words.as_slice()),\n        Err(reason) => end_unlisted(host, reason),\n    }\n",
     ),
     "has_no_memory_for_arguments_that_are_no_text": (
         "src/commands.rt",
@@ -108,8 +108,8 @@ BUGS = {
     ),
     "runs_a_command_twice": (
         "src/commands.rt",
-        "    let done = run(rt, net, disks, host, asked);\n",
-        "    let _ = run(rt, net, disks, host, asked);\n    let done = run(rt, net, disks, host, asked);\n",
+        "    let done = run(rt, means, host, asked);\n",
+        "    let _ = run(rt, means, host, asked);\n    let done = run(rt, means, host, asked);\n",
     ),
     "ends_well_whatever_a_command_gives": (
         "src/commands.rt",
@@ -118,8 +118,8 @@ BUGS = {
     ),
     "hints_after_a_command": (
         "src/commands.rt",
-        "    prepare(host, reads_input(&asked));\n    let station = is_station(&asked);\n    let done = run(rt, net, disks, host, asked);\n",
-        "    let (reads, station) = (reads_input(&asked), is_station(&asked));\n    let done = run(rt, net, disks, host, asked);\n    prepare(host, reads);\n",
+        "    prepare(host, reads_input(&asked));\n    let station = is_station(&asked);\n    let done = run(rt, means, host, asked);\n",
+        "    let (reads, station) = (reads_input(&asked), is_station(&asked));\n    let done = run(rt, means, host, asked);\n    prepare(host, reads);\n",
     ),
     "hints_before_each_command": (
         "src/commands.rt",

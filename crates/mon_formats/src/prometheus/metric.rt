@@ -3,6 +3,8 @@
 ghost use Rattle.std.specs.Prelude.{◌≡◌};
 ghost use Rattle.mon_formats.specs.Prometheus.{name_of, help_of, type_of};
 
+use crate::prometheus::text::Kind;
+
 /// A metric that has lines for each instance.
 #[derive(Clone, Copy, Debug, PartialEq, Eq)]
 pub(crate) enum Metric {
@@ -55,14 +57,14 @@ impl Metric {
         }
     }
 
-    /// Its type, as Prometheus has it.
-    pub(crate) fn kind(self) -> &'static str
-        ensures { result.now ≡ type_of self }
+    /// Its type.
+    pub(crate) fn kind(self) -> Kind
+        ensures { result ≡ type_of self }
     {
         match self {
-            Metric::Counted => "counter",
+            Metric::Counted => Kind::Counter,
             Metric::Number | Metric::Samples | Metric::Rate | Metric::Alarm | Metric::Speed =>
-                "gauge",
+                Kind::Gauge,
         }
     }
 }

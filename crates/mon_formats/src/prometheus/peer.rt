@@ -5,7 +5,7 @@ ghost use Rattle.mon_formats.specs.Prometheus.{peer_help, peer_labels, peer_line
 ghost use Rattle.mon_formats.specs.Prometheus.{peer_name, peer_value, peers_text};
 
 use crate::prometheus::target::one_if;
-use crate::prometheus::text::{put_head, put_line, put_more, put_station_label};
+use crate::prometheus::text::{Exposition, Kind, put_head, put_line, put_more, put_station_label};
 use itoa::Buffer;
 use mon_page::PeerFigures;
 use std::alloc::{AllocError, Global};
@@ -13,9 +13,9 @@ use std::alloc::{AllocError, Global};
 /// A metric of a peer.
 #[derive(Clone, Copy, Debug, PartialEq, Eq)]
 enum PeerMetric {
-    /// Says whether it was heard of late.
+    /// Says whether a datagram came from it of late.
     PeerUp,
-    /// How many rounds ago it was heard.
+    /// How many rounds ago its last datagram came.
     LastHeard,
 }
 
@@ -56,30 +56,31 @@ impl PeerMetric {
 /// Adds what a station says of its peers, metric by metric.
 #[tactic(auto, unfolding(crate::specs::Prometheus::peers_text))]
 pub(crate) fn put_peers(
-    alloc: Global,
+    format: Exposition,
     text: &mut Vec<u8>,
     station: u32,
     peers: &[PeerFigures],
 ) -> Result<(), AllocError>
-    ensures { OnOk result (text.new.items ≡ text.old.items ++ peers_text station peers.now) }
+    ensures { OnOk result (text.new.items ≡ text.old.items ++ peers_text format station peers.now) }
 {
-    put_peer_metric(alloc, text, station, peers, PeerMetric::PeerUp)?;
-    put_peer_metric(alloc, text, station, peers, PeerMetric::LastHeard)
+    put_peer_metric(format, text, station, peers, PeerMetric::PeerUp)?;
+    put_peer_metric(format, text, station, peers, PeerMetric::LastHeard)
 }
 
 /// Adds a metric with a line for each peer.
 #[tactic(auto, unfolding(crate::specs::Prometheus::peer_metric))]
 fn put_peer_metric(
-    alloc: Global,
+    format: Exposition,
     text: &mut Vec<u8>,
     station: u32,
     peers: &[PeerFigures],
     metric: PeerMetric,
 ) -> Result<(), AllocError>
     ensures { OnOk result (text.new.items
-        ≡ text.old.items ++ peer_metric station metric peers.now) }
+        ≡ text.old.items ++ peer_metric format station metric peers.now) }
 {
-    put_head(text, metric.name(), metric.help(), "gauge")?;
+    let alloc = *text.allocator();
+    put_head(format, text, metric.name(), metric.help(), Kind::Gauge)?;
     for peer in peers {
         put_peer(alloc, text, station, peer, metric)?;
     }

@@ -8,7 +8,7 @@ ghost use Rattle.mon_formats.specs.Prometheus.{station_line, station_name, stati
 use crate::VERSION;
 use crate::prometheus::peer::{peer_labels, put_peers};
 use crate::prometheus::target::put_targets;
-use crate::prometheus::text::{put_head, put_line, put_more, put_station_label};
+use crate::prometheus::text::{Exposition, Kind, put_head, put_line, put_more, put_station_label};
 use itoa::Buffer;
 use mon_page::Figures;
 use mon_report::write_rate;
@@ -96,23 +96,23 @@ impl StationMetric {
         }
     }
 
-    /// Its type, as Prometheus has it.
-    pub(crate) fn kind(self) -> &'static str
-        ensures { result.now ≡ station_type self }
+    /// Its type.
+    pub(crate) fn kind(self) -> Kind
+        ensures { result ≡ station_type self }
     {
         match self {
             StationMetric::Taken
             | StationMetric::GivenUp
             | StationMetric::FailedSaves
             | StationMetric::Strangers
-            | StationMetric::Overruns => "counter",
-            StationMetric::Info
-            | StationMetric::Incarnation
+            | StationMetric::Overruns => Kind::Counter,
+            StationMetric::Info => Kind::Info,
+            StationMetric::Incarnation
             | StationMetric::Debt
             | StationMetric::Duration
             | StationMetric::Interval
             | StationMetric::LastRound
-            | StationMetric::Age => "gauge",
+            | StationMetric::Age => Kind::Gauge,
         }
     }
 }
@@ -120,62 +120,70 @@ impl StationMetric {
 /// Adds what a station says of itself.
 #[tactic(auto, unfolding(crate::specs::Prometheus::station_text))]
 pub(crate) fn put_station(
-    alloc: Global,
+    format: Exposition,
     text: &mut Vec<u8>,
     figures: &Figures,
 ) -> Result<(), AllocError>
-    ensures { OnOk result (text.new.items ≡ text.old.items ++ station_text figures.now) }
+    ensures { OnOk result (text.new.items ≡ text.old.items ++ station_text format figures.now) }
 {
     let station = figures.station;
-    let incarnation = u64::from(figures.incarnation);
-    put_info(alloc, text, station)?;
-    put_plain(text, station, StationMetric::Incarnation, incarnation)?;
-    put_plain(text, station, StationMetric::Taken, figures.taken)?;
-    put_plain(text, station, StationMetric::GivenUp, figures.given_up)?;
-    put_debts(alloc, text, station, figures.debts.as_slice())?;
-    put_peers(alloc, text, station, figures.peers.as_slice())?;
-    put_plain(
-        text,
-        station,
-        StationMetric::FailedSaves,
-        figures.failed_saves,
-    )?;
-    put_plain(text, station, StationMetric::Strangers, figures.strangers)?;
-    put_rounds(alloc, text, figures)?;
-    put_targets(alloc, text, station, figures.targets.as_slice())
+    let starts = u64::from(figures.incarnation);
+    let given_up = figures.given_up;
+    let failed = figures.failed_saves;
+    let strangers = figures.strangers;
+    put_info(format, text, station)?;
+    put_plain(format, text, station, StationMetric::Incarnation, starts)?;
+    put_plain(format, text, station, StationMetric::Taken, figures.taken)?;
+    put_plain(format, text, station, StationMetric::GivenUp, given_up)?;
+    put_debts(format, text, station, figures.debts.as_slice())?;
+    put_peers(format, text, station, figures.peers.as_slice())?;
+    put_plain(format, text, station, StationMetric::FailedSaves, failed)?;
+    put_plain(format, text, station, StationMetric::Strangers, strangers)?;
+    put_rounds(format, text, figures)?;
+    put_targets(format, text, station, figures.targets.as_slice())
 }
 
 /// Adds what a station says of its rounds.
 #[tactic(auto, unfolding(crate::specs::Prometheus::rounds_text))]
-fn put_rounds(alloc: Global, text: &mut Vec<u8>, figures: &Figures) -> Result<(), AllocError>
-    ensures { OnOk result (text.new.items ≡ text.old.items ++ rounds_text figures.now) }
+fn put_rounds(format: Exposition, text: &mut Vec<u8>, figures: &Figures) -> Result<(), AllocError>
+    ensures { OnOk result (text.new.items ≡ text.old.items ++ rounds_text format figures.now) }
 {
     let station = figures.station;
     let interval = u64::from(figures.interval);
-    put_duration(alloc, text, station, figures.round_ms)?;
-    put_plain(text, station, StationMetric::Interval, interval)?;
-    put_plain(text, station, StationMetric::Overruns, figures.overruns)?;
-    put_last_round(text, station, figures.round_at)
+    put_duration(format, text, station, figures.round_ms)?;
+    put_plain(format, text, station, StationMetric::Interval, interval)?;
+    put_plain(
+        format,
+        text,
+        station,
+        StationMetric::Overruns,
+        figures.overruns,
+    )?;
+    put_last_round(format, text, station, figures.round_at)
 }
 
 /// Adds which program and which station it is: both are labels.
 #[tactic(auto, unfolding(crate::specs::Prometheus::info_text))]
-fn put_info(alloc: Global, text: &mut Vec<u8>, station: u32) -> Result<(), AllocError>
-    ensures { OnOk result (text.new.items ≡ text.old.items ++ info_text station) }
+fn put_info(format: Exposition, text: &mut Vec<u8>, station: u32) -> Result<(), AllocError>
+    ensures { OnOk result (text.new.items ≡ text.old.items ++ info_text format station) }
 {
     let metric = StationMetric::Info;
-    let mut labels = Vec::new(alloc);
+    let mut labels = Vec::new(*text.allocator());
     put_station_label(&mut labels, station)?;
     put_more(&mut labels, "version", VERSION.as_bytes())?;
-    put_metric_head(text, metric)?;
+    put_metric_head(format, text, metric)?;
     put_line(text, metric.name(), labels.as_slice(), b"1")
 }
 
 /// Adds the first two lines of a metric.
-pub(crate) fn put_metric_head(text: &mut Vec<u8>, metric: StationMetric) -> Result<(), AllocError>
-    ensures { OnOk result (text.new.items ≡ text.old.items ++ station_head metric) }
+pub(crate) fn put_metric_head(
+    format: Exposition,
+    text: &mut Vec<u8>,
+    metric: StationMetric,
+) -> Result<(), AllocError>
+    ensures { OnOk result (text.new.items ≡ text.old.items ++ station_head format metric) }
 {
-    put_head(text, metric.name(), metric.help(), metric.kind())
+    put_head(format, text, metric.name(), metric.help(), metric.kind())
 }
 
 /// Adds the line of a metric that has no label but the station's number.
@@ -200,58 +208,65 @@ fn put_station_line(
 /// Adds a metric of one line.
 #[tactic(auto, unfolding(crate::specs::Prometheus::plain_metric))]
 fn put_plain(
+    format: Exposition,
     text: &mut Vec<u8>,
     station: u32,
     metric: StationMetric,
     value: u64,
 ) -> Result<(), AllocError>
-    ensures { OnOk result (text.new.items ≡ text.old.items ++ plain_metric station metric value) }
+    ensures { OnOk result (text.new.items ≡ text.old.items ++ plain_metric format station metric value) }
 {
     let mut buffer = Buffer::new();
-    put_metric_head(text, metric)?;
+    put_metric_head(format, text, metric)?;
     put_station_line(text, station, metric, buffer.format(value).as_bytes())
 }
 
 /// Adds how long the last round took, which is given in milliseconds.
 #[tactic(auto, unfolding(crate::specs::Prometheus::duration_text))]
 fn put_duration(
-    alloc: Global,
+    format: Exposition,
     text: &mut Vec<u8>,
     station: u32,
     milliseconds: u64,
 ) -> Result<(), AllocError>
-    ensures { OnOk result (text.new.items ≡ text.old.items ++ duration_text station milliseconds) }
+    ensures { OnOk result (text.new.items ≡ text.old.items ++ duration_text format station milliseconds) }
 {
     let metric = StationMetric::Duration;
-    let mut seconds = Vec::new(alloc);
+    let mut seconds = Vec::new(*text.allocator());
     if !write_rate(&mut seconds, true, u128::from(milliseconds)) {
         return Err(AllocError);
     }
-    put_metric_head(text, metric)?;
+    put_metric_head(format, text, metric)?;
     put_station_line(text, station, metric, seconds.as_slice())
 }
 
 /// Adds when the last round ended, in seconds since 1970, if one did.
-fn put_last_round(text: &mut Vec<u8>, station: u32, round_at: Option<u64>) -> Result<(), AllocError>
-    ensures { OnOk result (text.new.items ≡ text.old.items ++ last_round_if station round_at) }
+fn put_last_round(
+    format: Exposition,
+    text: &mut Vec<u8>,
+    station: u32,
+    round_at: Option<u64>,
+) -> Result<(), AllocError>
+    ensures { OnOk result (text.new.items ≡ text.old.items ++ last_round_if format station round_at) }
 {
     match round_at {
         None => Ok(()),
-        Some(seconds) => put_plain(text, station, StationMetric::LastRound, seconds),
+        Some(seconds) => put_plain(format, text, station, StationMetric::LastRound, seconds),
     }
 }
 
 /// Adds how many samples the station owes each peer.
 #[tactic(auto, unfolding(crate::specs::Prometheus::debts_text))]
 fn put_debts(
-    alloc: Global,
+    format: Exposition,
     text: &mut Vec<u8>,
     station: u32,
     debts: &[(u32, u32)],
 ) -> Result<(), AllocError>
-    ensures { OnOk result (text.new.items ≡ text.old.items ++ debts_text station debts.now) }
+    ensures { OnOk result (text.new.items ≡ text.old.items ++ debts_text format station debts.now) }
 {
-    put_metric_head(text, StationMetric::Debt)?;
+    let alloc = *text.allocator();
+    put_metric_head(format, text, StationMetric::Debt)?;
     for (peer, count) in debts {
         put_debt(alloc, text, station, *peer, *count)?;
     }

@@ -4,7 +4,7 @@ ghost use Rattle.std.specs.Prelude.{◌≡◌, ◌++◌, OnOk, IfOk, string_byte
 ghost use Rattle.mon_formats.specs.Prometheus.{one_if, reason_if, reason_line, refusals_text, target_help, target_labels, target_line, target_metric, target_name, target_type, target_value, targets_text};
 
 use crate::prometheus::instance::put_engine;
-use crate::prometheus::text::{put_head, put_line, put_more, put_station_label};
+use crate::prometheus::text::{Exposition, Kind, put_head, put_line, put_more, put_station_label};
 use itoa::Buffer;
 use mon_page::TargetFigures;
 use std::alloc::{AllocError, Global};
@@ -56,16 +56,14 @@ impl TargetMetric {
         }
     }
 
-    /// Its type, as Prometheus has it.
-    fn kind(self) -> &'static str
-        ensures { result.now ≡ target_type self }
+    /// Its type.
+    fn kind(self) -> Kind
+        ensures { result ≡ target_type self }
     {
         match self {
-            TargetMetric::PollsGivenUp => "counter",
-            TargetMetric::Up
-            | TargetMetric::Rounds
-            | TargetMetric::Seconds
-            | TargetMetric::Refusal => "gauge",
+            TargetMetric::PollsGivenUp => Kind::Counter,
+            TargetMetric::Up | TargetMetric::Rounds | TargetMetric::Seconds => Kind::Gauge,
+            TargetMetric::Refusal => Kind::Info,
         }
     }
 
@@ -93,33 +91,34 @@ pub(crate) fn one_if(is_so: bool) -> u64
 /// Adds what a station says of its targets, metric by metric.
 #[tactic(auto, unfolding(crate::specs::Prometheus::targets_text))]
 pub(crate) fn put_targets(
-    alloc: Global,
+    format: Exposition,
     text: &mut Vec<u8>,
     station: u32,
     targets: &[TargetFigures],
 ) -> Result<(), AllocError>
-    ensures { OnOk result (text.new.items ≡ text.old.items ++ targets_text station targets.now) }
+    ensures { OnOk result (text.new.items ≡ text.old.items ++ targets_text format station targets.now) }
 {
-    put_target_metric(alloc, text, station, targets, TargetMetric::Up)?;
-    put_target_metric(alloc, text, station, targets, TargetMetric::Rounds)?;
-    put_target_metric(alloc, text, station, targets, TargetMetric::Seconds)?;
-    put_target_metric(alloc, text, station, targets, TargetMetric::PollsGivenUp)?;
-    put_refusals(alloc, text, station, targets)
+    put_target_metric(format, text, station, targets, TargetMetric::Up)?;
+    put_target_metric(format, text, station, targets, TargetMetric::Rounds)?;
+    put_target_metric(format, text, station, targets, TargetMetric::Seconds)?;
+    put_target_metric(format, text, station, targets, TargetMetric::PollsGivenUp)?;
+    put_refusals(format, text, station, targets)
 }
 
 /// Adds a metric with a line for each target.
 #[tactic(auto, unfolding(crate::specs::Prometheus::target_metric))]
 fn put_target_metric(
-    alloc: Global,
+    format: Exposition,
     text: &mut Vec<u8>,
     station: u32,
     targets: &[TargetFigures],
     metric: TargetMetric,
 ) -> Result<(), AllocError>
     ensures { OnOk result (text.new.items
-        ≡ text.old.items ++ target_metric station metric targets.now) }
+        ≡ text.old.items ++ target_metric format station metric targets.now) }
 {
-    put_head(text, metric.name(), metric.help(), metric.kind())?;
+    let alloc = *text.allocator();
+    put_head(format, text, metric.name(), metric.help(), metric.kind())?;
     for target in targets {
         put_target(alloc, text, station, target, metric)?;
     }
@@ -174,15 +173,16 @@ fn put_target_labels(
 /// Adds of each target that has a refused response a line with the reason.
 #[tactic(auto, unfolding(crate::specs::Prometheus::refusals_text))]
 fn put_refusals(
-    alloc: Global,
+    format: Exposition,
     text: &mut Vec<u8>,
     station: u32,
     targets: &[TargetFigures],
 ) -> Result<(), AllocError>
-    ensures { OnOk result (text.new.items ≡ text.old.items ++ refusals_text station targets.now) }
+    ensures { OnOk result (text.new.items ≡ text.old.items ++ refusals_text format station targets.now) }
 {
+    let alloc = *text.allocator();
     let metric = TargetMetric::Refusal;
-    put_head(text, metric.name(), metric.help(), metric.kind())?;
+    put_head(format, text, metric.name(), metric.help(), metric.kind())?;
     for target in targets {
         put_refusal(alloc, text, station, target)?;
     }

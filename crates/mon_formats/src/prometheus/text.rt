@@ -1,25 +1,106 @@
-//! The parts of Prometheus' text format.
+//! The parts of Prometheus' text format and of OpenMetrics.
 
-ghost use Rattle.std.specs.Prelude.{◌≡◌, ◌++◌, OnOk};
+ghost use Rattle.std.specs.Prelude.{◌≡◌, ◌≤◌, ◌++◌, OnOk};
 ghost use Rattle.std.specs.List.{flat_map};
+ghost use Rattle.mon_formats.specs.declared.prometheus.text.Kind.TheVariants as kinds;
 ghost use Rattle.mon_formats.specs.Prometheus.{escaped, label_text, metric_line, head_text, comment_line};
+ghost use Rattle.mon_formats.specs.Prometheus.{end_text, family_name, suffix_length, type_word};
 ghost use Rattle.mon_formats.specs.Prometheus.{more_label, station_label};
 
 use itoa::Buffer;
 use std::alloc::AllocError;
 
+/// A format that Prometheus reads.
+#[derive(Clone, Copy, Debug, PartialEq, Eq)]
+pub(crate) enum Exposition {
+    /// The text format, version 0.0.4.
+    Prometheus,
+    /// OpenMetrics 1.0.
+    OpenMetrics,
+}
+
+/// The type of a metric.
+#[derive(Clone, Copy, Debug, PartialEq, Eq)]
+pub(crate) enum Kind {
+    /// It only rises, until it begins again.
+    Counter,
+    /// It may fall.
+    Gauge,
+    /// Its labels say something, and its value is always 1.
+    Info,
+}
+
+impl Kind {
+    /// Returns the word for it.
+    fn word(self, format: Exposition) -> &'static str
+        ensures { result.now ≡ type_word format self }
+    {
+        match self {
+            Kind::Counter => "counter",
+            Kind::Gauge => "gauge",
+            Kind::Info => info_word(format),
+        }
+    }
+
+    /// Returns how many octets at the end of a sample's name are no part of its family's name.
+    fn suffix_length(self, format: Exposition) -> usize
+        ensures { result ≡ suffix_length format self }
+    {
+        match format {
+            Exposition::Prometheus => 0,
+            Exposition::OpenMetrics => match self {
+                Kind::Counter => 6,
+                Kind::Info => 5,
+                Kind::Gauge => 0,
+            },
+        }
+    }
+}
+
+/// Returns the word for the type of an info.
+fn info_word(format: Exposition) -> &'static str
+    ensures { result.now ≡ type_word format kinds.Info }
+{
+    match format {
+        Exposition::Prometheus => "gauge",
+        Exposition::OpenMetrics => "info",
+    }
+}
+
+/// Returns what the head of a metric calls it, whose samples have this name.
+#[tactic(auto, unfolding(crate::specs::Prometheus::family_name))]
+fn family_name(format: Exposition, kind: Kind, sample: &str) -> &[u8]
+    ensures { result.now ≡ family_name format kind sample.now }
+{
+    let name = sample.as_bytes();
+    &name[..name.len().saturating_sub(kind.suffix_length(format))]
+}
+
 /// Adds what a metric is, and of which type.
 #[tactic(auto, unfolding(crate::specs::Prometheus::head_text))]
 pub(crate) fn put_head(
+    format: Exposition,
     text: &mut Vec<u8>,
     metric: &str,
     help: &str,
-    kind: &str,
+    kind: Kind,
 ) -> Result<(), AllocError>
-    ensures { OnOk result (text.new.items ≡ text.old.items ++ head_text metric.now help.now kind.now) }
+    ensures { OnOk result (text.new.items
+        ≡ text.old.items ++ head_text format metric.now help.now kind) }
 {
-    put_comment(text, "HELP", metric, help)?;
-    put_comment(text, "TYPE", metric, kind)
+    let family = family_name(format, kind, metric);
+    put_comment(text, "HELP", family, help)?;
+    put_comment(text, "TYPE", family, kind.word(format))
+}
+
+/// Adds the end of a text.
+pub(crate) fn put_end(format: Exposition, text: &mut Vec<u8>) -> Result<(), AllocError>
+    ensures { OnOk result (text.new.items ≡ text.old.items ++ end_text format) }
+{
+    match format {
+        Exposition::Prometheus => Ok(()),
+        Exposition::OpenMetrics => text.extend_from_slice(b"# EOF\n"),
+    }
 }
 
 /// Adds a line that says something of a metric to Prometheus.
@@ -27,7 +108,7 @@ pub(crate) fn put_head(
 fn put_comment(
     text: &mut Vec<u8>,
     keyword: &str,
-    metric: &str,
+    metric: &[u8],
     content: &str,
 ) -> Result<(), AllocError>
     ensures { OnOk result (text.new.items ≡ text.old.items ++ comment_line keyword.now metric.now content.now) }
@@ -35,7 +116,7 @@ fn put_comment(
     text.extend_from_slice(b"# ")?;
     text.extend_from_slice(keyword.as_bytes())?;
     text.extend_from_slice(b" ")?;
-    text.extend_from_slice(metric.as_bytes())?;
+    text.extend_from_slice(metric)?;
     text.extend_from_slice(b" ")?;
     text.extend_from_slice(content.as_bytes())?;
     text.extend_from_slice(b"\n")

@@ -42,4 +42,4 @@ returns c = λ labels all have.
     ∙ (λ i. c.loop-place.text.items ++ sym end i)
     ∙ c.loop-place.invariant labels all have
     ∙ (λ i. c.in_ok-put_metric_head.ensures i ++ age_lines labels ages all)
-    ∙ append_assoc c.args.text.now.items (station_head Age) (age_lines labels ages all)
+    ∙ append_assoc c.args.text.now.items (station_head c.args.listing.format Age) (age_lines labels ages all)

@@ -60,5 +60,5 @@ returns c = λ labels all have.
     sym (append-nil c.loop-place.text.items)
     ∙ (λ i. c.loop-place.text.items ++ flat_map lines (sym end i))
     ∙ c.loop-place.invariant labels all have
-    ∙ (λ i. (c.in_ok-put_head.ensures ∙ (λ j. c.args.text.now.items ++ head_text (c.name.ensures j) (c.help.ensures j) (c.kind.ensures j))) i ++ flat_map lines (fresh limit ages all))
-    ∙ append_assoc c.args.text.now.items (head_text (name_of metric) (help_of metric) (type_of metric)) (flat_map lines (fresh limit ages all))
+    ∙ (λ i. (c.in_ok-put_head.ensures ∙ (λ j. c.args.text.now.items ++ head_text c.args.listing.format (c.name.ensures j) (c.help.ensures j) (c.kind.ensures j))) i ++ flat_map lines (fresh limit ages all))
+    ∙ append_assoc c.args.text.now.items (head_text c.args.listing.format (name_of metric) (help_of metric) (type_of metric)) (flat_map lines (fresh limit ages all))

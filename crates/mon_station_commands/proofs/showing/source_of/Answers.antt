@@ -1,7 +1,7 @@
 use Rattle.std.proofs.Common.{◌∙◌}
 use Rattle.mon_alarms.specs.Announcing.{announced_states}
 use Rattle.mon_formats.specs.declared.format.Format.{Format}
-use Rattle.mon_formats.specs.declared.format.Format.TheVariants.{Html, Json, Prometheus}
+use Rattle.mon_formats.specs.declared.format.Format.TheVariants.{Html, Json, OpenMetrics, Prometheus}
 use Rattle.mon_station.specs.State.{state_of}
 use Rattle.mon_station_commands.proofs.Copies.{of_copy}
 use Rattle.mon_station_commands.proofs.showing.source_of.Goals as goal
@@ -16,6 +16,7 @@ returns g c =
       figures = c.in_ok-figures.figures;
       holds = c.in_ok-figures.ensures;
       metrics = text Prometheus;
+      open_metrics = text OpenMetrics;
       report = text Json;
       page = text Html;
     }

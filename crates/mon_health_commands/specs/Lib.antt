@@ -1,0 +1,4 @@
+pub mod AtStream
+pub mod Asking
+pub mod Health
+pub mod Trouble

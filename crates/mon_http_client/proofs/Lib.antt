@@ -1,0 +1,4 @@
+pub mod Fronts
+pub mod Heads
+pub mod Reading
+pub mod Targets

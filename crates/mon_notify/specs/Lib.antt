@@ -1,0 +1,6 @@
+pub mod Times
+pub mod Fingerprint
+pub mod Labels
+pub mod Webhook
+pub mod Mail
+pub mod History

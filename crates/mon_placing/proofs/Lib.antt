@@ -1,0 +1,6 @@
+mod Addresses
+mod Counting
+mod Counts
+mod Pieces
+mod Reading
+mod Seats
