@@ -16,7 +16,7 @@ const STAMP: [[u32; 11]; 3] = [
 ];
 const IN_OCTETS: [u32; 11] = [1, 3, 6, 1, 2, 1, 31, 1, 1, 1, 6];
 const DISCONTINUITY: [u32; 11] = [1, 3, 6, 1, 2, 1, 31, 1, 1, 1, 19];
-const MOST_OPEN: usize = 64;
+const MAX_OPEN: usize = 64;
 
 #[derive(Clone, Copy, PartialEq, Eq)]
 struct Addr {
@@ -146,7 +146,7 @@ impl Target {
 impl Poller {
     fn start(&mut self, target: u16) -> Option<(u32, Vec<u8>)> {
         let asked = self.targets.get(usize::from(target))?;
-        if self.polls.len() >= MOST_OPEN || self.started == i32::MAX as u32 {
+        if self.polls.len() >= MAX_OPEN || self.started == i32::MAX as u32 {
             return None;
         }
         let id = self.started + 1;
@@ -201,7 +201,7 @@ fn main() {
         })
         .collect();
     let target = Target { address, community: b"private".to_vec(), engine: vec![0x80, 0, 0, 0, 2, 7], objects };
-    let mut poller = Poller { targets: vec![target], polls: HashMap::with_capacity(MOST_OPEN), started: 0 };
+    let mut poller = Poller { targets: vec![target], polls: HashMap::with_capacity(MAX_OPEN), started: 0 };
     let (mut samples, mut marks, mut refused) = (0u64, 0u64, 0u64);
     for _ in 0..times {
         let (id, request) = poller.start(0).expect("a poll");

@@ -8,7 +8,7 @@ STAMP = [f"1.3.6.1.6.3.10.2.1.{place}.0" for place in (1, 2, 3)]
 SAMPLED = {0x02: "Integer", 0x41: "Counter32", 0x42: "Gauge32", 0x43: "TimeTicks", 0x46: "Counter64"}
 MARKS = (0x41, 0x42, 0x43)
 REFUSED = {2: "BadMessage", 3: "Stray", 4: "WrongSource", 5: "WrongCommunity", 6: "AgentError", 7: "WrongNames", 8: "BadStamp", 9: "OtherEngine"}
-UNKNOWN_TARGET, TOO_MANY_OPEN, MOST_OPEN = "2 UnknownTarget", "3 TooManyOpen", 64
+UNKNOWN_TARGET, TOO_MANY_OPEN, MAX_OPEN = "2 UnknownTarget", "3 TooManyOpen", 64
 NULL_VALUE = spelled(NULL, b"")
 # The stamps of right responses, if no others are named.
 BOOTS, TIMES = (0, 3, 2**31 - 1), range(2**31)
@@ -48,7 +48,7 @@ class Poller:
         """The request-id of a new poll of the target of this number, and its octets."""
         if number >= len(self.targets):
             raise Refused(UNKNOWN_TARGET)
-        if len(self.open) >= MOST_OPEN:
+        if len(self.open) >= MAX_OPEN:
             raise Refused(TOO_MANY_OPEN)
         self.last += 1
         self.open[self.last] = [number, 1]

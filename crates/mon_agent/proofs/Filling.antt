@@ -15,9 +15,9 @@ use Rattle.mon_mib.specs.Known.{Known}
 use Rattle.mon_agent.specs.declared.bulk_in_place.BulkPlan.{BulkPlan}
 use Rattle.mon_agent.specs.declared.bulk_in_place.Round.{Round}
 use Rattle.mon_agent.specs.declared.bulk_in_place.Round.TheVariants.{Full, Last, More}
-use Rattle.mon_agent.specs.Bulk.{IsLongestPart, IsStepper, full_list, is_end, is_last, names_of, rounds}
+use Rattle.mon_agent.specs.Bulk.{IsLongestPart, IsStepper, full_list, is_end, all_end_of_mib_view, names_of, rounds}
 use Rattle.mon_agent.specs.Filling.{AreNamed, FitsIn, IsFilled, IsRoundPut}
-use Rattle.mon_agent.specs.Growing.{IsEnded}
+use Rattle.mon_agent.specs.ResponseBuilder.{IsEnded}
 use Rattle.mon_agent.specs.Reply.{IsWithinLimit, answered, count_of}
 use Rattle.mon_agent.proofs.Longest.{longest}
 use Rattle.mon_agent.proofs.Rounds.{cut_longer, cut_is}
@@ -47,7 +47,7 @@ one_named octets old rest now after new left one = record {
 pub record IsSoFar (k : Known) (sees : List ℕ → Type 0) (before : List Binding) (old new : List (List ℕ)) (ended : Bool) (octets : List ℕ) : Type 0 where
   pub reply : List Binding
   pub put : octets ≡ list_contents reply
-  pub right : (next : List ℕ → Binding) → IsStepper k sees next → (reply ≡ before ++ map next old) × (ended ≡ is_last (map next old)) × (new ≡ names_of (map next old))
+  pub right : (next : List ℕ → Binding) → IsStepper k sees next → (reply ≡ before ++ map next old) × (ended ≡ all_end_of_mib_view (map next old)) × (new ≡ names_of (map next old))
 
 pub round_begins : (k : Known) (sees : List ℕ → Type 0) (before : List Binding) (octets : List ℕ) → octets ≡ list_contents before → IsSoFar k sees before [] [] true octets
 round_begins k sees before octets put = record { reply = before; put = put; right = λ next steps. (sym (append-nil before), refl, refl) }
@@ -67,13 +67,13 @@ rest_kept old names i d new lt long rest =
     tails : {x y : List ℕ} {xs ys : List (List ℕ)} → x ∷ xs ≡ y ∷ ys → xs ≡ ys
     tails e = cc
 
-last_more : (bs : List Binding) (b : Binding) → is_last (bs ++ b ∷ []) ≡ (is_last bs && is_end b.value)
+last_more : (bs : List Binding) (b : Binding) → all_end_of_mib_view (bs ++ b ∷ []) ≡ (all_end_of_mib_view bs && is_end b.value)
 last_more [] b = alone (is_end b.value)
   where
     alone : (x : Bool) → (x && true) ≡ (true && x)
     alone true = refl
     alone false = refl
-last_more (a ∷ bs) b = ap (λ (x : Bool). is_end a.value && x) (last_more bs b) ∙ joined (is_end a.value) (is_last bs) (is_end b.value)
+last_more (a ∷ bs) b = ap (λ (x : Bool). is_end a.value && x) (last_more bs b) ∙ joined (is_end a.value) (all_end_of_mib_view bs) (is_end b.value)
   where
     joined : (x y z : Bool) → (x && (y && z)) ≡ ((x && y) && z)
     joined true y z = refl
@@ -94,7 +94,7 @@ one_answered k sees before old names i d answer ended octets now lt long rest on
       let more : map next (take (i + 1) old) ≡ map next (take i old) ++ answer ∷ [] =
       ap (map next) (take_more old i d (omega (arith, lt, long))) ∙ (map-append next (take i old) (get_or old i d ∷ []) ∙ ap (λ (b : Binding). map next (take i old) ++ b ∷ []) (sym is)) in (
         ap (λ l. l ++ answer ∷ []) it.0 ∙ (append_assoc before (map next (take i old)) (answer ∷ []) ∙ ap (λ l. before ++ l) (sym more)),
-        ap (λ (e : Bool). e && is_end answer.value) it.1 ∙ (sym (last_more (map next (take i old)) answer) ∙ ap is_last (sym more)),
+        ap (λ (e : Bool). e && is_end answer.value) it.1 ∙ (sym (last_more (map next (take i old)) answer) ∙ ap all_end_of_mib_view (sym more)),
         take_more_set names i answer.name lt ∙ (ap (λ l. l ++ answer.name ∷ []) it.2 ∙ (sym (map-append (λ (b : Binding). b.name) (map next (take i old)) (answer ∷ [])) ∙ ap names_of (sym more))),
       );
 }
@@ -136,7 +136,7 @@ round_ends k sees fits before old names i ended octets le long so_far =
         put = so_far.put;
         right = λ next steps. (
           (so_far.right next steps).0 ∙ ap (λ l. before ++ map next l) all,
-          ap (λ l. is_last (map next l)) (sym all) ∙ (sym (so_far.right next steps).1 ∙ is),
+          ap (λ l. all_end_of_mib_view (map next l)) (sym all) ∙ (sym (so_far.right next steps).1 ∙ is),
         );
       },
       λ is. record {
@@ -144,7 +144,7 @@ round_ends k sees fits before old names i ended octets le long so_far =
         put = so_far.put;
         right = λ next steps. (
           (so_far.right next steps).0 ∙ ap (λ l. before ++ map next l) all,
-          ap (λ l. is_last (map next l)) (sym all) ∙ (sym (so_far.right next steps).1 ∙ is),
+          ap (λ l. all_end_of_mib_view (map next l)) (sym all) ∙ (sym (so_far.right next steps).1 ∙ is),
           sym own ∙ ((so_far.right next steps).2 ∙ ap (λ l. names_of (map next l)) all),
         );
       },
@@ -162,12 +162,12 @@ pub rounds_begin : (k : Known) (sees : List ℕ → Type 0) (before : List Bindi
     → IsUnfilled k sees (λ next. before ++ rounds next n names) n names octets
 rounds_begin k sees before n names octets put = record { reply = before; put = put; rest = λ next steps. refl }
 
-one_round : (next : List ℕ → Binding) (n : ℕ) (names : List (List ℕ)) → is_last (map next names) ≡ false
+one_round : (next : List ℕ → Binding) (n : ℕ) (names : List (List ℕ)) → all_end_of_mib_view (map next names) ≡ false
     → rounds next (suc n) names ≡ map next names ++ rounds next n (names_of (map next names))
 unfolding rounds
 one_round next n names other = rw other refl
 
-last_round : (next : List ℕ → Binding) (n : ℕ) (names : List (List ℕ)) → is_last (map next names) ≡ true → rounds next (suc n) names ≡ map next names
+last_round : (next : List ℕ → Binding) (n : ℕ) (names : List (List ℕ)) → all_end_of_mib_view (map next names) ≡ true → rounds next (suc n) names ≡ map next names
 unfolding rounds
 last_round next n names end = rw end (append-nil (map next names))
 

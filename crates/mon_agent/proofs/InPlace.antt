@@ -13,9 +13,9 @@ use Rattle.mon_pdu.specs.declared.message.PduKind.TheVariants as kinds
 use Rattle.mon_pdu.specs.declared.message.Message.{Message}
 use Rattle.mon_pdu.specs.Grammar.{IsBinding}
 use Rattle.mon_pdu.specs.Writing.{list_contents, written_binding, written_message}
-use Rattle.mon_vacm.specs.declared.need.Need.TheVariants.{Read}
+use Rattle.mon_vacm.specs.declared.view_type.ViewType.TheVariants.{Read}
 use Rattle.mon_vacm.specs.Access.{access_of}
-use Rattle.mon_vacm.specs.Tables.{Lists}
+use Rattle.mon_vacm.specs.Tables.{PolicyTables}
 use Rattle.mon_vacm.specs.View.{IsInView}
 use Rattle.mon_mib.specs.declared.change.Change.{Change}
 use Rattle.mon_mib.specs.Held.{Held}

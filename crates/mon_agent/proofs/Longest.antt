@@ -3,7 +3,7 @@ use Rattle.std.proofs.Common.{◌≡◌, ◌≤◌, List, [], ◌∷◌, ◌++�
 use Rattle.std.proofs.lemmas.List.{length-append, append-nil, append_assoc}
 use Rattle.mon_pdu.specs.declared.message.Binding.{Binding}
 use Rattle.mon_agent.specs.Bulk.{IsLongestPart}
-use Rattle.mon_agent.specs.Growing.{IsEnded}
+use Rattle.mon_agent.specs.ResponseBuilder.{IsEnded}
 
 module _ (fits : List Binding → Type 0) (shrinks : (bindings more : List Binding) → fits (bindings ++ more) → fits bindings) where
   -- a beginning is either no longer than the part, or it has the next one too

@@ -12,12 +12,12 @@ use Rattle.mon_pdu.specs.declared.message.PduKind.TheVariants as kinds
 use Rattle.mon_pdu.specs.Grammar.{first_of}
 use Rattle.mon_pdu.specs.Sizes.{body_with, with_bindings}
 use Rattle.mon_pdu.specs.Writing.{written_message}
-use Rattle.mon_vacm.specs.declared.need.Need.TheVariants.{Read}
+use Rattle.mon_vacm.specs.declared.view_type.ViewType.TheVariants.{Read}
 use Rattle.mon_mib.specs.Known.{Known}
 use Rattle.mon_agent.specs.declared.reply.Reply.{Reply}
 use Rattle.mon_agent.specs.Answer.{IsOfKind, is_answered, need_of_kind}
 use Rattle.mon_agent.specs.Bulk.{names_of}
-use Rattle.mon_agent.specs.Growing.{IsCut}
+use Rattle.mon_agent.specs.ResponseBuilder.{IsCut}
 use Rattle.mon_agent.specs.Reply.{count_of, answered, response_body, too_big, IsWithinLimit, IsAboveLimit, IsOut}
 use Rattle.mon_agent.specs.Sent.{IsReadOut, IsSentFor}
 use Rattle.mon_agent.specs.Step.{AreFor, IsNextAnswer}

@@ -7,8 +7,8 @@ use Rattle.std.proofs.Math.Seq.{split_at}
 use Rattle.mon_pdu.specs.declared.message.Binding.{Binding}
 use Rattle.mon_mib.specs.Held.{Held}
 use Rattle.mon_mib.specs.Search.{Sought, IsSeenIn, known_in}
-use Rattle.mon_agent.specs.Bulk.{IsStepper, names_of, is_last, rounds, full_list}
-use Rattle.mon_agent.specs.Growing.{Grown, FitsWith, IsCut, IsEnded, last, more_rounds}
+use Rattle.mon_agent.specs.Bulk.{IsStepper, names_of, all_end_of_mib_view, rounds, full_list}
+use Rattle.mon_agent.specs.ResponseBuilder.{Grown, FitsWith, IsCut, IsEnded, last, more_rounds}
 use Rattle.mon_agent.specs.Reply.{count_of}
 
 -- a search that stays has the same answers
@@ -121,19 +121,19 @@ module _ (next : List ℕ → Binding) where
 
   -- ---- rounds
 
-  pub none_follows : (m : ℕ) (round : List Binding) → is_last round ≡ true → more_rounds next m round ≡ []
+  pub none_follows : (m : ℕ) (round : List Binding) → all_end_of_mib_view round ≡ true → more_rounds next m round ≡ []
   unfolding more_rounds
   none_follows m round end = rw end refl
 
   pub no_rounds : (round : List Binding) → more_rounds next 0 round ≡ []
   unfolding more_rounds rounds
-  no_rounds round = none_either (is_last round)
+  no_rounds round = none_either (all_end_of_mib_view round)
 
   pub first_round : (m : ℕ) (names : List (List ℕ)) → rounds next (suc m) names ≡ map next names ++ more_rounds next m (map next names)
   unfolding rounds more_rounds
   first_round m names = refl
 
-  pub one_follows : (m : ℕ) (round : List Binding) → is_last round ≡ false → more_rounds next (suc m) round ≡ answers round ++ more_rounds next m (answers round)
+  pub one_follows : (m : ℕ) (round : List Binding) → all_end_of_mib_view round ≡ false → more_rounds next (suc m) round ≡ answers round ++ more_rounds next m (answers round)
   unfolding more_rounds
   one_follows m round other = rw other (first_round m (names_of round))
 
@@ -186,7 +186,7 @@ pub none_left : (m n : ℕ) → m ≤ n → m - n ≡ 0
 none_left m n le = omega arith
 
 -- one round more of what follows
-pub unrolled : (next : List ℕ → Binding) (before round : List Binding) (k m : ℕ) → k ≡ suc m → is_last round ≡ false
+pub unrolled : (next : List ℕ → Binding) (before round : List Binding) (k m : ℕ) → k ≡ suc m → all_end_of_mib_view round ≡ false
     → (before ++ answers next round) ++ more_rounds next m (answers next round) ≡ before ++ more_rounds next k round
 unrolled next before round k m left other =
     append_assoc before (answers next round) (more_rounds next m (answers next round))

@@ -18,10 +18,10 @@ use Rattle.mon_pdu.specs.declared.fault.PduFault.{PduFault}
 use Rattle.mon_pdu.specs.declared.fault.PduFault.TheVariants as faults
 use Rattle.mon_pdu.specs.Grammar.{BeginsWithMessage, IsVersioned, bindings_of}
 use Rattle.mon_pdu.specs.Reading.{Gives}
-use Rattle.mon_vacm.specs.declared.need.Need.TheVariants.{Read, Write}
+use Rattle.mon_vacm.specs.declared.view_type.ViewType.TheVariants.{Read, Write}
 use Rattle.mon_vacm.specs.declared.denied.Denied.{Denied}
 use Rattle.mon_vacm.specs.Access.{access_of}
-use Rattle.mon_vacm.specs.Tables.{Lists}
+use Rattle.mon_vacm.specs.Tables.{PolicyTables}
 use Rattle.mon_vacm.specs.View.{IsInView}
 use Rattle.mon_mib.specs.declared.change.Change.{Change}
 use Rattle.mon_mib.specs.declared.commit.Commit.{Commit}
@@ -80,7 +80,7 @@ pub set_answers : (body : Body) → need_of body ≡ Write → is_request body �
 set_answers (bodies.Pdu p) e = kind_answers p.kind e
 set_answers (bodies.Bulk p) e = absurd cc
 
-pub known_view : (policy : Lists) (m : Message) (view : List ℕ) → access_of policy m.community (need_of m.body) ≡ Ok view → IsKnown policy m
+pub known_view : (policy : PolicyTables) (m : Message) (view : List ℕ) → access_of policy m.community (need_of m.body) ≡ Ok view → IsKnown policy m
 known_view policy m view access unknown = absurd cc
 
 module _ {D : Type 0} (held : D → Held) (failed : D → ℕ) (refuses : D → Change → Type 0) (policy : Lists) (k : Known) where
@@ -248,7 +248,7 @@ module _ {D : Type 0} (held : D → Held) (failed : D → ℕ) (refuses : D → 
       record { fits = fits; accepted = accepted; plan = subst (IsSetPlan k (bindings_of m.body)) (sym made.0) right; is = made.1 ∙ is }
 
   -- a Set of which a variable binding is refused is answered
-  pub refused : (policy : Lists) (response : Message) (fault : SetFault) (reply : Result Reply AllocError)
+  pub refused : (policy : PolicyTables) (response : Message) (fault : SetFault) (reply : Result Reply AllocError)
       → ((status : SetStatus) (index : ℕ) → index ≤ length (bindings_of m.body)
       → length (written_message (returned (greatest m) (status_number status) (pos index))) ≤ length (written_message (greatest m)))
       → response ≡ greatest m → IsWithinLimit k.settings.limit (greatest m) → IsSetFault k sees (bindings_of m.body) fault
@@ -323,7 +323,8 @@ module _ {D : Type 0} (held : D → Held) (failed : D → ℕ) (refuses : D → 
       some_is : {x y : Silence} → Some x ≡ Some y → x ≡ y
       some_is e = cc
 
-  -- what could not be read begins with no message, and is of version 1 or of the other version that was named
+  -- what could not be read begins with no message, and is of version 1 or of the other version that
+  -- was named
   pub unread : (datagram : List ℕ) (r : Result Message PduFault) (e : PduFault) (cause : Silence) → r ≡ Err e
       → cause_of e ≡ Some cause → ((m : Message) → BeginsWithMessage datagram m → Gives (λ x. x) r (Ok m))
       → ((v : ℤ) → (r ≡ Err (faults.BadVersion v)) ↔ (IsVersioned datagram v × (v ≢ pos 1))) → IsAnswer held failed refuses policy k device device datagram (Silent cause)

@@ -1,6 +1,7 @@
--- What an agent answers to a datagram, and what it does to its device (RFC 3416 section 4.2, RFC 3413 section 3.2, RFC 3418
--- section 2).
-use Rattle.std.specs.Prelude.{◌≡◌, ◌≢◌, ℕ, ℤ, pos, Bool, true, false, List, Option, Some, None, Result, Ok, Err, ◌⊎◌}
+-- What an agent answers to a datagram, and what it does to its device (RFC 3416 section 4.2, RFC
+-- 3413 section 3.2, RFC 3418 section 2).
+use Rattle.std.specs.Prelude.{◌≡◌, ◌≢◌, ℕ, ℤ, pos, Bool, true, false, List, Option, Some, None}
+use Rattle.std.specs.Prelude.{Result, Ok, Err, ◌⊎◌}
 use Rattle.mon_pdu.specs.declared.message.Binding.{Binding}
 use Rattle.mon_pdu.specs.declared.message.Body.{Body}
 use Rattle.mon_pdu.specs.declared.message.Body.TheVariants as bodies
@@ -12,13 +13,14 @@ use Rattle.mon_pdu.specs.declared.fault.PduFault.TheVariants as faults
 use Rattle.mon_pdu.specs.Grammar.{BeginsWithMessage, IsVersioned, bindings_of}
 use Rattle.mon_vacm.specs.declared.denied.Denied.{Denied}
 use Rattle.mon_vacm.specs.declared.denied.Denied.TheVariants.{NoCommunity}
-use Rattle.mon_vacm.specs.declared.need.Need.{Need}
-use Rattle.mon_vacm.specs.declared.need.Need.TheVariants.{Read, Write}
+use Rattle.mon_vacm.specs.declared.view_type.ViewType.{ViewType}
+use Rattle.mon_vacm.specs.declared.view_type.ViewType.TheVariants.{Read, Write}
 use Rattle.mon_vacm.specs.Access.{access_of}
-use Rattle.mon_vacm.specs.Tables.{Lists}
+use Rattle.mon_vacm.specs.Tables.{PolicyTables}
 use Rattle.mon_vacm.specs.View.{IsInView}
 use Rattle.mon_mib.specs.declared.counters.Counters.{Counters}
-use Rattle.mon_mib.specs.declared.counters.Counter.TheVariants.{BadVersions, BadCommunities, ParseErrors, SilentDrops}
+use Rattle.mon_mib.specs.declared.counters.Counter.TheVariants.{BadVersions, BadCommunities}
+use Rattle.mon_mib.specs.declared.counters.Counter.TheVariants.{ParseErrors, SilentDrops}
 use Rattle.mon_mib.specs.declared.change.Change.{Change}
 use Rattle.mon_mib.specs.Counters.{counted}
 use Rattle.mon_mib.specs.Held.{Held}
@@ -26,7 +28,8 @@ use Rattle.mon_mib.specs.Known.{Known}
 use Rattle.mon_agent.specs.declared.reply.Reply.{Reply}
 use Rattle.mon_agent.specs.declared.reply.Reply.TheVariants.{Send, Silent}
 use Rattle.mon_agent.specs.declared.reply.Silence.{Silence}
-use Rattle.mon_agent.specs.declared.reply.Silence.TheVariants.{BadMessage, BadVersion, BadCommunity, NotARequest, TooBigTwice}
+use Rattle.mon_agent.specs.declared.reply.Silence.TheVariants.{BadMessage, BadVersion, BadCommunity}
+use Rattle.mon_agent.specs.declared.reply.Silence.TheVariants.{NotARequest, TooBigTwice}
 use Rattle.mon_agent.specs.Bulk.{IsBulk}
 use Rattle.mon_agent.specs.Assigned.{IsSet}
 use Rattle.mon_agent.specs.Reply.{response, answered, IsWithinLimit, IsOut}
@@ -45,12 +48,12 @@ is_request (bodies.Pdu p) = is_answered p.kind
 is_request (bodies.Bulk p) = true
 
 -- what a request needs: a Set to write, the others to read
-abbrev pub need_of_kind : PduKind → Need
+abbrev pub need_of_kind : PduKind → ViewType
 need_of_kind kinds.Set = Write
 need_of_kind other = Read
 
 -- what the request of a body needs
-abbrev pub need_of : Body → Need
+abbrev pub need_of : Body → ViewType
 need_of (bodies.Pdu p) = need_of_kind p.kind
 need_of (bodies.Bulk p) = Read
 
@@ -63,14 +66,16 @@ IsOfKind k sees other asked answers = ⊥
 -- the variable bindings that answer a request to read
 abbrev pub AreAnswers : Known → (List ℕ → Type 0) → Message → Body → List Binding → Type 0
 AreAnswers k sees m (bodies.Pdu p) answers = IsOfKind k sees p.kind p.bindings answers
-AreAnswers k sees m (bodies.Bulk p) answers = IsBulk k sees (λ bindings. IsWithinLimit k.settings.limit (answered m bindings)) p answers
+AreAnswers k sees m (bodies.Bulk p) answers = IsBulk k sees (λ bindings. IsWithinLimit
+    k.settings.limit (answered m bindings)) p answers
 
 -- the response without an error, with the variable bindings that answer a request to read
 abbrev pub IsReading : Known → (List ℕ → Type 0) → Message → Message → Type 0
-IsReading k sees m reply = (answers : List Binding) × AreAnswers k sees m m.body answers × (reply ≡ answered m answers)
+IsReading k sees m reply = (answers : List Binding) × AreAnswers k sees m m.body answers
+    × (reply ≡ answered m answers)
 
 -- the request's community is known
-abbrev pub IsKnown : Lists → Message → Type 0
+abbrev pub IsKnown : PolicyTables → Message → Type 0
 IsKnown policy m = access_of policy m.community (need_of m.body) ≢ Err NoCommunity
 
 -- why a message is not answered that is given this access
@@ -81,37 +86,46 @@ IsSilenceOf access body other = ⊥
 
 -- how devices of one kind hold, fail and refuse
 module _ {D : Type 0} (held : D → Held) (failed : D → ℕ) (refuses : D → Change → Type 0) where
-  -- the response to a request that is granted in a view, and the device then: reading leaves it as it was
-  abbrev pub IsGranted : Need → Known → (List ℕ → Type 0) → D → D → Message → Message → Type 0
+  -- the response to a request that is granted in a view, and the device then: reading leaves it as
+  -- it was
+  abbrev pub IsGranted : ViewType → Known → (List ℕ → Type 0) → D → D → Message → Message → Type 0
   IsGranted Read k sees before after m reply = (after ≡ before) × IsReading k sees m reply
-  IsGranted Write k sees before after m reply = IsSet held failed refuses k sees before after m reply
+  IsGranted Write k sees before after m reply = IsSet held failed refuses k sees before after m
+      reply
 
-  -- The response to a request of a known community. One that is denied gets its own variable bindings back with
-  -- authorizationError; else the view that the community is granted is asked.
-  abbrev pub IsResponseTo : Lists → Known → D → D → Message → Message → Type 0
+  -- The response to a request of a known community. One that is denied gets its own variable
+  -- bindings back with authorizationError; else the view that the community is granted is asked.
+  abbrev pub IsResponseTo : PolicyTables → Known → D → D → Message → Message → Type 0
   IsResponseTo policy k before after m reply =
-      ((why : Denied) × (why ≢ NoCommunity) × (access_of policy m.community (need_of m.body) ≡ Err why)
+      ((why : Denied) × (why ≢ NoCommunity) × (access_of policy m.community (need_of m.body)
+      ≡ Err why)
       × (after ≡ before) × (reply ≡ response m (pos 16) (pos 0) (bindings_of m.body)))
       ⊎ ((view : List ℕ) × (access_of policy m.community (need_of m.body) ≡ Ok view)
       × IsGranted (need_of m.body) k (IsInView policy.families view) before after m reply)
 
-  -- What a message is answered. The community is tested first, then whether it is a request; a request gets its response.
-  abbrev pub IsAnswered : Lists → Known → D → D → Message → Reply → Type 0
+  -- What a message is answered. The community is tested first, then whether it is a request; a
+  -- request gets its response.
+  abbrev pub IsAnswered : PolicyTables → Known → D → D → Message → Reply → Type 0
   IsAnswered policy k before after m (Silent BadMessage) = ⊥
   IsAnswered policy k before after m (Silent BadVersion) = ⊥
   IsAnswered policy k before after m (Silent BadCommunity) =
       (access_of policy m.community (need_of m.body) ≡ Err NoCommunity) × (after ≡ before)
-  IsAnswered policy k before after m (Silent NotARequest) = IsKnown policy m × (is_request m.body ≡ false) × (after ≡ before)
+  IsAnswered policy k before after m (Silent NotARequest) = IsKnown policy m
+      × (is_request m.body ≡ false) × (after ≡ before)
   IsAnswered policy k before after m other = IsKnown policy m × (is_request m.body ≡ true)
-      × ((reply : Message) × IsResponseTo policy k before after m reply × IsOut k.settings.limit m reply other)
+      × ((reply : Message) × IsResponseTo policy k before after m reply
+      × IsOut k.settings.limit m reply other)
 
-  -- What a datagram is answered, by the message that it begins with. Where it begins with none, its version may be another
-  -- than 1.
-  abbrev pub IsAnswer : Lists → Known → D → D → List ℕ → Reply → Type 0
+  -- What a datagram is answered, by the message that it begins with. Where it begins with none, its
+  -- version may be another than 1.
+  abbrev pub IsAnswer : PolicyTables → Known → D → D → List ℕ → Reply → Type 0
   IsAnswer policy k before after datagram (Silent BadMessage) =
-      ((m : Message) → BeginsWithMessage datagram m → ⊥) × ((v : ℤ) → IsVersioned datagram v → v ≡ pos 1) × (after ≡ before)
-  IsAnswer policy k before after datagram (Silent BadVersion) = (v : ℤ) × IsVersioned datagram v × (v ≢ pos 1) × (after ≡ before)
-  IsAnswer policy k before after datagram other = (m : Message) × BeginsWithMessage datagram m × IsAnswered policy k before after m other
+      ((m : Message) → BeginsWithMessage datagram m → ⊥) × ((v : ℤ) → IsVersioned datagram v
+      → v ≡ pos 1) × (after ≡ before)
+  IsAnswer policy k before after datagram (Silent BadVersion) = (v : ℤ) × IsVersioned datagram v
+      × (v ≢ pos 1) × (after ≡ before)
+  IsAnswer policy k before after datagram other = (m : Message) × BeginsWithMessage datagram m
+      × IsAnswered policy k before after m other
 
 -- the cause of silence about octets that could not be read; none where memory ran out
 abbrev pub cause_of : PduFault → Option Silence

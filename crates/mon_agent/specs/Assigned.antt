@@ -19,7 +19,8 @@ use Rattle.mon_agent.specs.Reply.{response, IsWithinLimit, IsAboveLimit}
 abbrev pub returned : Message → ℤ → ℤ → Message
 returned m status index = response m status index (bindings_of m.body)
 
--- the response by whose size a Set is judged before anything is assigned: its error-index is the number of variable bindings
+-- the response by whose size a Set is judged before anything is assigned: its error-index is the
+-- number of variable bindings
 abbrev pub greatest : Message → Message
 greatest m = returned m (pos 0) (pos (length (bindings_of m.body)))
 
@@ -44,7 +45,8 @@ module _ {D : Type 0} (held : D → Held) (failed : D → ℕ) (refuses : D → 
     pub is : reply ≡ greatest m
 
   -- a variable binding is refused: nothing is assigned, and the first that is refused is named
-  pub record IsSetRefused (k : Known) (sees : List ℕ → Type 0) (before after : D) (m reply : Message) : Type 0 where
+  pub record IsSetRefused (k : Known) (sees : List ℕ → Type 0) (before after : D)
+      (m reply : Message) : Type 0 where
     pub status : SetStatus
     pub index : ℕ
     pub fits : IsWithinLimit k.settings.limit (greatest m)
@@ -52,8 +54,10 @@ module _ {D : Type 0} (held : D → Held) (failed : D → ℕ) (refuses : D → 
     pub stays : after ≡ before
     pub is : reply ≡ returned m (status_number status) (pos index)
 
-  -- no variable binding is refused: all are assigned, or an assignment failed and those before it were undone
-  pub record IsAssigned (k : Known) (sees : List ℕ → Type 0) (before after : D) (m reply : Message) : Type 0 where
+  -- no variable binding is refused: all are assigned, or an assignment failed and those before it
+  -- were undone
+  pub record IsAssigned (k : Known) (sees : List ℕ → Type 0) (before after : D) (m reply : Message)
+      : Type 0 where
     pub steps : List Step
     pub outcome : Commit
     pub fits : IsWithinLimit k.settings.limit (greatest m)
@@ -66,4 +70,5 @@ module _ {D : Type 0} (held : D → Held) (failed : D → ℕ) (refuses : D → 
   -- the response to a Set that is granted in a view, and the device then
   abbrev pub IsSet : Known → (List ℕ → Type 0) → D → D → Message → Message → Type 0
   IsSet k sees before after m reply =
-      IsOversized k before after m reply ⊎ (IsSetRefused k sees before after m reply ⊎ IsAssigned k sees before after m reply)
+      IsOversized k before after m reply ⊎ (IsSetRefused k sees before after m reply
+      ⊎ IsAssigned k sees before after m reply)

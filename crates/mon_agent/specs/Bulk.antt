@@ -1,5 +1,6 @@
 -- The variable bindings of the response to a GetBulk (RFC 3416 section 4.2.3).
-use Rattle.std.specs.Prelude.{◌≡◌, ℕ, zero, suc, ◌≤◌, ℤ, Bool, true, false, if◌then◌else◌, List, [], ◌++◌, length, map, take, drop, ◌⊎◌}
+use Rattle.std.specs.Prelude.{◌≡◌, ℕ, zero, suc, ◌≤◌, ℤ, Bool, true, false, if◌then◌else◌, List, []}
+use Rattle.std.specs.Prelude.{◌++◌, length, map, take, drop, ◌⊎◌}
 use Rattle.std.specs.List.{list_all}
 use Rattle.mon_ber.specs.declared.value.Value.{Value}
 use Rattle.mon_ber.specs.declared.value.Value.TheVariants.{EndOfMibView}
@@ -23,15 +24,16 @@ is_end EndOfMibView = true
 is_end other = false
 
 -- all of a round are at the end
-abbrev pub is_last : List Binding → Bool
-is_last round = list_all (λ b. is_end b.value) round
+abbrev pub all_end_of_mib_view : List Binding → Bool
+all_end_of_mib_view round = list_all (λ b. is_end b.value) round
 
--- This many rounds, each with the answers to the names before it; none follows one that is all at the end.
+-- This many rounds, each with the answers to the names before it; none follows one that is all at
+-- the end.
 unfoldable pub rounds : (List ℕ → Binding) → ℕ → List (List ℕ) → List Binding
 rounds next zero names = []
 rounds next (suc m) names =
     let round = map next names in
-    round ++ (if is_last round then [] else rounds next m (names_of round))
+    round ++ (if all_end_of_mib_view round then [] else rounds next m (names_of round))
 
 -- one answer for each of the first names, and then rounds of answers for the others
 unfoldable pub full_list : (List ℕ → Binding) → ℤ → ℤ → List Binding → List Binding
@@ -47,9 +49,12 @@ IsBeginning part all = (rest : List Binding) × (all ≡ part ++ rest)
 pub record IsLongestPart (fits : List Binding → Type 0) (all part : List Binding) : Type 0 where
   pub begins : IsBeginning part all
   pub within : (part ≡ []) ⊎ fits part
-  pub longest : (longer : List Binding) → IsBeginning longer all → fits longer → length longer ≤ length part
+  pub longest : (longer : List Binding) → IsBeginning longer all → fits longer
+      → length longer ≤ length part
 
 -- what a GetBulk is answered: the longest beginning of the full list whose response fits
-abbrev pub IsBulk : Known → (List ℕ → Type 0) → (List Binding → Type 0) → Bulk → List Binding → Type 0
+abbrev pub IsBulk : Known → (List ℕ → Type 0) → (List Binding → Type 0) → Bulk → List Binding
+    → Type 0
 IsBulk k sees fits request answers = (next : List ℕ → Binding) → IsStepper k sees next
-    → IsLongestPart fits (full_list next request.non_repeaters request.max_repetitions request.bindings) answers
+    → IsLongestPart fits (full_list next request.non_repeaters request.max_repetitions
+    request.bindings) answers

@@ -8,7 +8,7 @@ use Rattle.mon_pdu.specs.declared.message.PduKind.{PduKind}
 use Rattle.mon_pdu.specs.declared.message.PduKind.TheVariants as kinds
 use Rattle.mon_pdu.specs.Grammar.{IsBinding}
 use Rattle.mon_pdu.specs.Writing.{list_contents, written_binding}
-use Rattle.mon_vacm.specs.Tables.{Lists}
+use Rattle.mon_vacm.specs.Tables.{PolicyTables}
 use Rattle.mon_mib.specs.declared.mib.Mib.{Mib}
 use Rattle.mon_mib.specs.declared.got.Got.TheVariants.{Found}
 use Rattle.mon_mib.specs.declared.shown.Shown.{Shown}
@@ -17,7 +17,8 @@ use Rattle.mon_mib.specs.Known.{Known}
 use Rattle.mon_mib.specs.Search.{Sought}
 use Rattle.mon_agent.specs.Step.{AreFor, IsGetAnswer, IsNextAnswer}
 
--- The octets begin with a variable binding, before `rest`. Its answer was written after what was there.
+-- The octets begin with a variable binding, before `rest`. Its answer was written after what was
+-- there.
 pub record IsPut (R : List ℕ → Binding → Type 0) (octets rest old new : List ℕ) : Type 0 where
   pub asked : Binding
   pub answer : Binding
@@ -27,7 +28,8 @@ pub record IsPut (R : List ℕ → Binding → Type 0) (octets rest old new : Li
   pub right : R asked.name answer
   pub put : new ≡ old ++ written_binding answer
 
--- The octets, all of them, spell variable bindings. Their answers were written after what was there.
+-- The octets, all of them, spell variable bindings. Their answers were written after what was
+-- there.
 pub record ArePut (R : List ℕ → Binding → Type 0) (octets old new : List ℕ) : Type 0 where
   pub asked : List Binding
   pub answers : List Binding
@@ -42,8 +44,13 @@ IsAnswerOf k sees kinds.GetNext name answer = IsNextAnswer k sees name answer
 IsAnswerOf k sees other name answer = ⊥
 
 -- a search in the view that was granted
-abbrev pub sought_in : {D : Type 0} → Mib D → Lists → List ℕ → ℕ → Sought D
-sought_in mib policy view moment = record { map = mib; families = policy.families; view = view; moment = moment }
+abbrev pub sought_in : {D : Type 0} → Mib D → PolicyTables → List ℕ → ℕ → Sought D
+sought_in mib policy view moment = record {
+  map = mib;
+  families = policy.families;
+  view = view;
+  moment = moment;
+}
 
 -- the value that answers a name in a GetNext, by what was found
 abbrev pub next_value : Option Shown → Value

@@ -3,7 +3,7 @@ pub mod Assigned
 pub mod Bulk
 pub mod Fault
 pub mod Filling
-pub mod Growing
+pub mod ResponseBuilder
 pub mod InPlace
 pub mod Ready
 pub mod Reply

@@ -19,11 +19,22 @@ count_of (negsuc n) = 0
 -- a Response of this request-id
 abbrev pub response_body : ℤ → ℤ → ℤ → List Binding → Body
 response_body request_id status index bindings =
-    Pdu (record { kind = Response; request_id = request_id; error_status = status; error_index = index; bindings = bindings })
+    Pdu (record {
+      kind = Response;
+      request_id = request_id;
+      error_status = status;
+      error_index =
+          index;
+      bindings = bindings;
+    })
 
 -- the response to a message: in its community, with its request-id
 abbrev pub response : Message → ℤ → ℤ → List Binding → Message
-response m status index bindings = record { community = m.community; body = response_body (first_of m.body) status index bindings }
+response m status index bindings = record {
+  community = m.community;
+  body = response_body
+      (first_of m.body) status index bindings;
+}
 
 -- the response without an error
 abbrev pub answered : Message → List Binding → Message
@@ -46,11 +57,13 @@ abbrev pub IsSending : Message → Reply → Type 0
 IsSending m (Send octets) = octets.items ≡ written_message m
 IsSending m (Silent cause) = ⊥
 
--- what is sent of a response: the response itself, or where it is above the limit tooBig without variable bindings
+-- what is sent of a response: the response itself, or where it is above the limit tooBig without
+-- variable bindings
 abbrev pub IsSent : ℤ → Message → Message → List ℕ → Type 0
 IsSent limit request reply octets =
     (IsWithinLimit limit reply × (octets ≡ written_message reply))
-    ⊎ (IsAboveLimit limit reply × IsWithinLimit limit (too_big request) × (octets ≡ written_message (too_big request)))
+    ⊎ (IsAboveLimit limit reply × IsWithinLimit limit (too_big request)
+    × (octets ≡ written_message (too_big request)))
 
 -- nothing is sent where both are above the limit
 abbrev pub IsDropped : ℤ → Message → Message → Type 0

@@ -1,7 +1,8 @@
 -- Why an agent is silent.
 use Rattle.std.specs.Prelude.{ℕ, List, codes}
 use Rattle.mon_agent.specs.declared.reply.Silence.{Silence}
-use Rattle.mon_agent.specs.declared.reply.Silence.TheVariants.{BadMessage, BadVersion, BadCommunity, NotARequest, TooBigTwice}
+use Rattle.mon_agent.specs.declared.reply.Silence.TheVariants.{BadMessage, BadVersion, BadCommunity}
+use Rattle.mon_agent.specs.declared.reply.Silence.TheVariants.{NotARequest, TooBigTwice}
 
 -- the number of a cause on a printed line
 abbrev pub number_of : Silence → ℕ

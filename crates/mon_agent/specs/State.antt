@@ -1,12 +1,12 @@
 -- What contracts see of an agent.
-use Rattle.mon_vacm.specs.Tables.{Lists}
+use Rattle.mon_vacm.specs.Tables.{PolicyTables}
 use Rattle.mon_mib.specs.declared.counters.Counters.{Counters}
 use Rattle.mon_mib.specs.declared.settings.Settings.{Settings}
 use Rattle.mon_mib.specs.Map.{map_counters, map_device, map_settings}
 use Rattle.mon_agent.specs.declared.agent.Agent.{Agent}
 
 -- which community may do what with which names
-abbrev pub policy_of : {D : Type 0} → Agent D → Lists
+abbrev pub policy_of : {D : Type 0} → Agent D → PolicyTables
 policy_of agent = agent.policy
 
 -- what it serves as given at the start

@@ -1,7 +1,8 @@
 -- What is in a response for a name that was asked for (RFC 3416 sections 4.2.1 and 4.2.2).
 use Rattle.std.specs.Prelude.{◌≡◌, ℕ, List, [], ◌∷◌, Some, None, ◌⊎◌}
 use Rattle.mon_ber.specs.declared.value.Value.{Value}
-use Rattle.mon_ber.specs.declared.value.Value.TheVariants.{NoSuchObject, NoSuchInstance, EndOfMibView}
+use Rattle.mon_ber.specs.declared.value.Value.TheVariants.{NoSuchObject, NoSuchInstance}
+use Rattle.mon_ber.specs.declared.value.Value.TheVariants.{EndOfMibView}
 use Rattle.mon_pdu.specs.declared.message.Binding.{Binding}
 use Rattle.mon_mib.specs.declared.got.Got.{Got}
 use Rattle.mon_mib.specs.declared.got.Got.TheVariants.{Found, NoObject, NoInstance}
@@ -18,10 +19,12 @@ got_value NoInstance = NoSuchInstance
 -- what a Get finds in a view: outside it there is no object
 abbrev pub IsSeen : Known → (List ℕ → Type 0) → List ℕ → Value → Type 0
 IsSeen k sees name value =
-    (¬ (sees name) × (value ≡ NoSuchObject)) ⊎ (sees name × ((got : Got) × IsGot k name got × (value ≡ got_value got)))
+    (¬ (sees name) × (value ≡ NoSuchObject)) ⊎ (sees name × ((got : Got) × IsGot k name got
+    × (value ≡ got_value got)))
 
 -- the answer to a name in a Get: the name itself, with what is found
-pub record IsGetAnswer (k : Known) (sees : List ℕ → Type 0) (name : List ℕ) (answer : Binding) : Type 0 where
+pub record IsGetAnswer (k : Known) (sees : List ℕ → Type 0) (name : List ℕ) (answer : Binding) :
+    Type 0 where
   pub named : answer.name ≡ name
   pub found : IsSeen k sees name answer.value
 
@@ -32,7 +35,8 @@ at_end name = record { name = name; value = EndOfMibView }
 -- the answer to a name in a GetNext: the least variable in view beyond it, or if there is none the
 -- name with endOfMibView
 abbrev pub IsNextAnswer : Known → (List ℕ → Type 0) → List ℕ → Binding → Type 0
-IsNextAnswer k sees name answer = IsNext objects k sees name (Some answer) ⊎ (IsNext objects k sees name None × (answer ≡ at_end name))
+IsNextAnswer k sees name answer = IsNext objects k sees name (Some answer)
+    ⊎ (IsNext objects k sees name None × (answer ≡ at_end name))
 
 -- one answer for each variable binding of the request, in their order
 abbrev pub AreFor : (List ℕ → Binding → Type 0) → List Binding → List Binding → Type 0

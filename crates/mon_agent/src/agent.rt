@@ -2,9 +2,9 @@
 
 ghost use Rattle.std.specs.Prelude.{◌≡◌, ◌≢◌, ◌↔◌, ℕ, true, List, Err, IfOk, IfSome, IfNone, OnErr, IsTrue};
 ghost use Rattle.mon_vacm.specs.declared.denied.Denied.TheVariants.{NoCommunity};
-ghost use Rattle.mon_vacm.specs.declared.need.Need.TheVariants.{Read};
+ghost use Rattle.mon_vacm.specs.declared.view_type.ViewType.TheVariants.{Read};
 ghost use Rattle.mon_vacm.specs.Borrowed.{granted, view_of};
-ghost use Rattle.mon_vacm.specs.Tables.{Lists as AnyLists};
+ghost use Rattle.mon_vacm.specs.Tables.{PolicyTables as AnyLists};
 ghost use Rattle.mon_vacm.specs.View.{IsInView};
 ghost use Rattle.mon_mib.specs.Counters.{counted, no_counts};
 ghost use Rattle.mon_mib.specs.declared.counters.Counter.TheVariants.{InPackets};
@@ -22,7 +22,7 @@ use crate::reply::{Reply, Silence};
 use crate::sending::{make_return, send};
 use mon_mib::{Counter, Counters, Device, Mib, Moment, Search, Settings};
 use mon_pdu::{Body, Message, PduFault, PduKind, read_message};
-use mon_vacm::{Access, Denied, Need, Policy};
+use mon_vacm::{Access, Denied, Policy, ViewType};
 use std::alloc::{AllocError, Global};
 
 /// authorizationError (RFC 3416 section 3).
@@ -73,7 +73,8 @@ impl<D: Device + Drop> Agent<D> {
         self.mib.device()
     }
 
-    /// Answers a datagram at a moment, or is silent, as `answer_into` does, with buffers of its own.
+    /// Answers a datagram at a moment, or is silent, as `answer_into` does, with buffers of its
+    /// own.
     ///
     /// # Errors
     /// `OutOfMemory`; then everything is as it was, the counters and the device too.
@@ -83,10 +84,13 @@ impl<D: Device + Drop> Agent<D> {
         datagram: &[u8],
         moment: Moment,
     ) -> Result<Reply, AgentFault>
-        // The reply, and what becomes of the device: only a Set that is granted and refused in nothing changes it.
-        ensures answer { let known = known_of (settings_of self.old) (counted (counters_of self.old) InPackets) (D.held (device_of self.old)) moment in
+        // The reply, and what becomes of the device: only a Set that is granted and refused in
+        // nothing changes it.
+        ensures answer { let known = known_of (settings_of self.old)
+            (counted (counters_of self.old) InPackets) (D.held (device_of self.old)) moment in
             IfOk result (IsAnswer D.held D.failed D.refuses (policy_of self.old) known (device_of self.old) (device_of self.new) datagram.now) }
-        ensures counters { IfOk result (λ reply. (counters_of self.new) ≡ raised_by reply (counted (counters_of self.old) InPackets)) }
+        ensures counters { IfOk result (λ reply. (counters_of self.new)
+            ≡ raised_by reply (counted (counters_of self.old) InPackets)) }
 
         // The rest stays.
         ensures policy { policy_of self.new ≡ policy_of self.old }
@@ -102,8 +106,8 @@ impl<D: Device + Drop> Agent<D> {
     /// Answers a datagram at a moment, or is silent. Every datagram counts in snmpInPkts before it
     /// is answered, and then in the counter of its cause where it is not answered. A Set that is
     /// refused, or is too big, assigns nothing; all memory of a Set, its response's too, is taken
-    /// before the first assignment. A Get or GetNext whose response fits, and a GetBulk, is read in place
-    /// and written into the buffers; the reply has the memory of one of them, which
+    /// before the first assignment. A Get or GetNext whose response fits, and a GetBulk, is read in
+    /// place and written into the buffers; the reply has the memory of one of them, which
     /// `ReplyBuffers::keep` takes back.
     ///
     /// # Errors
@@ -115,10 +119,13 @@ impl<D: Device + Drop> Agent<D> {
         moment: Moment,
         buffers: &mut ReplyBuffers,
     ) -> Result<Reply, AgentFault>
-        // The reply, and what becomes of the device: only a Set that is granted and refused in nothing changes it.
-        ensures answer { let known = known_of (settings_of self.old) (counted (counters_of self.old) InPackets) (D.held (device_of self.old)) moment in
+        // The reply, and what becomes of the device: only a Set that is granted and refused in
+        // nothing changes it.
+        ensures answer { let known = known_of (settings_of self.old)
+            (counted (counters_of self.old) InPackets) (D.held (device_of self.old)) moment in
             IfOk result (IsAnswer D.held D.failed D.refuses (policy_of self.old) known (device_of self.old) (device_of self.new) datagram.now) }
-        ensures counters { IfOk result (λ reply. (counters_of self.new) ≡ raised_by reply (counted (counters_of self.old) InPackets)) }
+        ensures counters { IfOk result (λ reply. (counters_of self.new)
+            ≡ raised_by reply (counted (counters_of self.old) InPackets)) }
 
         // The rest stays.
         ensures policy { policy_of self.new ≡ policy_of self.old }
@@ -203,8 +210,8 @@ impl<D: Device + Drop> Agent<D> {
                 make_answer(send(alloc, denied, self.mib.settings().limit))
             }
             Ok(access) => match need {
-                Need::Write => self.prepare_set(alloc, access, message, moment),
-                Need::Read => make_answer(self.read_in(alloc, access, message, moment)),
+                ViewType::Write => self.prepare_set(alloc, access, message, moment),
+                ViewType::Read => make_answer(self.read_in(alloc, access, message, moment)),
             },
         }
     }
@@ -231,7 +238,8 @@ impl<D: Device + Drop> Agent<D> {
         requires { IsRoomy ready }
         ensures answer { (policy : AnyLists) (k : AnyKnown) (datagram : List ℕ)
             → IsReady D.held D.failed D.refuses policy k (map_device self.old.mib) datagram ready
-            → IsAnswer D.held D.failed D.refuses policy k (map_device self.old.mib) (map_device self.new.mib) datagram result }
+            → IsAnswer D.held D.failed D.refuses policy k (map_device self.old.mib)
+            (map_device self.new.mib) datagram result }
         ensures policy { self.new.policy ≡ self.old.policy }
         ensures settings { map_settings self.new.mib ≡ map_settings self.old.mib }
         ensures counters { map_counters self.new.mib ≡ map_counters self.old.mib }
@@ -268,12 +276,12 @@ fn raise<D: Device + Drop>(mib: &mut Mib<D>, reply: &Reply)
 }
 
 /// What a message needs of a view.
-fn need_of(body: &Body) -> Need
+fn need_of(body: &Body) -> ViewType
     ensures { result ≡ need_of body.now }
 {
     match body {
-        Body::Pdu(pdu) if pdu.kind == PduKind::Set => Need::Write,
-        _ => Need::Read,
+        Body::Pdu(pdu) if pdu.kind == PduKind::Set => ViewType::Write,
+        _ => ViewType::Read,
     }
 }
 
@@ -290,7 +298,8 @@ fn is_request(body: &Body) -> bool
 /// Why a message of this body that is given this access is not answered, if it is not.
 fn silence_of(access: &Result<Access<'_>, Denied>, body: &Body) -> Option<Silence>
     ensures some { IfSome result (IsSilenceOf (granted access.now) body.now) }
-    ensures none { IfNone result ((granted access.now ≢ Err NoCommunity) × (is_request body.now ≡ true)) }
+    ensures none { IfNone result ((granted access.now ≢ Err NoCommunity)
+        × (is_request body.now ≡ true)) }
 {
     if is_unknown(access) {
         return Some(Silence::BadCommunity);

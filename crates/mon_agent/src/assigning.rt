@@ -28,8 +28,9 @@ const COMMIT_FAILED: i32 = 14;
 const UNDO_FAILED: i32 = 15;
 
 impl<D: Device + Drop> Agent<D> {
-    /// What the agent is about to do about a Set that is granted in a view. First the Set's size is judged, then each variable
-    /// binding; then all memory for assigning and for the response is taken.
+    /// What the agent is about to do about a Set that is granted in a view. First the Set's size is
+    /// judged, then each variable binding; then all memory for assigning and for the response is
+    /// taken.
     pub(crate) fn prepare_set(
         &self,
         alloc: Global,
@@ -64,9 +65,12 @@ impl<D: Device + Drop> Agent<D> {
     /// Assigns what a Set asks for, and writes its response. It allocates nothing.
     pub(crate) fn assign(&mut self, set: Assigning) -> Vec<u8>
         requires { HasRoomForErrors set }
-        ensures assigned { (outcome : AnyCommit) × IsCommitted D.held D.refuses set.plan (D.held (map_device self.old.mib)) (D.held (map_device self.new.mib)) outcome
-            × (D.failed (map_device self.new.mib) ≡ failures_by_then outcome (D.failed (map_device self.old.mib)))
-            × (result.items ≡ written_message (returned set.response (status_of outcome) (pos (place_of outcome)))) }
+        ensures assigned { (outcome : AnyCommit) × IsCommitted D.held D.refuses set.plan
+            (D.held (map_device self.old.mib)) (D.held (map_device self.new.mib)) outcome
+            × (D.failed (map_device self.new.mib) ≡ failures_by_then outcome
+            (D.failed (map_device self.old.mib)))
+            × (result.items ≡ written_message (returned set.response (status_of outcome)
+            (pos (place_of outcome)))) }
         ensures shorter { length result.items ≤ length (written_message set.response) }
 
         // The rest stays.
@@ -121,7 +125,8 @@ fn make_refusal(
     }
 }
 
-/// The error status of what assigning has come to, and the number of the variable binding that its error index names.
+/// The error status of what assigning has come to, and the number of the variable binding that its
+/// error index names.
 fn error_of(commit: &Commit) -> (i32, usize)
     ensures status { result.0 ≡ status_of commit.now }
     ensures place { result.1 ≡ place_of commit.now }

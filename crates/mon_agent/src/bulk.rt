@@ -4,11 +4,11 @@ ghost use Rattle.std.specs.Prelude.{◌≡◌, ◌≤◌, ◌+◌, ◌++◌, [],
 ghost use Rattle.mon_pdu.specs.declared.message.Binding.{Binding as AnyBinding};
 ghost use Rattle.mon_mib.specs.Search.{IsSeenIn, known_in};
 ghost use Rattle.mon_agent.specs.Bulk.{IsStepper, names_of, full_list};
-ghost use Rattle.mon_agent.specs.Growing.{FitsWith, IsPut, IsEnded, last, more_rounds};
+ghost use Rattle.mon_agent.specs.ResponseBuilder.{FitsWith, IsPut, IsEnded, last, more_rounds};
 ghost use Rattle.mon_agent.specs.Reply.{count_of};
 
-use crate::growing::Growing;
 use crate::reading::step;
+use crate::response_builder::ResponseBuilder;
 use mon_mib::{Device, Search};
 use mon_pdu::{Binding, Bulk};
 use std::alloc::{AllocError, Global};
@@ -17,13 +17,14 @@ use std::alloc::{AllocError, Global};
 pub(crate) fn bulk<D: Device + Drop>(
     alloc: Global,
     search: &mut Search<'_, D>,
-    reply: &mut Growing,
+    reply: &mut ResponseBuilder,
     request: &Bulk,
 ) -> Result<(), AllocError>
     requires { reply.old.bindings ≡ [] }
     ensures head { reply.new.head ≡ reply.old.head }
     ensures limit { reply.new.limit ≡ reply.old.limit }
-    ensures put { (next : List ℕ → AnyBinding) → IsStepper (known_in D.held search.old) (IsSeenIn search.old) next
+    ensures put { (next : List ℕ → AnyBinding) → IsStepper (known_in D.held search.old)
+        (IsSeenIn search.old) next
         → OnOk result (IsEnded (FitsWith reply.old)
         (full_list next request.now.non_repeaters request.now.max_repetitions request.now.bindings) reply.new.bindings) }
 {
@@ -55,15 +56,18 @@ fn split(request: &Bulk) -> (&[Binding], &[Binding])
 pub(crate) fn extend<D: Device + Drop>(
     alloc: Global,
     search: &mut Search<'_, D>,
-    reply: &mut Growing,
+    reply: &mut ResponseBuilder,
     asked: &[Binding],
 ) -> Result<bool, AllocError>
     ensures stays { search.new ≡ search.old }
     ensures head { reply.new.head ≡ reply.old.head }
     ensures limit { reply.new.limit ≡ reply.old.limit }
-    ensures put { (next : List ℕ → AnyBinding) → IsStepper (known_in D.held search.old) (IsSeenIn search.old) next
-        → IfOk result (λ all. IsPut (FitsWith reply.old) (reply.old.bindings ++ map next (names_of asked.now)) all reply.new.bindings) }
-    ensures long { result ≡ Ok true → length reply.new.bindings ≡ length reply.old.bindings + length asked.now }
+    ensures put { (next : List ℕ → AnyBinding) → IsStepper (known_in D.held search.old)
+        (IsSeenIn search.old) next
+        → IfOk result (λ all. IsPut (FitsWith reply.old) (reply.old.bindings
+        ++ map next (names_of asked.now)) all reply.new.bindings) }
+    ensures long { result ≡ Ok true → length reply.new.bindings
+        ≡ length reply.old.bindings + length asked.now }
 {
     for binding in asked {
         let found = step(alloc, search, &binding.name)?;
@@ -74,23 +78,25 @@ pub(crate) fn extend<D: Device + Drop>(
     Ok(true)
 }
 
-/// Adds this many rounds of answers to the names of the last `width`, each to the names before; none after one that is at the end.
+/// Adds this many rounds of answers to the names of the last `width`, each to the names before;
+/// none after one that is at the end.
 fn repeat_all<D: Device + Drop>(
     alloc: Global,
     search: &mut Search<'_, D>,
-    reply: &mut Growing,
+    reply: &mut ResponseBuilder,
     width: usize,
     rounds: usize,
 ) -> Result<(), AllocError>
     requires { width ≤ length reply.old.bindings }
     ensures head { reply.new.head ≡ reply.old.head }
     ensures limit { reply.new.limit ≡ reply.old.limit }
-    ensures put { (next : List ℕ → AnyBinding) → IsStepper (known_in D.held search.old) (IsSeenIn search.old) next
+    ensures put { (next : List ℕ → AnyBinding) → IsStepper (known_in D.held search.old)
+        (IsSeenIn search.old) next
         → OnOk result (IsEnded (FitsWith reply.old)
         (reply.old.bindings ++ more_rounds next rounds (last width reply.old.bindings)) reply.new.bindings) }
 {
     for _ in 0..rounds {
-        if reply.is_last(width) {
+        if reply.all_end_of_mib_view(width) {
             return Ok(());
         }
         if !repeat(alloc, search, reply, width)? {
@@ -105,14 +111,15 @@ fn repeat_all<D: Device + Drop>(
 fn repeat<D: Device + Drop>(
     alloc: Global,
     search: &mut Search<'_, D>,
-    reply: &mut Growing,
+    reply: &mut ResponseBuilder,
     width: usize,
 ) -> Result<bool, AllocError>
     requires { width ≤ length reply.old.bindings }
     ensures stays { search.new ≡ search.old }
     ensures head { reply.new.head ≡ reply.old.head }
     ensures limit { reply.new.limit ≡ reply.old.limit }
-    ensures put { (next : List ℕ → AnyBinding) → IsStepper (known_in D.held search.old) (IsSeenIn search.old) next
+    ensures put { (next : List ℕ → AnyBinding) → IsStepper (known_in D.held search.old)
+        (IsSeenIn search.old) next
         → IfOk result (λ all. IsPut (FitsWith reply.old)
         (reply.old.bindings ++ map next (names_of (last width reply.old.bindings))) all reply.new.bindings) }
     ensures wide { result ≡ Ok true → width ≤ length reply.new.bindings }

@@ -1,5 +1,5 @@
-//! Answering a GetBulk in place (RFC 3416 section 4.2.3): the names that it asks for are kept, each round
-//! puts those of its answers in their places, and the answers are written as they come.
+//! Answering a GetBulk in place (RFC 3416 section 4.2.3): the names that it asks for are kept, each
+//! round puts those of its answers in their places, and the answers are written as they come.
 
 ghost use Rattle.std.specs.Prelude.{◌≡◌, ◌↔◌, ◌++◌, ◌∷◌, ◌≤◌, ◌<◌, ◌≢◌, ◌⊎◌, ℕ, List, [], length, map, take, drop, IfSome, OnSome, true, IsTrue};
 ghost use Rattle.mon_ber.specs.Sequence.{AreSpelled};
@@ -14,8 +14,8 @@ ghost use Rattle.mon_agent.specs.InPlace.{answer_at, next_value};
 ghost use Rattle.mon_agent.specs.Reply.{answered, count_of};
 
 use crate::bulk::count;
-use crate::growing::is_end;
 use crate::in_place::{advance, asked_name, put_found, response_frame};
+use crate::response_builder::is_end;
 use mon_ber::writing::LIMIT;
 use mon_mib::{Device, Got, Search, Shown};
 use mon_oid::Oid;
@@ -80,7 +80,8 @@ pub(crate) fn read_names(alloc: Global, octets: &[u8], names: &mut Vec<Oid>) -> 
 
 /// Lists the name of the variable binding that the octets begin with, and returns what follows it.
 fn read_name<'b>(alloc: Global, octets: &'b [u8], names: &mut Vec<Oid>) -> Option<&'b [u8]>
-    ensures named { IfSome result (λ rest. (text : List ℕ) × (asked : AnyBinding) × IsBinding text asked
+    ensures named { IfSome result (λ rest. (text : List ℕ) × (asked : AnyBinding)
+        × IsBinding text asked
         × (octets.now ≡ text ++ rest.now) × (names.new.items ≡ names.old.items ++ asked.name ∷ [])) }
     ensures shorter { IfSome result (λ rest. length rest.now < length octets.now) }
 {
@@ -98,7 +99,8 @@ pub(crate) fn fill<D: Device + Drop>(
     list: &mut Vec<u8>,
 ) -> Option<()>
     requires { list.old.items ≡ [] }
-    ensures { OnSome result (IsFilled (known_in D.held search.old) (IsSeenIn search.old) (FitsIn plan.now)
+    ensures { OnSome result (IsFilled (known_in D.held search.old) (IsSeenIn search.old)
+        (FitsIn plan.now)
         (λ next. map next (take plan.now.once names.old) ++ rounds next plan.now.rounds (drop plan.now.once names.old)) list.new.items) }
 {
     let once = plan.once.min(names.len());
@@ -119,7 +121,8 @@ fn put_rounds<D: Device + Drop>(
     list: &mut Vec<u8>,
 ) -> Option<()>
     ensures { (before : List AnyBinding) → list.old.items ≡ list_contents before
-        → OnSome result (IsFilled (known_in D.held search.old) (IsSeenIn search.old) (FitsIn plan.now)
+        → OnSome result (IsFilled (known_in D.held search.old) (IsSeenIn search.old)
+        (FitsIn plan.now)
         (λ next. before ++ rounds next plan.now.rounds names.old) list.new.items) }
 {
     for _ in 0..plan.rounds {
@@ -141,11 +144,12 @@ fn put_round<D: Device + Drop>(
     list: &mut Vec<u8>,
 ) -> Option<Round>
     ensures put { (before : List AnyBinding) → list.old.items ≡ list_contents before
-        → IfSome result (λ round. IsRoundPut (known_in D.held search.old) (IsSeenIn search.old) (FitsIn plan.now) round before
+        → IfSome result (λ round. IsRoundPut (known_in D.held search.old) (IsSeenIn search.old)
+        (FitsIn plan.now) round before
         names.old names.new list.new.items) }
     ensures stays { search.new ≡ search.old }
 {
-    let mut is_last = true;
+    let mut all_end = true;
     for name in names.iter_mut() {
         let Ok(found) = advance(alloc, search, name) else {
             return None;
@@ -153,9 +157,9 @@ fn put_round<D: Device + Drop>(
         if !put_fitting(plan, name, &found, list)? {
             return Some(Round::Full);
         }
-        is_last = is_last && is_at_end(&found);
+        all_end = all_end && is_at_end(&found);
     }
-    Some(if is_last { Round::Last } else { Round::More })
+    Some(if all_end { Round::Last } else { Round::More })
 }
 
 /// Returns `true` if the answer by what was found is endOfMibView.
@@ -178,7 +182,8 @@ fn put_fitting(
     list: &mut Vec<u8>,
 ) -> Option<bool>
     ensures { (before : List AnyBinding) → list.old.items ≡ list_contents before
-        → IfSome result (λ fits. IsOnePut (FitsIn plan.now) before (answer_at name.now found.now) fits list.new.items) }
+        → IfSome result (λ fits. IsOnePut (FitsIn plan.now) before (answer_at name.now found.now)
+        fits list.new.items) }
 {
     let before = list.len();
     put_found(list, name, found, i32::MAX)?;

@@ -1,6 +1,6 @@
-//! Answering a Get, GetNext or GetBulk in place: no message and no list of variable bindings is made
-//! of it, and the response is written into buffers that are kept. Any other datagram is read as a
-//! message.
+//! Answering a Get, GetNext or GetBulk in place: no message and no list of variable bindings is
+//! made of it, and the response is written into buffers that are kept. Any other datagram is read
+//! as a message.
 
 ghost use Rattle.std.specs.Prelude.{pos, Ok, ◌≡◌, ◌<◌, ◌↔◌, ◌⊎◌, ◌++◌, ◌∷◌, ◌+◌, ◌≤◌, ◌^◌, ℕ, List, length, IfSome, OnSome, IfOk, IsTrue, vec_len, vec_capacity};
 ghost use Rattle.mon_ber.specs.declared.value.Value.{Value as AnyValue};
@@ -10,7 +10,7 @@ ghost use Rattle.mon_pdu.specs.Grammar.{IsBinding};
 ghost use Rattle.mon_pdu.specs.Framed.{bulk_framed, framed};
 ghost use Rattle.mon_pdu.specs.Writing.{list_contents, written_binding, written_message};
 ghost use Rattle.mon_ber.specs.Sequence.{AreSpelled};
-ghost use Rattle.mon_vacm.specs.declared.need.Need.TheVariants.{Read};
+ghost use Rattle.mon_vacm.specs.declared.view_type.ViewType.TheVariants.{Read};
 ghost use Rattle.mon_vacm.specs.Access.{access_of};
 ghost use Rattle.mon_mib.specs.Map.{known_by, map_device};
 ghost use Rattle.mon_mib.specs.Search.{IsSeenIn, known_in};
@@ -25,10 +25,10 @@ ghost use Rattle.mon_agent.specs.Step.{IsGetAnswer, IsNextAnswer};
 use crate::agent::Agent;
 use crate::buffers::ReplyBuffers;
 use crate::bulk_in_place::{BulkPlan, fill, read_names};
-use crate::growing::is_within;
 use crate::laws;
 use crate::reading::got_value;
 use crate::reply::Reply;
+use crate::response_builder::is_within;
 use crate::sending::NO_ERROR;
 use mon_ber::element::element_at;
 use mon_ber::reading::name_at;
@@ -40,7 +40,7 @@ use mon_ber::{SEQUENCE, Value};
 use mon_mib::{Device, Got, Moment, Search, Shown};
 use mon_oid::Oid;
 use mon_pdu::{BulkFrame, Frame, PduKind, read_bulk_frame, read_frame, write_frame};
-use mon_vacm::Need;
+use mon_vacm::ViewType;
 use std::alloc::{AllocError, Global};
 use std::mem;
 
@@ -51,9 +51,9 @@ const LONGEST: usize = 65535;
 const NULL: [u8; 2] = [5, 0];
 
 impl<D: Device + Drop> Agent<D> {
-    /// The octets of the reply to a datagram that is a Get, GetNext or GetBulk which is granted, each
-    /// of its values spelled as `NULL`, and whose response is within the limit. Returns `None` for
-    /// any other datagram, or if memory ran out.
+    /// The octets of the reply to a datagram that is a Get, GetNext or GetBulk which is granted,
+    /// each of its values spelled as `NULL`, and whose response is within the limit. Returns `None`
+    /// for any other datagram, or if memory ran out.
     pub(crate) fn in_place(
         &self,
         alloc: Global,
@@ -131,10 +131,11 @@ impl<D: Device + Drop> Agent<D> {
         community: &[u8],
         moment: Moment,
     ) -> Option<Search<'a, D>>
-        ensures { IfSome result (λ s. (view : List ℕ) × (access_of self.now.policy community.now Read ≡ Ok view)
+        ensures { IfSome result (λ s. (view : List ℕ) × (access_of self.now.policy community.now
+            Read ≡ Ok view)
             × (s ≡ sought_in self.now.mib self.now.policy view moment)) }
     {
-        match self.policy.access(community, Need::Read) {
+        match self.policy.access(community, ViewType::Read) {
             Ok(access) => Some(Search::new(alloc, &self.mib, &self.policy, access, moment)),
             Err(_) => None,
         }
@@ -145,7 +146,11 @@ impl<D: Device + Drop> Agent<D> {
 /// bindings that were written before.
 pub(crate) fn response_frame<'a>(community: &'a [u8], request_id: i32, list: &'a [u8]) -> Frame<'a>
     ensures framed { (bindings : List AnyBinding) → framed result bindings
-        ≡ record { community = community.now; body = response_body request_id (pos 0) (pos 0) bindings } }
+        ≡ record {
+          community = community.now;
+          body = response_body request_id (pos 0) (pos 0)
+              bindings;
+        } }
     ensures list { result.list.now ≡ list.now }
 {
     Frame {
@@ -170,7 +175,11 @@ fn take_response(
 ) -> Option<Vec<u8>>
     ensures written { (bindings : List AnyBinding) → buffers.old.list.items ≡ list_contents bindings
         → IfSome result (λ octets. octets.items
-        ≡ written_message (record { community = community.now; body = response_body request_id (pos 0) (pos 0) bindings })) }
+        ≡ written_message (record {
+          community = community.now;
+          body = response_body request_id
+              (pos 0) (pos 0) bindings;
+        })) }
     ensures within { IfSome result (λ octets. length octets.items ≤ count_of limit) }
 {
     let frame = response_frame(community, request_id, buffers.list.as_slice());
@@ -193,7 +202,8 @@ fn put_answers<D: Device + Drop>(
     frame: &Frame<'_>,
     out: &mut Vec<u8>,
 ) -> Option<()>
-    ensures { OnSome result (ArePut (IsAnswerOf (known_in D.held search.old) (IsSeenIn search.old) frame.now.kind)
+    ensures { OnSome result (ArePut (IsAnswerOf (known_in D.held search.old) (IsSeenIn search.old)
+        frame.now.kind)
         frame.now.list.now out.old.items out.new.items) }
 {
     let mut rest = frame.list;
@@ -214,7 +224,8 @@ fn put_answer<'b, D: Device + Drop>(
     octets: &'b [u8],
     out: &mut Vec<u8>,
 ) -> Option<&'b [u8]>
-    ensures put { IfSome result (λ rest. IsPut (IsAnswerOf (known_in D.held search.old) (IsSeenIn search.old) kind)
+    ensures put { IfSome result (λ rest. IsPut (IsAnswerOf (known_in D.held search.old)
+        (IsSeenIn search.old) kind)
         octets.now rest.now out.old.items out.new.items) }
     ensures shorter { IfSome result (λ rest. length rest.now < length octets.now) }
     ensures stays { search.new ≡ search.old }
@@ -250,16 +261,18 @@ fn put_for<D: Device + Drop>(
     }
 }
 
-/// The value that answers a name in a GetNext, whose place the name of the answer takes. Where there
-/// is none, the name stays, and its answer is endOfMibView.
+/// The value that answers a name in a GetNext, whose place the name of the answer takes. Where
+/// there is none, the name stays, and its answer is endOfMibView.
 pub(crate) fn advance<'s, D: Device + Drop>(
     alloc: Global,
     search: &mut Search<'s, D>,
     name: &mut Oid,
 ) -> Result<Option<Shown<'s>>, AllocError>
-    ensures step { IfOk result (λ found. IsNextAnswer (known_in D.held search.old) (IsSeenIn search.old) name.old (answer_at name.new found)) }
+    ensures step { IfOk result (λ found. IsNextAnswer (known_in D.held search.old)
+        (IsSeenIn search.old) name.old (answer_at name.new found)) }
     // It is the one that every right choice of answers has.
-    ensures only { (next : List ℕ → AnyBinding) → IsStepper (known_in D.held search.old) (IsSeenIn search.old) next
+    ensures only { (next : List ℕ → AnyBinding) → IsStepper (known_in D.held search.old)
+        (IsSeenIn search.old) next
         → IfOk result (λ found. answer_at name.new found ≡ next name.old) }
     ensures stays { search.new ≡ search.old }
 {
@@ -275,7 +288,8 @@ pub(crate) fn put_found(
     found: &Option<Shown<'_>>,
     limit: i32,
 ) -> Option<()>
-    ensures { OnSome result (out.new.items ≡ out.old.items ++ written_binding (answer_at name.now found.now)) }
+    ensures { OnSome result (out.new.items ≡ out.old.items ++ written_binding
+        (answer_at name.now found.now)) }
 {
     match found {
         Some(Shown::Octets(octets)) => put_octets_binding(out, name, octets, limit),
@@ -321,7 +335,8 @@ pub(crate) fn asked_name(alloc: Global, octets: &[u8]) -> Option<(Oid, &[u8])>
 
 /// Writes a variable binding, whose value is octets. Returns `None` as `put_head` does.
 fn put_octets_binding(out: &mut Vec<u8>, name: &Oid, octets: &[u8], limit: i32) -> Option<()>
-    ensures { let binding : AnyBinding = record { name = name.now; value = Value.Octets octets.now } in
+    ensures { let binding : AnyBinding = record { name = name.now; value = Value.Octets octets.now }
+        in
         OnSome result (out.new.items ≡ out.old.items ++ written_binding binding) }
 {
     put_head(out, name, octets.len(), limit)?;
@@ -341,7 +356,8 @@ fn put_binding(out: &mut Vec<u8>, name: &Oid, value: &Value, limit: i32) -> Opti
 }
 
 /// Writes a variable binding up to its value, whose contents take this many octets, and takes
-/// memory for the value. Returns `None` if `out` is then longer than the limit, or if memory ran out.
+/// memory for the value. Returns `None` if `out` is then longer than the limit, or if memory ran
+/// out.
 fn put_head(out: &mut Vec<u8>, name: &Oid, value_len: usize, limit: i32) -> Option<()>
     ensures put { OnSome result (out.new.items ≡ (out.old.items
         ++ (0x30 ∷ length_octets (size_for (length (name_octets name.now)) + size_for value_len)))

@@ -1,11 +1,12 @@
-//! What is sent for a request to read (RFC 3416 sections 4.2.1 to 4.2.3), by a search in the view that it is granted.
+//! What is sent for a request to read (RFC 3416 sections 4.2.1 to 4.2.3), by a search in the view
+//! that it is granted.
 
 ghost use Rattle.std.specs.Prelude.{◌≡◌, ℕ, true, List, IfOk};
 ghost use Rattle.mon_pdu.specs.declared.message.Binding.{Binding as AnyBinding};
 ghost use Rattle.mon_pdu.specs.declared.message.Body.TheVariants as bodies;
 ghost use Rattle.mon_pdu.specs.declared.message.Message.{Message as AnyMessage};
 ghost use Rattle.mon_pdu.specs.Sizes.{with_bindings};
-ghost use Rattle.mon_vacm.specs.declared.need.Need.TheVariants.{Read};
+ghost use Rattle.mon_vacm.specs.declared.view_type.ViewType.TheVariants.{Read};
 ghost use Rattle.mon_mib.specs.Search.{IsSeenIn, known_in};
 ghost use Rattle.mon_agent.specs.Answer.{IsReading, is_answered, is_request, need_of, need_of_kind};
 ghost use Rattle.mon_agent.specs.Bulk.{IsStepper};
@@ -13,9 +14,9 @@ ghost use Rattle.mon_agent.specs.Sent.{IsReadOut, IsSentFor};
 ghost use Rattle.mon_agent.specs.Step.{AreFor, IsGetAnswer, IsNextAnswer, got_value};
 
 use crate::bulk::{bulk, extend};
-use crate::growing::{Growing, with_bindings};
 use crate::laws;
 use crate::reply::Reply;
+use crate::response_builder::{ResponseBuilder, with_bindings};
 use crate::sending::{make_response, send, send_too_big};
 use mon_ber::{Octets, Value};
 use mon_mib::{Device, Got, Search};
@@ -104,8 +105,8 @@ pub(crate) fn got_value(got: Got) -> Value
     }
 }
 
-/// What is sent for a GetNext, whose response without variable bindings this is. No name is answered after the response is
-/// certain to be above the limit.
+/// What is sent for a GetNext, whose response without variable bindings this is. No name is
+/// answered after the response is certain to be above the limit.
 fn read_next<D: Device + Drop>(
     alloc: Global,
     search: &mut Search<'_, D>,
@@ -118,7 +119,7 @@ fn read_next<D: Device + Drop>(
     mon_pdu::laws::grows();
     laws::stepper();
     let limit = search.settings().limit;
-    let mut reply = Growing::new(alloc, head, limit);
+    let mut reply = ResponseBuilder::new(alloc, head, limit);
     let all = extend(alloc, search, &mut reply, asked)?;
     if all {
         reply.send(alloc)
@@ -134,7 +135,8 @@ fn read_bulk<D: Device + Drop>(
     community: Octets,
     bulk: Bulk,
 ) -> Result<Reply, AllocError>
-    ensures { let message : AnyMessage = record { community = community; body = bodies.Bulk bulk } in
+    ensures { let message : AnyMessage = record { community = community; body = bodies.Bulk bulk }
+        in
         IfOk result (IsReadOut (known_in D.held search.old) (IsSeenIn search.old) message) }
 {
     let response = bulk_response(alloc, search, community, bulk)?;
@@ -147,14 +149,18 @@ fn bulk_response<D: Device + Drop>(
     search: &mut Search<'_, D>,
     community: Octets,
     request: Bulk,
-) -> Result<Growing, AllocError>
-    ensures reading { let message : AnyMessage = record { community = community; body = bodies.Bulk request } in
+) -> Result<ResponseBuilder, AllocError>
+    ensures reading { let message : AnyMessage = record {
+      community = community;
+      body = bodies.Bulk
+          request;
+    } in
         IfOk result (λ response. IsReading (known_in D.held search.old) (IsSeenIn search.old) message (with_bindings response.head response.bindings)) }
     ensures limit { IfOk result (λ response. response.limit ≡ search.old.map.settings.limit) }
 {
     mon_pdu::laws::grows();
     let head = make_response(community, request.request_id, Vec::new(alloc));
-    let mut reply = Growing::new(alloc, head, search.settings().limit);
+    let mut reply = ResponseBuilder::new(alloc, head, search.settings().limit);
     bulk(alloc, search, &mut reply, &request)?;
     reply.look();
     Ok(reply)
@@ -166,9 +172,11 @@ pub(crate) fn step<D: Device + Drop>(
     search: &mut Search<'_, D>,
     name: &Oid,
 ) -> Result<Binding, AllocError>
-    ensures step { IfOk result (IsNextAnswer (known_in D.held search.old) (IsSeenIn search.old) name.now) }
+    ensures step { IfOk result (IsNextAnswer (known_in D.held search.old) (IsSeenIn search.old)
+        name.now) }
     // It is the one that every right choice of answers has.
-    ensures only { (next : List ℕ → AnyBinding) → IsStepper (known_in D.held search.old) (IsSeenIn search.old) next
+    ensures only { (next : List ℕ → AnyBinding) → IsStepper (known_in D.held search.old)
+        (IsSeenIn search.old) next
         → IfOk result (λ answer. answer ≡ next name.now) }
     ensures stays { search.new ≡ search.old }
 {

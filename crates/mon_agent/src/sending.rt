@@ -8,8 +8,8 @@ ghost use Rattle.mon_pdu.specs.Writing.{HasLength, list_contents, written_messag
 ghost use Rattle.mon_agent.specs.Assigned.{returned};
 ghost use Rattle.mon_agent.specs.Reply.{IsWithinLimit, IsAboveLimit, IsOut, IsSending, response_body, too_big};
 
-use crate::growing::is_within;
 use crate::reply::{Reply, Silence};
+use crate::response_builder::is_within;
 use mon_ber::Octets;
 use mon_pdu::{
     Binding, Bindings, Body, Message, Pdu, PduKind, list_len, size_with, write_measured,
@@ -24,7 +24,11 @@ const TOO_BIG: i32 = 1;
 
 /// The response without an error.
 pub(crate) fn make_response(community: Octets, request_id: i32, answers: Vec<Binding>) -> Message
-    ensures { result ≡ record { community = community; body = response_body request_id (pos 0) (pos 0) answers.items } }
+    ensures { result ≡ record {
+      community = community;
+      body = response_body request_id (pos 0)
+          (pos 0) answers.items;
+    } }
 {
     Message {
         community,
@@ -90,10 +94,11 @@ pub(crate) fn send_measured(
     }
 }
 
-/// Sends tooBig in the place of any response of this community and request-id that is above the limit, or nothing where tooBig
-/// is above it too.
+/// Sends tooBig in the place of any response of this community and request-id that is above the
+/// limit, or nothing where tooBig is above it too.
 pub(crate) fn send_too_big(alloc: Global, reply: Message, limit: i32) -> Result<Reply, AllocError>
-    ensures { (other : AnyMessage) → too_big reply ≡ too_big other → IsAboveLimit limit other → IfOk result (IsOut limit other other) }
+    ensures { (other : AnyMessage) → too_big reply ≡ too_big other → IsAboveLimit limit other
+        → IfOk result (IsOut limit other other) }
 {
     let too_big = too_big(alloc, reply);
     send_or_drop(alloc, &too_big, limit)
@@ -101,7 +106,8 @@ pub(crate) fn send_too_big(alloc: Global, reply: Message, limit: i32) -> Result<
 
 /// Sends this response, which is a tooBig, or nothing where it is above the limit.
 fn send_or_drop(alloc: Global, reply: &Message, limit: i32) -> Result<Reply, AllocError>
-    ensures { (other : AnyMessage) → reply.now ≡ too_big other → IsAboveLimit limit other → IfOk result (IsOut limit other other) }
+    ensures { (other : AnyMessage) → reply.now ≡ too_big other → IsAboveLimit limit other
+        → IfOk result (IsOut limit other other) }
 {
     match size_within(reply, limit) {
         Some(size) => write(alloc, reply, size),

@@ -1,5 +1,7 @@
--- What became of a rule's alarm between two looks at its window, by its state after each sample that the window had at either.
-use Rattle.std.specs.Prelude.{ℕ, Bool, true, false, not, ◌&&◌, if◌then◌else◌, List, [], ◌∷◌, ◌++◌, map, Option, Some, None, option_map, option_to_list, unwrap_or}
+-- What became of a rule's alarm between two looks at its window, by its state after each sample
+-- that the window had at either.
+use Rattle.std.specs.Prelude.{ℕ, Bool, true, false, not, ◌&&◌, if◌then◌else◌, List, [], ◌∷◌, ◌++◌}
+use Rattle.std.specs.Prelude.{map, Option, Some, None, option_map, option_to_list, unwrap_or}
 use Rattle.std.specs.Bool.{beq}
 use Rattle.std.specs.List.{filter, last_or}
 use Rattle.std.specs.Ordering.{nat_cmp, match_ordering}
@@ -16,9 +18,11 @@ use Rattle.mon_alarms.specs.Rule.{Rule}
 -- a sample before the others of the list that the first look had, with those of the second
 abbrev pub merge_with : ℕ → (List ℕ → List (ℕ × Bool)) → List ℕ → List (ℕ × Bool)
 merge_with x rest [] = (x, true) ∷ rest []
-merge_with x rest (y ∷ ys) = match_ordering (nat_cmp x y) ((x, true) ∷ rest (y ∷ ys)) ((x, true) ∷ rest ys) ((y, false) ∷ merge_with x rest ys)
+merge_with x rest (y ∷ ys) = match_ordering (nat_cmp x y) ((x, true) ∷ rest (y ∷ ys))
+    ((x, true) ∷ rest ys) ((y, false) ∷ merge_with x rest ys)
 
--- two rising lists as one: of both first samples the older, or one of two equal ones; each with whether the first look had it
+-- two rising lists as one: of both first samples the older, or one of two equal ones; each with
+-- whether the first look had it
 abbrev pub merged : List ℕ → List ℕ → List (ℕ × Bool)
 merged [] is = map (λ y. (y, false)) is
 merged (x ∷ was) is = merge_with x (merged was) is
@@ -62,20 +66,24 @@ event_between true true x = None
 
 -- what a sample does to the alarm after these
 abbrev pub event_at : Rule → List (ℕ × Bool) → ℕ × Bool → Option AlarmEvent
-event_at rule before s = event_between (raised_over rule (samples_of before)) (raised_over rule (samples_of (before ++ s ∷ []))) s.0
+event_at rule before s = event_between (raised_over rule (samples_of before))
+    (raised_over rule (samples_of (before ++ s ∷ []))) s.0
 
--- whether the alarm is raised over both or over neither: these samples, and those of them that the first look had
+-- whether the alarm is raised over both or over neither: these samples, and those of them that the
+-- first look had
 abbrev pub is_same : Rule → List (ℕ × Bool) → Bool
 is_same rule seen = beq (raised_over rule (known_of seen)) (raised_over rule (samples_of seen))
 
--- whether what a sample does is new: the first look did not have it, or the state before it or after it was another one
+-- whether what a sample does is new: the first look did not have it, or the state before it or
+-- after it was another one
 abbrev pub is_new : Rule → List (ℕ × Bool) → ℕ × Bool → Bool
 is_new rule before s = not (s.1 && (is_same rule before && is_same rule (before ++ s ∷ [])))
 
 -- what samples do that follow others, and whether it is new
 abbrev pub events_from : Rule → List (ℕ × Bool) → List (ℕ × Bool) → List (AlarmEvent × Bool)
 events_from rule before [] = []
-events_from rule before (s ∷ seen) = map (λ e. (e, is_new rule before s)) (option_to_list (event_at rule before s)) ++ events_from rule (before ++ s ∷ []) seen
+events_from rule before (s ∷ seen) = map (λ e. (e, is_new rule before s))
+    (option_to_list (event_at rule before s)) ++ events_from rule (before ++ s ∷ []) seen
 
 -- what these samples do, one after another
 abbrev pub events_of : Rule → List (ℕ × Bool) → List (AlarmEvent × Bool)
@@ -94,7 +102,8 @@ last_again (Some new) (Some last) = if last.1 then None else Some last.0
 
 -- the new events, and then the last of all
 abbrev pub reported_of : List (AlarmEvent × Bool) → List AlarmEvent
-reported_of events = new_of events ++ option_to_list (last_again (last_or None (new_of events)) (last_or None events))
+reported_of events = new_of events ++ option_to_list (last_again (last_or None (new_of events))
+    (last_or None events))
 
 -- whether an alarm is raised after these events: the last one decides; without any, as before
 abbrev pub raised_after : Bool → List AlarmEvent → Bool
@@ -109,11 +118,13 @@ event_of (Raised boots time) = event.Raised boots time
 abbrev pub put_right : Bool → AlarmState → Option AlarmEvent
 put_right reported now = if beq reported (is_raised now) then None else Some (event_of now)
 
--- what is reported of an alarm by two looks: at the first its window had these samples, at the second those
+-- what is reported of an alarm by two looks: at the first its window had these samples, at the
+-- second those
 abbrev pub reported_between : Rule → List ℕ → List ℕ → List AlarmEvent
 reported_between rule was is =
     let events = reported_of (events_of rule (merged was is)) in
-    events ++ option_to_list (put_right (raised_after (raised_over rule was) events) (state_by rule is))
+    events ++ option_to_list (put_right (raised_after (raised_over rule was) events)
+    (state_by rule is))
 
 -- events as changes of the rule of this number
 abbrev pub with_rule : ℕ → List AlarmEvent → List AlarmChange

@@ -1,5 +1,6 @@
 -- For private clauses: an alarm along samples, one after another.
-use Rattle.std.specs.Prelude.{◌≡◌, ◌∷◌, ◌++◌, [], ℕ, ℤ, Bool, true, false, if◌then◌else◌, List, Option, Some, None, map}
+use Rattle.std.specs.Prelude.{◌≡◌, ◌∷◌, ◌++◌, [], ℕ, ℤ, Bool, true, false, if◌then◌else◌, List}
+use Rattle.std.specs.Prelude.{Option, Some, None, map}
 use Rattle.std.specs.Int.Signed.{le_z}
 use Rattle.std.specs.List.{last_or}
 use Rattle.mon_sample.specs.Key.{boots_of, time_of}
@@ -11,9 +12,11 @@ use Rattle.mon_alarms.specs.Changes.{events_of, is_raised, known_of, merged, new
 use Rattle.mon_alarms.specs.Observed.{state_by}
 use Rattle.mon_alarms.specs.Rule.{Rule}
 
--- the state after one more observation: a clear alarm is raised at rising or more, a raised one is cleared at falling or less
+-- the state after one more observation: a clear alarm is raised at rising or more, a raised one is
+-- cleared at falling or less
 abbrev pub after_level : Rule → ℤ → ℕ → AlarmState → AlarmState
-after_level rule level x state = if is_raised state then (if le_z level rule.falling then Clear else state) else if le_z rule.rising level then Raised (boots_of x) (time_of x) else state
+after_level rule level x state = if is_raised state then (if le_z level rule.falling then Clear
+    else state) else if le_z rule.rising level then Raised (boots_of x) (time_of x) else state
 
 -- the state after a sample at which this is observed; one at which nothing is leaves it
 abbrev pub after_sample : Rule → Option ℤ → ℕ → AlarmState → AlarmState

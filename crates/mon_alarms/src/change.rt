@@ -51,12 +51,12 @@ pub struct AlarmChange {
     pub event: AlarmEvent,
 }
 
-/// Adds what became of the alarm of this rule between two looks at its window: each sample that raised
-/// or cleared it, in their order, also one that is older than others; but not where the first look had
-/// that sample and the same states before and after it.
+/// Adds what became of the alarm of this rule between two looks at its window: each sample that
+/// raised or cleared it, in their order, also one that is older than others; but not where the
+/// first look had that sample and the same states before and after it.
 ///
-/// If the last event is not new, it comes again after those that are. If all that does not lead to the
-/// state over the window now, the state follows.
+/// If the last event is not new, it comes again after those that are. If all that does not lead to
+/// the state over the window now, the state follows.
 ///
 /// # Errors
 /// `AllocError`: then some of the changes may have been added.
@@ -67,7 +67,8 @@ pub fn put_changes(
     was: &[Sample],
     is: &[Sample],
 ) -> Result<(), AllocError>
-    ensures { OnOk result (changes.new.items ≡ changes.old.items ++ changes_of number rule.now was.now is.now) }
+    ensures { OnOk result (changes.new.items ≡ changes.old.items
+        ++ changes_of number rule.now was.now is.now) }
 {
     if are_equal(was, is) {
         return Ok(());
@@ -182,7 +183,8 @@ pub fn put_raised(
     rule: &Rule,
     samples: &[Sample],
 ) -> Result<(), AllocError>
-    ensures { OnOk result (changes.new.items ≡ changes.old.items ++ raised_now number (state_by rule.now samples.now)) }
+    ensures { OnOk result (changes.new.items ≡ changes.old.items
+        ++ raised_now number (state_by rule.now samples.now)) }
 {
     let event = match state(rule, samples) {
         AlarmState::Clear => None,
@@ -197,7 +199,8 @@ pub(crate) fn put_event(
     rule: usize,
     event: Option<AlarmEvent>,
 ) -> Result<(), AllocError>
-    ensures { OnOk result (changes.new.items ≡ changes.old.items ++ with_rule rule (option_to_list event)) }
+    ensures { OnOk result (changes.new.items ≡ changes.old.items
+        ++ with_rule rule (option_to_list event)) }
 {
     if let Some(event) = event {
         changes.push(AlarmChange { rule, event })?;

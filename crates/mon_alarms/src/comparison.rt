@@ -26,8 +26,10 @@ pub(crate) struct Next<'a> {
 
 /// Returns the oldest sample of two looks, if there is one.
 pub(crate) fn oldest<'a>(was: &'a [Sample], is: &'a [Sample]) -> Option<Next<'a>>
-    ensures next { IfSome result (λ n. merged was.now is.now ≡ (n.sample, n.is_known) ∷ merged n.was.now n.is.now) }
-    ensures less { IfSome result (λ n. length n.was.now + length n.is.now < length was.now + length is.now) }
+    ensures next { IfSome result (λ n. merged was.now is.now
+        ≡ (n.sample, n.is_known) ∷ merged n.was.now n.is.now) }
+    ensures less { IfSome result (λ n. length n.was.now + length n.is.now
+        < length was.now + length is.now) }
     ensures end { IfNone result (merged was.now is.now ≡ []) }
 {
     match (was.split_first(), is.split_first()) {
@@ -99,7 +101,8 @@ impl Trail {
 
     /// Goes on to the next sample.
     fn step(&mut self, rule: &Rule, sample: &Sample)
-        ensures { (xs : List ℕ) → IsTrail rule.now xs self.old → IsTrail rule.now (xs ++ sample.now ∷ []) self.new }
+        ensures { (xs : List ℕ) → IsTrail rule.now xs self.old
+            → IsTrail rule.now (xs ++ sample.now ∷ []) self.new }
     {
         // Proof: the falling threshold is the lower.
         let _ = rule.falling();
@@ -183,9 +186,11 @@ impl Comparison {
         sample: &Sample,
         is_known: bool,
     ) -> Option<AlarmEvent>
-        ensures comparison { (seen : List (ℕ × Bool)) → IsComparison rule.now seen self.old → IsComparison rule.now (seen ++ (sample.now, is_known) ∷ []) self.new }
+        ensures comparison { (seen : List (ℕ × Bool)) → IsComparison rule.now seen self.old
+            → IsComparison rule.now (seen ++ (sample.now, is_known) ∷ []) self.new }
         ensures event { (seen : List (ℕ × Bool)) → IsComparison rule.now seen self.old
-            → result ≡ if is_new rule.now seen (sample.now, is_known) then event_at rule.now seen (sample.now, is_known) else None }
+            → result ≡ if is_new rule.now seen (sample.now, is_known)
+            then event_at rule.now seen (sample.now, is_known) else None }
     {
         let before = (self.known.is_raised(), self.all.is_raised());
         self.all.step(rule, sample);
@@ -201,7 +206,8 @@ impl Comparison {
 
     /// Goes on with what the first look had, if it had the sample.
     fn step_known(&mut self, rule: &Rule, sample: &Sample, is_known: bool)
-        ensures known { (seen : List (ℕ × Bool)) → IsTrail rule.now (known_of seen) self.old.known → IsTrail rule.now (known_of (seen ++ (sample.now, is_known) ∷ [])) self.new.known }
+        ensures known { (seen : List (ℕ × Bool)) → IsTrail rule.now (known_of seen) self.old.known
+            → IsTrail rule.now (known_of (seen ++ (sample.now, is_known) ∷ [])) self.new.known }
         ensures all { self.new.all ≡ self.old.all }
         ensures last { self.new.last ≡ self.old.last }
         ensures last_new { self.new.last_new ≡ self.old.last_new }
@@ -221,15 +227,16 @@ impl Comparison {
         }
     }
 
-    /// Returns the state now, if what was reported does not lead to it: the state at the first look,
-    /// then new events, and at last this one.
+    /// Returns the state now, if what was reported does not lead to it: the state at the first
+    /// look, then new events, and at last this one.
     pub(crate) fn put_right(
         &self,
         was: AlarmState,
         last: Option<AlarmEvent>,
         now: AlarmState,
     ) -> Option<AlarmEvent>
-        ensures { (new : List AlarmEvent) → self.now.last_new ≡ last_or None new → result ≡ put_right (raised_after (is_raised was) (new ++ option_to_list last)) now }
+        ensures { (new : List AlarmEvent) → self.now.last_new ≡ last_or None new
+            → result ≡ put_right (raised_after (is_raised was) (new ++ option_to_list last)) now }
     {
         put_right(raised_after(was, later_new(last, self.last_new)), now)
     }
@@ -245,8 +252,8 @@ pub(crate) fn put_right(reported: bool, now: AlarmState) -> Option<AlarmEvent>
     Some(event_of(now))
 }
 
-/// Returns `true` if what a sample does is new: the first look did not have it, or the state before it
-/// or after it was another one.
+/// Returns `true` if what a sample does is new: the first look did not have it, or the state before
+/// it or after it was another one.
 fn is_new(is_known: bool, before: (bool, bool), after: (bool, bool)) -> bool
     ensures { result ≡ not (is_known && (beq before.0 before.1 && beq after.0 after.1)) }
 {
@@ -266,7 +273,8 @@ fn later(
     is_new: bool,
     before: Option<(AlarmEvent, bool)>,
 ) -> Option<(AlarmEvent, bool)>
-    ensures { (events : List (AlarmEvent × Bool)) → before ≡ last_or None events → result ≡ last_or None (events ++ map (λ e. (e, is_new)) (option_to_list event)) }
+    ensures { (events : List (AlarmEvent × Bool)) → before ≡ last_or None events
+        → result ≡ last_or None (events ++ map (λ e. (e, is_new)) (option_to_list event)) }
 {
     match event {
         None => before,
@@ -276,7 +284,8 @@ fn later(
 
 /// The last new event after one more, if there is one.
 fn later_new(event: Option<AlarmEvent>, before: Option<AlarmEvent>) -> Option<AlarmEvent>
-    ensures { (events : List AlarmEvent) → before ≡ last_or None events → result ≡ last_or None (events ++ option_to_list event) }
+    ensures { (events : List AlarmEvent) → before ≡ last_or None events
+        → result ≡ last_or None (events ++ option_to_list event) }
 {
     match event {
         None => before,
@@ -284,9 +293,11 @@ fn later_new(event: Option<AlarmEvent>, before: Option<AlarmEvent>) -> Option<Al
     }
 }
 
-/// Returns `true` if an alarm that was in this state is raised after events, of which this is the last.
+/// Returns `true` if an alarm that was in this state is raised after events, of which this is the
+/// last.
 fn raised_after(was: AlarmState, last: Option<AlarmEvent>) -> bool
-    ensures { (events : List AlarmEvent) → last ≡ last_or None events → result ≡ raised_after (is_raised was) events }
+    ensures { (events : List AlarmEvent) → last ≡ last_or None events
+        → result ≡ raised_after (is_raised was) events }
 {
     match last {
         None => was.is_raised(),

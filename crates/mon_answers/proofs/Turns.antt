@@ -5,16 +5,16 @@ use Rattle.std.specs.List.{filter}
 use Rattle.std.proofs.lemmas.List.{append-nil}
 use Rattle.std.proofs.lemmas.List.Elements.{filter-append}
 use Rattle.hex.specs.Hex.{decode_of}
-use Rattle.mon_vacm.specs.Tables.{Lists}
+use Rattle.mon_vacm.specs.Tables.{PolicyTables}
 use Rattle.mon_mib.specs.declared.settings.Settings.{Settings}
 use Rattle.mon_agent.specs.declared.reply.Reply.{Reply}
 use Rattle.mon_answers.specs.declared.scene.Scene.{Scene}
 use Rattle.mon_answers.specs.Answered.{AreArrivals, ArePrinted, IsPrinted, Appends, is_read}
 
 -- what holds of one policy and settings holds of equal ones
-pub moved : (Holds : Lists → Settings → Type 0) (policy other : Lists) (settings others : Settings) → policy ≡ other → settings ≡ others → Holds policy settings
+pub moved : (Holds : PolicyTables → Settings → Type 0) (policy other : PolicyTables) (settings others : Settings) → policy ≡ other → settings ≡ others → Holds policy settings
     → Holds other others
-moved Holds policy other settings others same alike holds = subst (λ (s : Settings). Holds other s) alike (subst (λ (p : Lists). Holds p settings) same holds)
+moved Holds policy other settings others same alike holds = subst (λ (s : Settings). Holds other s) alike (subst (λ (p : PolicyTables). Holds p settings) same holds)
 
 -- what a result is, in other words
 pub if_ok : {A E : Type 0} (P Q : A → Type 0) (result : Result A E) → ((x : A) → P x → Q x) → IfOk result P → IfOk result Q

@@ -1,5 +1,6 @@
 -- How an agent's reply is printed: in hex digits, or as a client prints it.
-use Rattle.std.specs.Prelude.{ℕ, ℤ, List, ◌++◌, codes, decimal, Option, Some, None, Result, Ok, Err, unwrap_or}
+use Rattle.std.specs.Prelude.{ℕ, ℤ, List, ◌++◌, codes, decimal, Option, Some, None, Result, Ok, Err}
+use Rattle.std.specs.Prelude.{unwrap_or}
 use Rattle.std.specs.Borrow.{Bor}
 use Rattle.std.specs.Fmt.{signed_decimal}
 use Rattle.std.specs.List.{flat_map}
@@ -21,7 +22,8 @@ use Rattle.mon_app.specs.Status.{status_name}
 
 -- the line for a datagram without a reply: the cause by number and name
 unfoldable pub silence_line : Silence → List ℕ
-silence_line cause = codes "silent " ++ decimal (number_of cause) ++ codes " " ++ name_of cause ++ codes "\n"
+silence_line cause = codes "silent " ++ decimal (number_of cause) ++ codes " " ++ name_of cause
+    ++ codes "\n"
 
 -- octets in hex digits, as a line
 unfoldable pub digits_line : List ℕ → List ℕ
@@ -33,12 +35,14 @@ status_word status = unwrap_or (status_name status) (codes "another error-status
 
 -- the line of an error status, by name and number, and an error index
 unfoldable pub status_line : ℤ → ℤ → List ℕ
-status_line status index = codes "reply " ++ status_word status ++ codes " (" ++ signed_decimal status ++ codes ") " ++ signed_decimal index ++ codes "\n"
+status_line status index = codes "reply " ++ status_word status ++ codes " ("
+    ++ signed_decimal status ++ codes ") " ++ signed_decimal index ++ codes "\n"
 
 -- a response as a client prints it, with the names of definitions: the line of its error status,
 -- and a line for each variable binding
 unfoldable pub pdu_text : List Definition → Pdu → List ℕ
-pdu_text labels p = status_line p.error_status p.error_index ++ flat_map (binding_line (name_text labels)) p.bindings
+pdu_text labels p = status_line p.error_status p.error_index
+    ++ flat_map (binding_line (name_text labels)) p.bindings
 
 -- the PDU of a body; a GetBulk is none
 abbrev pub pdu_of : Body → Option Pdu

@@ -27,7 +27,8 @@ pub fn answer_lines<D: Device + Drop>(
     scene: &Scene<'_, '_>,
 ) -> Result<String, AllocError>
     // For each line, in order, what is printed is right, and the agent is as they leave it.
-    ensures printed { let Answers = AnswersIt D.held D.failed D.refuses (policy_of agent.old) (settings_of agent.old) in
+    ensures printed { let Answers = AnswersIt D.held D.failed D.refuses (policy_of agent.old)
+        (settings_of agent.old) in
         IfOk result (λ printed. ArePrinted Answers scene.now (lines_read text.now) (stands agent.old) (stands agent.new) (string_bytes printed)) }
     // The agent's policy and settings stay.
     ensures policy { policy_of agent.new ≡ policy_of agent.old }
@@ -58,7 +59,8 @@ fn put_line<D: Device + Drop>(
     line: &str,
     scene: &Scene<'_, '_>,
 ) -> Result<(), AllocError>
-    ensures printed { let Answers = AnswersIt D.held D.failed D.refuses (policy_of agent.old) (settings_of agent.old) in
+    ensures printed { let Answers = AnswersIt D.held D.failed D.refuses (policy_of agent.old)
+        (settings_of agent.old) in
         OnOk result (Appends (IsPrinted Answers scene.now (decode_of line.now) (stands agent.old) (stands agent.new))
         (string_bytes printed.old) (string_bytes printed.new)) }
     ensures policy { policy_of agent.new ≡ policy_of agent.old }
@@ -81,7 +83,8 @@ fn answer_repeated<D: Device + Drop>(
     datagram: &[u8],
     scene: &Scene<'_, '_>,
 ) -> Result<Reply, AllocError>
-    ensures reply { let Answers = AnswersIt D.held D.failed D.refuses (policy_of agent.old) (settings_of agent.old) in
+    ensures reply { let Answers = AnswersIt D.held D.failed D.refuses (policy_of agent.old)
+        (settings_of agent.old) in
         IfOk result (IsLastReply (arrives Answers datagram.now scene.now.at) scene.now.times (stands agent.old) (stands agent.new)) }
     ensures policy { policy_of agent.new ≡ policy_of agent.old }
     ensures settings { settings_of agent.new ≡ settings_of agent.old }
@@ -99,7 +102,8 @@ fn answer_once<D: Device + Drop>(
     datagram: &[u8],
     at: Moment,
 ) -> Result<Reply, AllocError>
-    ensures reply { let Answers = AnswersIt D.held D.failed D.refuses (policy_of agent.old) (settings_of agent.old) in
+    ensures reply { let Answers = AnswersIt D.held D.failed D.refuses (policy_of agent.old)
+        (settings_of agent.old) in
         IfOk result (Answers (stands agent.old) (stands agent.new) datagram.now at) }
     ensures policy { policy_of agent.new ≡ policy_of agent.old }
     ensures settings { settings_of agent.new ≡ settings_of agent.old }

@@ -16,7 +16,8 @@ pub(crate) fn put_reply(
     reply: &Reply,
     labels: Option<&Labels<'_>>,
 ) -> Result<(), AllocError>
-    ensures { OnOk result (string_bytes printed.new ≡ string_bytes printed.old ++ reply_text labels.entry reply.now) }
+    ensures { OnOk result (string_bytes printed.new ≡ string_bytes printed.old
+        ++ reply_text labels.entry reply.now) }
 {
     match reply {
         Reply::Send(octets) => match labels {
@@ -30,7 +31,8 @@ pub(crate) fn put_reply(
 /// Appends the line for a datagram that gets no reply.
 #[tactic(auto, unfolding(crate::specs::Shown::silence_line))]
 fn put_silence(printed: &mut String, cause: Silence) -> Result<(), AllocError>
-    ensures { OnOk result (string_bytes printed.new ≡ string_bytes printed.old ++ silence_line cause) }
+    ensures { OnOk result (string_bytes printed.new ≡ string_bytes printed.old
+        ++ silence_line cause) }
 {
     let (number, name) = (cause.number(), cause.name());
     write!(printed, "silent {number} {name}\n")
@@ -39,7 +41,8 @@ fn put_silence(printed: &mut String, cause: Silence) -> Result<(), AllocError>
 /// Appends octets in hex digits, as a line.
 #[tactic(auto, unfolding(crate::specs::Shown::digits_line))]
 fn put_digits(printed: &mut String, alloc: Global, octets: &[u8]) -> Result<(), AllocError>
-    ensures { OnOk result (string_bytes printed.new ≡ string_bytes printed.old ++ digits_line octets.now) }
+    ensures { OnOk result (string_bytes printed.new ≡ string_bytes printed.old
+        ++ digits_line octets.now) }
 {
     let digits = hex::encode(alloc, octets)?;
     write!(printed, "{digits}\n")
@@ -53,7 +56,8 @@ fn put_named(
     octets: &[u8],
     labels: &Labels<'_>,
 ) -> Result<(), AllocError>
-    ensures { OnOk result (string_bytes printed.new ≡ string_bytes printed.old ++ named_text labels.now octets.now (pdu_in octets.now)) }
+    ensures { OnOk result (string_bytes printed.new ≡ string_bytes printed.old
+        ++ named_text labels.now octets.now (pdu_in octets.now)) }
 {
     match pdu_in(alloc, octets)? {
         Some(pdu) => put_pdu(printed, alloc, &pdu, labels),
@@ -92,7 +96,8 @@ fn put_pdu(
     pdu: &Pdu,
     labels: &Labels<'_>,
 ) -> Result<(), AllocError>
-    ensures { OnOk result (string_bytes printed.new ≡ string_bytes printed.old ++ pdu_text labels.now pdu.now) }
+    ensures { OnOk result (string_bytes printed.new ≡ string_bytes printed.old
+        ++ pdu_text labels.now pdu.now) }
 {
     put_status(printed, pdu.error_status, pdu.error_index)?;
     let lines = bindings_text(alloc, pdu.bindings.as_slice(), labels)?;
@@ -102,7 +107,8 @@ fn put_pdu(
 /// Appends the line of an error-status and an error-index.
 #[tactic(auto, unfolding(crate::specs::Shown::status_line))]
 fn put_status(printed: &mut String, status: i32, index: i32) -> Result<(), AllocError>
-    ensures { OnOk result (string_bytes printed.new ≡ string_bytes printed.old ++ status_line status index) }
+    ensures { OnOk result (string_bytes printed.new ≡ string_bytes printed.old
+        ++ status_line status index) }
 {
     let name = status_word(status);
     write!(printed, "reply {name} ({status}) {index}\n")

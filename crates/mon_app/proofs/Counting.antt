@@ -134,7 +134,8 @@ same_engine engine a b = ap (λ o. is_eq (ordering_then o (slice_cmp nat_cmp a b
 abbrev pub is_one_of : List (Bor (List ℕ)) → List ℕ → Bool
 is_one_of names name = list_any (λ other. eq_by_cmp (slice_cmp nat_cmp) name other.now) names
 
--- the instances of what was taken and of the offers so far: those of the rows, and the fresh names at the engine
+-- the instances of what was taken and of the offers so far: those of the rows, and the fresh names
+-- at the engine
 pub record Counted (taken offers : List Offer) (engine : List ℕ) (rows : List Row) (fresh : List (Bor (List ℕ))) : Type 0 where
   pub count : len (instances (taken ++ offers)) ≡ length rows + length fresh
   pub covers : (name : List ℕ) → contains (instances (taken ++ offers)) (named engine name) ≡ (contains (instances taken) (named engine name) || is_one_of fresh name)

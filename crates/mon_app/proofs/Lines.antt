@@ -65,7 +65,8 @@ pub all_behind : (text : List ℕ) (k : ℕ) → take (length text - k) (drop k 
 all_behind text k = take_all (length text - k) (drop k text) (omega (arith, length-drop k text))
 
 -- ---- all lines
--- where k lines were read and the rest is left: what was taken, the rows of it, and what was written of the refused lines
+-- where k lines were read and the rest is left: what was taken, the rows of it, and what was
+-- written of the refused lines
 pub record SoFar (n : ℕ) (lines rest : List (List ℕ)) (k : ℕ) (rows : List Row) (before text : List ℕ) (count : ℕ) : Type 0 where
   pub taken : List Offer
   pub why : List (ℕ × Refusal)

@@ -109,7 +109,8 @@ module _ (show : List ℕ → List ℕ) where
     told = asked.told;
   }
 
-  -- After the first of these bindings: what is still to come, and what is said of it, is what remains of the whole.
+  -- After the first of these bindings: what is still to come, and what is said of it, is what
+  -- remains of the whole.
   abbrev pub Leads : List ℕ → List ℕ → List Binding → List ℕ → List Binding → List AtHost → Type 0
   Leads start first found last left said = (rest : List AtHost) (r : Result (Option (List ℕ)) WalkFault) → IsAlong show start last left rest r → IsAlong show start first found (said ++ rest) r
 

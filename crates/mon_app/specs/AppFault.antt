@@ -7,7 +7,9 @@ use Rattle.mon_pdu.specs.declared.fault.PduFault.TheVariants as pdu
 use Rattle.mon_app.specs.declared.fault.AppFault.{AppFault}
 use Rattle.mon_app.specs.declared.reason.SocketReason.{SocketReason}
 use Rattle.mon_app.specs.declared.reason.SocketReason.TheVariants as reasons
-use Rattle.mon_app.specs.declared.fault.AppFault.TheVariants.{OutOfMemory, Timeout, FileFault, SocketFault, NotIncreasing, AgentStatus, BadText}
+use Rattle.mon_app.specs.declared.fault.AppFault.TheVariants.{OutOfMemory, Timeout, FileFault}
+use Rattle.mon_app.specs.declared.fault.AppFault.TheVariants.{SocketFault, NotIncreasing}
+use Rattle.mon_app.specs.declared.fault.AppFault.TheVariants.{AgentStatus, BadText}
 
 -- the number of a fault on a printed line
 abbrev pub number_of : AppFault → ℕ

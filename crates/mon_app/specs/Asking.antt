@@ -1,10 +1,12 @@
 -- What asking comes to, sending by sending, and what happens at the wire meanwhile.
-use Rattle.std.specs.Prelude.{◌≡◌, ℕ, zero, suc, ◌<◌, ◌≤◌, ◌^◌, List, [], ◌∷◌, ◌++◌, length, All, IsTrue, Option, Some, None, Result, Ok, Err, ◌⊎◌}
+use Rattle.std.specs.Prelude.{◌≡◌, ℕ, zero, suc, ◌<◌, ◌≤◌, ◌^◌, List, [], ◌∷◌, ◌++◌, length, All}
+use Rattle.std.specs.Prelude.{IsTrue, Option, Some, None, Result, Ok, Err, ◌⊎◌}
 use Rattle.mon_pdu.specs.declared.message.Message.{Message}
 use Rattle.mon_pdu.specs.Grammar.{BeginsWithMessage}
 use Rattle.mon_pdu.specs.Writing.{written_message, message_contents}
 use Rattle.mon_app.specs.declared.fault.AppFault.{AppFault}
-use Rattle.mon_app.specs.declared.fault.AppFault.TheVariants.{OutOfMemory, Timeout, SocketFault, BadText}
+use Rattle.mon_app.specs.declared.fault.AppFault.TheVariants.{OutOfMemory, Timeout, SocketFault}
+use Rattle.mon_app.specs.declared.fault.AppFault.TheVariants.{BadText}
 use Rattle.mon_app.specs.AtWire.{AtWire}
 use Rattle.mon_app.specs.AtWire as wire
 use Rattle.mon_app.specs.Question.{Asked, is_reply, request_of}
@@ -40,7 +42,8 @@ pub record HearsReply (q : Asked) (m : Message) (heard : List AtWire) : Type 0 w
 pub record HearsNone (q : Asked) (heard : List AtWire) : Type 0 where
   pub strange : List AtWire
   pub none : All (IsStrange q) strange
-  pub ended : ((length strange ≤ 64) × (heard ≡ strange ++ wire.Quiet ∷ [])) ⊎ ((length strange ≡ 65) × (heard ≡ strange))
+  pub ended : ((length strange ≤ 64) × (heard ≡ strange ++ wire.Quiet ∷ []))
+      ⊎ ((length strange ≡ 65) × (heard ≡ strange))
 
 -- a wait in which no memory was left for the last datagram
 pub record IsHeardInPart (q : Asked) (heard : List AtWire) : Type 0 where
@@ -64,11 +67,13 @@ request_octets q = written_message (request_of q)
 -- this many sendings of the request, and after each a wait in which no reply was received
 abbrev pub AreUnanswered : Asked → ℕ → List AtWire → Type 0
 AreUnanswered q zero log = log ≡ []
-AreUnanswered q (suc n) log = (before : List AtWire) × (heard : List AtWire) × AreUnanswered q n before × HearsNone q heard
+AreUnanswered q (suc n) log = (before : List AtWire) × (heard : List AtWire)
+    × AreUnanswered q n before × HearsNone q heard
     × (log ≡ before ++ wire.Sent (request_octets q) ∷ heard)
 
 -- the last of at most three sendings, whose wait comes to this; those before it were not answered
-pub record EndsWith (q : Asked) (log : List AtWire) (last : Result (Option Message) AppFault) : Type 0 where
+pub record EndsWith (q : Asked) (log : List AtWire) (last : Result (Option Message) AppFault) : Type
+    0 where
   pub sendings : ℕ
   pub few : sendings < 3
   pub before : List AtWire
@@ -88,7 +93,8 @@ pub record IsCutShort (q : Asked) (log : List AtWire) : Type 0 where
 abbrev pub IsAsked : Asked → List AtWire → Result Message AppFault → Type 0
 IsAsked q log (Ok m) = EndsWith q log (Ok (Some m))
 IsAsked q log (Err Timeout) = AreUnanswered q 3 log
-IsAsked q log (Err (SocketFault reason)) = EndsWith q log (Err (SocketFault reason)) ⊎ IsCutShort q log
+IsAsked q log (Err (SocketFault reason)) = EndsWith q log (Err (SocketFault reason))
+    ⊎ IsCutShort q log
 IsAsked q log (Err OutOfMemory) = EndsWith q log (Err OutOfMemory) ⊎ IsCutShort q log
 IsAsked q log (Err BadText) = (log ≡ []) × (2 ^ 32 ≤ length (message_contents (request_of q)))
 IsAsked q log (Err other) = ⊥

@@ -33,7 +33,8 @@ failures_in (Unsent octets ∷ rest) count = failures_in rest (next_count count)
 
 -- More happened, of which this holds: the port states it, if it states anything, and counted what
 -- failed.
-pub record Happens (Holds : List AtPort → Type 0) (told_before told_after : Option (List AtPort)) (failures_before failures_after : ℕ) : Type 0 where
+pub record Happens (Holds : List AtPort → Type 0) (told_before told_after : Option (List AtPort))
+    (failures_before failures_after : ℕ) : Type 0 where
   pub more : List AtPort
   pub holds : Holds more
   pub told : told_after ≡ extended told_before more

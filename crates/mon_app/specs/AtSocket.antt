@@ -53,8 +53,8 @@ pub record IsStart (Told : Instant → Instant → Type 0) (began : Instant) : T
   pub earlier : Instant
   pub told : Told earlier began
 
--- A datagram that a port received: the system's, from the address that replies go to, at a time that
--- the clock told. Its moment is that time in the life that began then.
+-- A datagram that a port received: the system's, from the address that replies go to, at a time
+-- that the clock told. Its moment is that time in the life that began then.
 pub record IsArrival (Received : ℕ → SocketAddr → Type 0) (Told : Instant → Type 0)
     (began : Instant) (from : Addr) (r : AnyReceived) : Type 0 where
   pub sender : SocketAddr

@@ -35,7 +35,8 @@ FitsRoom room (heard.Datagram len) = len ≤ room
 FitsRoom room heard.Other = Unit {0}
 FitsRoom room heard.Quiet = Unit {0}
 
--- a socket's count of failures after a call that answers a socket's fault exactly where the socket failed
+-- a socket's count of failures after a call that answers a socket's fault exactly where the socket
+-- failed
 abbrev pub socket_failures : {A : Type 0} → Result A AppFault → ℕ → ℕ
 socket_failures (Ok given) count = count
 socket_failures (Err (SocketFault reason)) count = next_count count

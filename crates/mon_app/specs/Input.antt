@@ -24,6 +24,7 @@ AreAllReads before after = (after.reads ≡ before.reads + 1048576) × (after.en
 
 -- why an input was not read to its end: it was too long, or a read failed; or memory ran out
 abbrev pub IsFaultOfInput : Reads → Reads → AppFault → Type 0
-IsFaultOfInput before after FileFault = AreAllReads before after ⊎ (after.failures ≡ next_count before.failures)
+IsFaultOfInput before after FileFault = AreAllReads before after
+    ⊎ (after.failures ≡ next_count before.failures)
 IsFaultOfInput before after OutOfMemory = Unit {0}
 IsFaultOfInput before after other = ⊥

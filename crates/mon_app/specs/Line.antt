@@ -1,4 +1,5 @@
--- What a line of hex digits says, by the grammar of messages and apart from any reader: what it offers, or why it is refused.
+-- What a line of hex digits says, by the grammar of messages and apart from any reader: what it
+-- offers, or why it is refused.
 use Rattle.std.specs.Prelude.{◌≡◌, ◌≢◌, ℕ, ℤ, pos, ◌≤◌, List, ◌∷◌, length, Result, Ok, Err}
 use Rattle.hex.specs.Hex.{decode_of}
 use Rattle.mon_ber.specs.declared.value.Value.TheVariants as values
@@ -9,12 +10,15 @@ use Rattle.mon_pdu.specs.declared.message.Message.{Message}
 use Rattle.mon_pdu.specs.declared.message.PduKind.TheVariants.{Response}
 use Rattle.mon_pdu.specs.Grammar.{BeginsWithMessage}
 use Rattle.mon_app.specs.declared.refusal.Refusal.{Refusal}
-use Rattle.mon_app.specs.declared.refusal.Refusal.TheVariants.{OutOfMemory, BadHex, BadMessage, NotAResponse, AgentError, BadStamp, TooManyInstances}
+use Rattle.mon_app.specs.declared.refusal.Refusal.TheVariants.{OutOfMemory, BadHex, BadMessage}
+use Rattle.mon_app.specs.declared.refusal.Refusal.TheVariants.{NotAResponse, AgentError, BadStamp}
+use Rattle.mon_app.specs.declared.refusal.Refusal.TheVariants.{TooManyInstances}
 use Rattle.mon_poller.specs.Stamp.{Stamp, engine_id_name, engine_boots_name, engine_time_name}
 use Rattle.mon_app.specs.Offer.{Offer}
 use Rattle.mon_app.specs.Reading.{offers_of}
 
--- The text is pairs of hex digits, in either case, for octets that begin with a spelling of the message.
+-- The text is pairs of hex digits, in either case, for octets that begin with a spelling of the
+-- message.
 pub record HoldsMessage (text : List ℕ) (m : Message) : Type 0 where
   pub bytes : List ℕ
   pub hex : decode_of text ≡ Ok bytes
@@ -22,23 +26,26 @@ pub record HoldsMessage (text : List ℕ) (m : Message) : Type 0 where
 
 -- A Response-PDU with this error status and these bindings (RFC 3416 section 3).
 abbrev pub IsResponse : Body → ℤ → List Binding → Type 0
-IsResponse (Pdu p) status bindings = (p.kind ≡ Response) × (p.error_status ≡ status) × (p.bindings ≡ bindings)
+IsResponse (Pdu p) status bindings = (p.kind ≡ Response) × (p.error_status ≡ status)
+    × (p.bindings ≡ bindings)
 IsResponse (Bulk b) status bindings = ⊥
 
--- The first three bindings are snmpEngineID.0, snmpEngineBoots.0 and snmpEngineTime.0 in their ranges (RFC 3411 section 5), and then the others come.
-pub record IsStamped (bindings : List Binding) (stamp : Stamp) (others : List Binding) : Type 0 where
-  pub first : Binding
-  pub second : Binding
-  pub third : Binding
-  pub whole : bindings ≡ first ∷ second ∷ third ∷ others
-  pub engine_named : first.name ≡ engine_id_name
-  pub engine_is : first.value ≡ values.Octets stamp.engine
-  pub engine_long : 5 ≤ length stamp.engine
-  pub engine_short : length stamp.engine ≤ 32
-  pub boots_named : second.name ≡ engine_boots_name
-  pub boots_is : second.value ≡ values.Integer (pos stamp.boots)
-  pub time_named : third.name ≡ engine_time_name
-  pub time_is : third.value ≡ values.Integer (pos stamp.time)
+-- The first three bindings are snmpEngineID.0, snmpEngineBoots.0 and snmpEngineTime.0 in their
+-- ranges (RFC 3411 section 5), and then the others come.
+pub record IsStamped (bindings : List Binding) (stamp : Stamp) (others : List Binding) : Type 0
+  where
+    pub first : Binding
+    pub second : Binding
+    pub third : Binding
+    pub whole : bindings ≡ first ∷ second ∷ third ∷ others
+    pub engine_named : first.name ≡ engine_id_name
+    pub engine_is : first.value ≡ values.Octets stamp.engine
+    pub engine_long : 5 ≤ length stamp.engine
+    pub engine_short : length stamp.engine ≤ 32
+    pub boots_named : second.name ≡ engine_boots_name
+    pub boots_is : second.value ≡ values.Integer (pos stamp.boots)
+    pub time_named : third.name ≡ engine_time_name
+    pub time_is : third.value ≡ values.Integer (pos stamp.time)
 
 -- The text is a stamped response without an error, and brings these samples.
 pub record Brings (text : List ℕ) (offers : List Offer) : Type 0 where

@@ -1,5 +1,6 @@
 -- What a text means as a value of a kind.
-use Rattle.std.specs.Prelude.{◌≡◌, ◌⊎◌, ◌<◌, ◌^◌, ℕ, ℤ, pos, neg_ℤ, List, ◌++◌, codes, FitsSigned, Ok}
+use Rattle.std.specs.Prelude.{◌≡◌, ◌⊎◌, ◌<◌, ◌^◌, ℕ, ℤ, pos, neg_ℤ, List, ◌++◌, codes, FitsSigned}
+use Rattle.std.specs.Prelude.{Ok}
 use Rattle.std.specs.Int.{w32}
 use Rattle.std.specs.Net.Grammar.{IsDotted, IsNumber}
 use Rattle.hex.specs.Hex.{decode_of}
@@ -31,7 +32,8 @@ IsUnsigned k text n = IsNumber 10 text n × (n < 2 ^ k)
 abbrev pub IsSigned : List ℕ → ℤ → Type 0
 IsSigned text z =
     ((n : ℕ) × IsNumber 10 text n × (z ≡ pos n))
-    ⊎ ((digits : List ℕ) × (n : ℕ) × (text ≡ codes "-" ++ digits) × IsNumber 10 digits n × (z ≡ neg_ℤ (pos n)))
+    ⊎ ((digits : List ℕ) × (n : ℕ) × (text ≡ codes "-" ++ digits) × IsNumber 10 digits n
+    × (z ≡ neg_ℤ (pos n)))
 
 -- such a number from -2147483648 to 2147483647
 abbrev pub IsInteger : List ℕ → ℤ → Type 0
@@ -51,7 +53,8 @@ MeansValue kinds.Integer text v = (z : ℤ) × IsInteger text z × (v ≡ values
 MeansValue kinds.String text v = v ≡ values.Octets text
 MeansValue kinds.Hex text v = (octets : List ℕ) × IsHex text octets × (v ≡ values.Octets octets)
 MeansValue kinds.Oid text v = (name : List ℕ) × IsDottedName text name × (v ≡ values.Name name)
-MeansValue kinds.Ip text v = (octets : List ℕ) × IsDotted text octets × (v ≡ values.IpAddress octets)
+MeansValue kinds.Ip text v = (octets : List ℕ) × IsDotted text octets
+    × (v ≡ values.IpAddress octets)
 MeansValue kinds.Counter32 text v = (n : ℕ) × IsUnsigned 32 text n × (v ≡ values.Counter32 n)
 MeansValue kinds.Gauge32 text v = (n : ℕ) × IsUnsigned 32 text n × (v ≡ values.Gauge32 n)
 MeansValue kinds.TimeTicks text v = (n : ℕ) × IsUnsigned 32 text n × (v ≡ values.TimeTicks n)

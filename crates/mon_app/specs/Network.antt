@@ -29,7 +29,8 @@ pub record Agents : Type 1 where
   pub Unreached : Addr → AppFault → Type 0
 
 -- the agents that are reached by wires of this kind
-abbrev pub agents_by : {W : Type 0} → (Opened : Addr → W → Type 0) → (Failed : Addr → AppFault → Type 0)
+abbrev pub agents_by : {W : Type 0} → (Opened : Addr → W → Type 0)
+    → (Failed : Addr → AppFault → Type 0)
     → (told : W → Option (List AtWire)) → Agents
 agents_by Opened Failed told = record {
   Reached = λ agent Holds. HappensBy (Opened agent) told Holds;
@@ -44,16 +45,17 @@ pub record HappensAt {P : Type 0} (Opened : P → Type 0) (told : P → Option (
   pub after : P
   pub happened : Happens Holds (told before) (told after) (failures before) (failures after)
 
--- Ports as a command opens them. `Served listen at Holds` says that a port was opened for an address,
--- that it has this one, and that this holds of what happened at it; `Deaf listen fault` that none
--- could be opened there.
+-- Ports as a command opens them. `Served listen at Holds` says that a port was opened for an
+-- address, that it has this one, and that this holds of what happened at it; `Deaf listen fault`
+-- that none could be opened there.
 pub record Ports : Type 1 where
   pub Served : Addr → SocketAddr → (List AtPort → Type 0) → Type 0
   pub Deaf : Addr → AppFault → Type 0
 
 -- the ports of this kind
 abbrev pub ports_by : {P : Type 0} → (Opened : Addr → P → SocketAddr → Type 0)
-    → (Failed : Addr → AppFault → Type 0) → (told : P → Option (List AtPort)) → (failures : P → ℕ) → Ports
+    → (Failed : Addr → AppFault → Type 0) → (told : P → Option (List AtPort)) → (failures : P → ℕ)
+    → Ports
 ports_by Opened Failed told failures = record {
   Served = λ listen at Holds. HappensAt (λ p. Opened listen p at) told failures Holds;
   Deaf = Failed;

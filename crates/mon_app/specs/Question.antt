@@ -1,5 +1,6 @@
 -- What a client asks, and which messages reply.
-use Rattle.std.specs.Prelude.{ℕ, ℤ, pos, Bool, true, false, not, List, [], ◌∷◌, length, map, ◌==◌, ◌&&◌, ◌||◌}
+use Rattle.std.specs.Prelude.{ℕ, ℤ, pos, Bool, true, false, not, List, [], ◌∷◌, length, map, ◌==◌}
+use Rattle.std.specs.Prelude.{◌&&◌, ◌||◌}
 use Rattle.std.specs.Ordering.{int_eq}
 use Rattle.std.specs.Str.{bytes_eq}
 use Rattle.mon_ber.specs.declared.value.Value.{Value}
@@ -18,14 +19,26 @@ use Rattle.mon_app.specs.Reading.{is_zero}
 
 -- a request of a kind that has no numbers of its own (RFC 3416 sections 4.2.1, 4.2.2 and 4.2.5)
 abbrev pub plain : PduKind → ℤ → List Binding → Body
-plain kind id bindings = Pdu (record { kind = kind; request_id = id; error_status = pos 0; error_index = pos 0; bindings = bindings })
+plain kind id bindings = Pdu (record {
+  kind = kind;
+  request_id = id;
+  error_status = pos 0;
+  error_index = pos 0;
+  bindings = bindings;
+})
 
 -- the PDU that asks (RFC 3416 section 3)
 abbrev pub asking_body : Asking → ℤ → List Binding → Body
 asking_body Get id bindings = plain pdu.Get id bindings
 asking_body GetNext id bindings = plain pdu.GetNext id bindings
 asking_body (GetBulk r) id bindings =
-    Bulk (record { request_id = id; non_repeaters = r.non_repeaters; max_repetitions = r.max_repetitions; bindings = bindings })
+    Bulk (record {
+      request_id = id;
+      non_repeaters = r.non_repeaters;
+      max_repetitions =
+          r.max_repetitions;
+      bindings = bindings;
+    })
 asking_body (Set v) id bindings = plain pdu.Set id bindings
 
 -- a question as its parts
@@ -37,9 +50,15 @@ pub record Asked : Type 0 where
 
 -- the parts of a question that is lent
 abbrev pub asked_in : Question → Asked
-asked_in q = record { asking = q.asking; request_id = q.request_id; community = q.community.now; names = q.names.now }
+asked_in q = record {
+  asking = q.asking;
+  request_id = q.request_id;
+  community = q.community.now;
+  names = q.names.now;
+}
 
--- the value that each name has in the request: the one to be assigned, or none yet (unSpecified, RFC 3416 section 3)
+-- the value that each name has in the request: the one to be assigned, or none yet (unSpecified,
+-- RFC 3416 section 3)
 abbrev pub wanted_value : Asking → Value
 wanted_value Get = values.Null
 wanted_value GetNext = values.Null
@@ -64,19 +83,22 @@ same_names [] (b ∷ bs) = false
 same_names (n ∷ ns) [] = false
 same_names (n ∷ ns) (b ∷ bs) = bytes_eq n b.name && same_names ns bs
 
--- each name is answered: by itself, or, to a GetNext, by some name; a GetBulk may be answered by any
+-- each name is answered: by itself, or, to a GetNext, by some name; a GetBulk may be answered by
+-- any
 abbrev pub are_answers : Asking → List (List ℕ) → List Binding → Bool
 are_answers Get names bindings = same_names names bindings
 are_answers GetNext names bindings = length names == length bindings
 are_answers (GetBulk r) names bindings = true
 are_answers (Set v) names bindings = same_names names bindings
 
--- a Response in the question's community, with its request-id, that has an error status or answers each name
+-- a Response in the question's community, with its request-id, that has an error status or answers
+-- each name
 abbrev pub is_reply : Asked → Message → Bool
 is_reply q m = replies m.body
   where
     replies : Body → Bool
     replies (Bulk b) = false
     replies (Pdu p) =
-        (octet_of p.kind == octet_of pdu.Response) && int_eq p.request_id q.request_id && bytes_eq m.community q.community
+        (octet_of p.kind == octet_of pdu.Response) && int_eq p.request_id q.request_id
+        && bytes_eq m.community q.community
         && (not (is_zero p.error_status) || are_answers q.asking q.names p.bindings)

@@ -1,5 +1,6 @@
 -- What a replay prints of its input.
-use Rattle.std.specs.Prelude.{ℕ, ◌+◌, List, [], ◌∷◌, ◌++◌, length, map, Option, Some, None, Result, Ok, Err, nat_le, ◌==◌, if◌then◌else◌}
+use Rattle.std.specs.Prelude.{ℕ, ◌+◌, List, [], ◌∷◌, ◌++◌, length, map, Option, Some, None, Result}
+use Rattle.std.specs.Prelude.{Ok, Err, nat_le, ◌==◌, if◌then◌else◌}
 use Rattle.std.specs.FinSet.{len}
 use Rattle.std.specs.List.{flat_map, slice_split}
 use Rattle.std.specs.Str.Lines.{strip_carriage_return}
@@ -11,7 +12,8 @@ use Rattle.mon_app.specs.Reading.{line_reading}
 use Rattle.mon_app.specs.Windows.{instances, rows_of}
 use Rattle.mon_app.specs.Text.{row_text, refused_line, end_line, samples_in}
 
--- the lines, which LF ends, each without one CR at its end; after the last LF there is an empty line, which says nothing
+-- the lines, which LF ends, each without one CR at its end; after the last LF there is an empty
+-- line, which says nothing
 unfoldable pub lines_of : List ℕ → List (List ℕ)
 lines_of input = map strip_carriage_return (slice_split (λ b. b == 10) input)
 
@@ -22,14 +24,16 @@ lines_left (Some text) = lines_of text
 
 -- a reading is refused where more than 256 instances would be held
 abbrev pub admitted : List Offer → List Offer → Result (List Offer) Refusal
-admitted taken offers = if nat_le (len (instances (taken ++ offers))) 256 then Ok offers else Err TooManyInstances
+admitted taken offers = if nat_le (len (instances (taken ++ offers))) 256 then Ok offers
+    else Err TooManyInstances
 
 -- a line's reading, with that limit
 abbrev pub verdict : List Offer → Result (List Offer) Refusal → Result (List Offer) Refusal
 verdict taken reading = reading >>= admitted taken
 
 -- what becomes of a line after what was taken: nothing, if it is empty
-abbrev pub judged : List Offer → Option (Result (List Offer) Refusal) → Option (Result (List Offer) Refusal)
+abbrev pub judged : List Offer → Option (Result (List Offer) Refusal)
+    → Option (Result (List Offer) Refusal)
 judged taken None = None
 judged taken (Some reading) = Some (verdict taken reading)
 
@@ -54,7 +58,8 @@ accepted taken (line ∷ lines) = accepted (taken ++ offered (judged taken (line
 abbrev pub refusals : ℕ → List Offer → List (List ℕ) → List (ℕ × Refusal)
 refusals k taken [] = []
 refusals k taken (line ∷ lines) =
-    refused (k + 1) (judged taken (line_reading line)) ++ refusals (k + 1) (taken ++ offered (judged taken (line_reading line))) lines
+    refused (k + 1) (judged taken (line_reading line)) ++ refusals (k + 1)
+    (taken ++ offered (judged taken (line_reading line))) lines
 
 -- the refused lines, each with its number and why
 abbrev pub refused_text : List (ℕ × Refusal) → List ℕ
@@ -66,4 +71,5 @@ replayed n input =
     let lines = lines_of input in
     let why = refusals 0 [] lines in
     let rows = rows_of n (accepted [] lines) in
-    refused_text why ++ flat_map row_text rows ++ end_line (length rows) (samples_in rows) (length why)
+    refused_text why ++ flat_map row_text rows ++ end_line (length rows) (samples_in rows)
+    (length why)

@@ -9,7 +9,14 @@ use Rattle.mon_app.specs.Windows.{rows_of}
 
 -- what a report says of an instance with its window; there are no alarm rules
 abbrev pub reported_row : Row → Entry
-reported_row row = record { engine = row.instance.engine; name = row.instance.name; items = rising row.window.items; rules = []; alarms = [] }
+reported_row row = record {
+  engine = row.instance.engine;
+  name = row.instance.name;
+  items = rising
+      row.window.items;
+  rules = [];
+  alarms = [];
+}
 
 -- what a replay keeps: the lines that name what it refuses, and of each instance what a report says
 pub record Kept : Type 0 where
@@ -19,7 +26,11 @@ pub record Kept : Type 0 where
 -- what windows of n samples keep of the input
 abbrev pub kept_of : ℕ → List ℕ → Kept
 kept_of n input =
-    record { refused = refused_text (refusals 0 [] (lines_of input)); entries = map reported_row (rows_of n (accepted [] (lines_of input))) }
+    record {
+      refused = refused_text (refusals 0 [] (lines_of input));
+      entries = map reported_row
+          (rows_of n (accepted [] (lines_of input)));
+    }
 
 -- It is kept of the input: each line has its outcome, as in a replay.
 pub record IsKept (n : ℕ) (input : List ℕ) (kept : Kept) : Type 0 where

@@ -1,6 +1,7 @@
--- What serving a datagram makes of an agent, and what happens at its port meanwhile (RFC 3416 section 4.2).
+-- What serving a datagram makes of an agent, and what happens at its port meanwhile (RFC 3416
+-- section 4.2).
 use Rattle.std.specs.Prelude.{◌≡◌, ℕ, ◌<◌, List, [], ◌∷◌, ◌++◌, length, take, All, Result, Ok, Err}
-use Rattle.mon_vacm.specs.Tables.{Lists}
+use Rattle.mon_vacm.specs.Tables.{PolicyTables}
 use Rattle.mon_mib.specs.declared.change.Change.{Change}
 use Rattle.mon_mib.specs.declared.counters.Counters.{Counters}
 use Rattle.mon_mib.specs.declared.counters.Counter.TheVariants.{InPackets}
@@ -61,19 +62,23 @@ stands agent = record { counts = counters_of agent; device = device_of agent }
 
 -- The agent's reply to a datagram that came at a moment, and what became of its counters and its
 -- device, of which devices of one kind hold, fail and refuse so.
-pub record AnswersIt {D : Type 0} (held : D → Held) (failed : D → ℕ) (refuses : D → Change → Type 0) (policy : Lists) (settings : Settings)
+pub record AnswersIt {D : Type 0} (held : D → Held) (failed : D → ℕ) (refuses : D → Change → Type 0)
+    (policy : PolicyTables) (settings : Settings)
     (before after : Standing D) (datagram : List ℕ) (moment : ℕ) (reply : Reply) : Type 0 where
-  pub answer : IsAnswer held failed refuses policy (known_of settings (counted before.counts InPackets) (held before.device) moment) before.device
+  pub answer : IsAnswer held failed refuses policy (known_of settings
+      (counted before.counts InPackets) (held before.device) moment) before.device
       after.device datagram reply
   pub counters : after.counts ≡ raised_by reply (counted before.counts InPackets)
 
--- what happens for a reply: it is sent, or could not be sent; nothing happens where the agent is silent
+-- what happens for a reply: it is sent, or could not be sent; nothing happens where the agent is
+-- silent
 abbrev pub IsSent : Reply → List AtPort → Type 0
 IsSent (Send octets) sent = IsReplied octets.items sent
 IsSent (Silent cause) sent = sent ≡ []
 
 -- a datagram that was answered
-pub record IsAnswered {S : Type 0} (Answers : S → S → List ℕ → ℕ → Reply → Type 0) (before after : S) (datagram : List ℕ) (moment : ℕ) (sent : List AtPort)
+pub record IsAnswered {S : Type 0} (Answers : S → S → List ℕ → ℕ → Reply → Type 0)
+    (before after : S) (datagram : List ℕ) (moment : ℕ) (sent : List AtPort)
     : Type 0 where
   pub reply : Reply
   pub answer : Answers before after datagram moment reply
@@ -81,8 +86,10 @@ pub record IsAnswered {S : Type 0} (Answers : S → S → List ℕ → ℕ → R
 
 -- what becomes of an agent, and what happens at the port, if a datagram came at a time: the agent
 -- answers it; or memory runs out, the agent is as it was, and nothing is sent
-abbrev pub Takes : {S : Type 0} → (S → S → List ℕ → ℕ → Reply → Type 0) → Served → S → S → List ℕ → ℕ → List AtPort → Type 0
-Takes Answers Answered before after datagram moment sent = IsAnswered Answers before after datagram moment sent
+abbrev pub Takes : {S : Type 0} → (S → S → List ℕ → ℕ → Reply → Type 0) → Served → S → S → List ℕ
+    → ℕ → List AtPort → Type 0
+Takes Answers Answered before after datagram moment sent = IsAnswered Answers before after datagram
+    moment sent
 Takes Answers Untaken before after datagram moment sent = (after ≡ before) × (sent ≡ [])
 
 -- after fewer than 16 failed waits a datagram came, of which this holds with what happened then
@@ -98,6 +105,7 @@ pub record IsTurn (Taken : List ℕ → ℕ → List AtPort → Type 0) (log : L
   pub log_is : log ≡ failed ++ Received datagram moment ∷ sent
 
 -- what serving one datagram comes to
-abbrev pub IsServed : {S : Type 0} → (S → S → List ℕ → ℕ → Reply → Type 0) → S → S → List AtPort → Result Served SocketFault → Type 0
+abbrev pub IsServed : {S : Type 0} → (S → S → List ℕ → ℕ → Reply → Type 0) → S → S → List AtPort
+    → Result Served SocketFault → Type 0
 IsServed Answers before after log (Ok served) = IsTurn (Takes Answers served before after) log
 IsServed Answers before after log (Err fault) = (after ≡ before) × IsEnd fault.reason log

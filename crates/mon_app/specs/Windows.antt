@@ -27,7 +27,14 @@ kept n taken i = top n (from_list (samples_of i taken))
 
 -- an instance with its window
 abbrev pub row : ℕ → List Offer → Instance → Row
-row n taken i = record { instance = i; window = record { size = n; epoch = n; items = kept n taken i } }
+row n taken i = record {
+  instance = i;
+  window = record {
+    size = n;
+    epoch = n;
+    items = kept n taken i;
+  };
+}
 
 -- a window with one sample
 abbrev pub first_window : ℕ → ℕ → Window

@@ -32,7 +32,8 @@ pub fn send_request<W: Wire>(
     wire: &mut W,
     question: &Question<'_>,
 ) -> Result<Message, AppFault>
-    ensures asked { GoesOnBy (λ log. IsAsked (asked_in question.now) log result) (W.told wire.old) (W.told wire.new) }
+    ensures asked { GoesOnBy (λ log. IsAsked (asked_in question.now) log result) (W.told wire.old)
+        (W.told wire.new) }
     ensures failures { W.failures wire.new ≡ socket_failures result (W.failures wire.old) }
 {
     let octets = write_message(alloc, &request(alloc, question)?)?;
@@ -58,7 +59,8 @@ pub fn take_reply<W: Wire>(
     question: &Question<'_>,
     room: &mut [u8],
 ) -> Result<Option<Message>, AppFault>
-    ensures heard { GoesOnBy (λ log. IsWait (asked_in question.now) log result) (W.told wire.old) (W.told wire.new) }
+    ensures heard { GoesOnBy (λ log. IsWait (asked_in question.now) log result) (W.told wire.old)
+        (W.told wire.new) }
     ensures failures { W.failures wire.new ≡ socket_failures result (W.failures wire.old) }
 {
     for _ in 0..HEARINGS {
@@ -81,8 +83,10 @@ fn reply_in(
     question: &Question<'_>,
     octets: &[u8],
 ) -> Result<Option<Message>, AllocError>
-    ensures found { IfOk result (λ found. IfSome found (HoldsReply (asked_in question.now) octets.now)) }
-    ensures none { IfOk result (λ found. IfNone found (HoldsNone (asked_in question.now) octets.now)) }
+    ensures found { IfOk result (λ found. IfSome found (HoldsReply (asked_in question.now)
+        octets.now)) }
+    ensures none { IfOk result (λ found. IfNone found (HoldsNone (asked_in question.now)
+        octets.now)) }
 {
     laws::again();
     match read_message(alloc, octets) {
@@ -93,7 +97,8 @@ fn reply_in(
 
 /// The message, where it replies.
 fn reply_of(question: &Question<'_>, message: Message) -> Option<Message>
-    ensures some { IfSome result (λ m. (m ≡ message) × (is_reply (asked_in question.now) message ≡ true)) }
+    ensures some { IfSome result (λ m. (m ≡ message) × (is_reply (asked_in question.now) message
+        ≡ true)) }
     ensures none { IfNone result (is_reply (asked_in question.now) message ≡ false) }
 {
     if is_reply(question, &message) {

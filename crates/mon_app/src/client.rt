@@ -27,7 +27,8 @@ pub fn answer_text<W: Wire, S: NameTexts>(
     question: &Question<'_>,
     names: &S,
 ) -> Result<String, AppFault>
-    ensures answer { GoesOnBy (λ log. IsPrinted (S.shown names.now) string_bytes (asked_in question.now) log result) (W.told wire.old) (W.told wire.new) }
+    ensures answer { GoesOnBy (λ log. IsPrinted (S.shown names.now) string_bytes
+        (asked_in question.now) log result) (W.told wire.old) (W.told wire.new) }
     ensures failures { W.failures wire.new ≡ socket_failures result (W.failures wire.old) }
 {
     let bindings = answers(alloc, wire, question)?;
@@ -40,7 +41,8 @@ pub(crate) fn answers<W: Wire>(
     wire: &mut W,
     question: &Question<'_>,
 ) -> Result<Bindings, AppFault>
-    ensures answer { GoesOnBy (λ log. IsQuestionAnswered (asked_in question.now) log result) (W.told wire.old) (W.told wire.new) }
+    ensures answer { GoesOnBy (λ log. IsQuestionAnswered (asked_in question.now) log result)
+        (W.told wire.old) (W.told wire.new) }
     ensures failures { W.failures wire.new ≡ socket_failures result (W.failures wire.old) }
 {
     let Message { body, .. } = send_request(alloc, wire, question)?;

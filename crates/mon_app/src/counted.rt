@@ -54,11 +54,13 @@ impl<R: Read> Counted<R> {
     /// One read.
     pub(crate) fn read(&mut self, room: &mut [u8]) -> io::Result<usize>
         ensures bound { ReadsAtMost result room.new }
-        ensures bytes { ReadConsumes (R.remaining self.old.reader) (R.remaining self.new.reader) result room.new }
+        ensures bytes { ReadConsumes (R.remaining self.old.reader) (R.remaining self.new.reader)
+            result room.new }
         ensures reads { self.new.counts.reads ≡ next_count self.old.counts.reads }
         ensures ends { self.new.counts.ends ≡ ends_after result self.old.counts.ends }
         ensures fine { OnOk result (self.new.counts.failures ≡ self.old.counts.failures) }
-        ensures failed { IfErr result (λ e. self.new.counts.failures ≡ failures_by (error_kind e) self.old.counts.failures) }
+        ensures failed { IfErr result (λ e. self.new.counts.failures
+            ≡ failures_by (error_kind e) self.old.counts.failures) }
     {
         self.counts.reads = self.counts.reads.saturating_add(1);
         let given = self.reader.read(room);

@@ -21,7 +21,8 @@ pub struct SocketFault {
     pub reason: SocketReason,
 }
 
-/// Why a command of the program failed, where no crate below names a fault of its own, in the order of the faults' numbers.
+/// Why a command of the program failed, where no crate below names a fault of its own, in the order
+/// of the faults' numbers.
 #[derive(Clone, Copy, Debug, Error)]
 pub enum AppFault {
     #[error("out of memory")]
@@ -35,8 +36,9 @@ pub enum AppFault {
     SocketFault { reason: SocketReason },
     #[error("the agent answered with a name that does not increase")]
     NotIncreasing,
-    /// The error-status and the error-index of the agent's reply (RFC 3416 section 3). The status is not 0; the index is the
-    /// place of the variable binding that is at fault, from 1, or 0 where none is.
+    /// The error-status and the error-index of the agent's reply (RFC 3416 section 3). The status
+    /// is not 0; the index is the place of the variable binding that is at fault, from 1, or 0
+    /// where none is.
     #[error("the agent answered with an error status")]
     AgentStatus { status: i32, index: i32 },
     #[error("a word of the command line or a text is of no form that is read")]

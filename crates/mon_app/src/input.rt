@@ -29,7 +29,8 @@ fn zeros(alloc: Global, len: usize) -> Result<Vec<u8>, AllocError>
 /// memory for the octets.
 pub fn read_all<R: Read>(alloc: Global, reader: &mut Counted<R>) -> Result<Vec<u8>, AppFault>
     requires { reader.old.counts.reads < 2 ^ 63 }
-    ensures whole { IfOk result (λ octets. IfSome (R.remaining reader.old.reader) (λ all. octets.items ≡ all)) }
+    ensures whole { IfOk result (λ octets. IfSome (R.remaining reader.old.reader)
+        (λ all. octets.items ≡ all)) }
     ensures fault { IfErr result (IsFaultOfInput reader.old.counts reader.new.counts) }
 {
     let mut chunk = zeros(alloc, CHUNK)?;

@@ -1,4 +1,5 @@
-//! Laws over what a replay prints, and over what a text means. Each is a function that does nothing; its clauses are the law.
+//! Laws over what a replay prints, and over what a text means. Each is a function that does
+//! nothing; its clauses are the law.
 
 ghost use Rattle.std.specs.Prelude.{◌≡◌, ℕ, List, Result};
 ghost use Rattle.mon_ber.specs.declared.value.Value.{Value};
@@ -15,7 +16,8 @@ ghost use Rattle.mon_app.specs.Reported.{IsKept, kept_of};
 /// A line says what reading it from left to right gives, and nothing else.
 pub fn readings()
     ensures says { (text : List ℕ) → Says text (hex_reading text) }
-    ensures only { (text : List ℕ) (reading : Result (List Offer) Refusal) → Says text reading → hex_reading text ≡ reading }
+    ensures only { (text : List ℕ) (reading : Result (List Offer) Refusal) → Says text reading
+        → hex_reading text ≡ reading }
 {
     mon_pdu::laws::takes();
     mon_pdu::laws::again();
@@ -32,7 +34,8 @@ pub fn one_text()
 
 /// A text means one value at most, for a kind.
 pub fn one_value()
-    ensures { (kind : ValueKind) (text : List ℕ) (a b : Value) → MeansValue kind text a → MeansValue kind text b → a ≡ b }
+    ensures { (kind : ValueKind) (text : List ℕ) (a b : Value) → MeansValue kind text a
+        → MeansValue kind text b → a ≡ b }
 {
     mon_oid::laws::one_reading();
 }

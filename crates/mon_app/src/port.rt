@@ -34,5 +34,6 @@ pub trait Port {
 
     /// Sends a datagram to where the last one came from. One that cannot be sent is lost.
     fn reply(&mut self, octets: &[u8])
-        ensures { Happens (IsReplied octets.now) (told self.old) (told self.new) (failures self.old) (failures self.new) };
+        ensures { Happens (IsReplied octets.now) (told self.old) (told self.new) (failures self.old)
+            (failures self.new) };
 }

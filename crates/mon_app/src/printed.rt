@@ -11,14 +11,15 @@ use mon_pdu::Binding;
 use mon_smi::NameTexts;
 use std::alloc::{AllocError, Global};
 
-/// The bindings, a line each: the name and the value with its kind. The names, and values that are names, are printed as
-/// `names` has it.
+/// The bindings, a line each: the name and the value with its kind. The names, and values that are
+/// names, are printed as `names` has it.
 pub fn bindings_text<S: NameTexts>(
     alloc: Global,
     bindings: &[Binding],
     names: &S,
 ) -> Result<String, AllocError>
-    ensures { IfOk result (λ text. string_bytes text ≡ flat_map (binding_line (S.shown names.now)) bindings.now) }
+    ensures { IfOk result (λ text. string_bytes text ≡ flat_map (binding_line (S.shown names.now))
+        bindings.now) }
 {
     let mut text = String::new(alloc);
     for binding in bindings {
@@ -34,7 +35,8 @@ pub(crate) fn put_binding<S: NameTexts>(
     binding: &Binding,
     names: &S,
 ) -> Result<(), AllocError>
-    ensures { OnOk result (string_bytes text.new ≡ string_bytes text.old ++ binding_line (S.shown names.now) binding.now) }
+    ensures { OnOk result (string_bytes text.new ≡ string_bytes text.old
+        ++ binding_line (S.shown names.now) binding.now) }
 {
     let name = names.text(alloc, &binding.name)?;
     text.push_str(name.as_str())?;
@@ -49,7 +51,8 @@ fn put_value<S: NameTexts>(
     value: &Value,
     names: &S,
 ) -> Result<(), AllocError>
-    ensures { OnOk result (string_bytes text.new ≡ string_bytes text.old ++ value_shown (S.shown names.now) value.now) }
+    ensures { OnOk result (string_bytes text.new ≡ string_bytes text.old
+        ++ value_shown (S.shown names.now) value.now) }
 {
     match value {
         Value::Integer(number) => put_integer(text, *number),
@@ -76,21 +79,24 @@ fn put_word(text: &mut String, word: &str) -> Result<(), AllocError>
 
 #[tactic(auto, unfolding(crate::specs::Printed::number_text))]
 fn put_number(text: &mut String, kind: &str, number: u64) -> Result<(), AllocError>
-    ensures { OnOk result (string_bytes text.new ≡ string_bytes text.old ++ number_text kind.now number) }
+    ensures { OnOk result (string_bytes text.new ≡ string_bytes text.old
+        ++ number_text kind.now number) }
 {
     write!(text, "{kind}: {number}")
 }
 
 #[tactic(auto, unfolding(crate::specs::Printed::kind_text))]
 fn put_text(text: &mut String, kind: &str, shown: &str) -> Result<(), AllocError>
-    ensures { OnOk result (string_bytes text.new ≡ string_bytes text.old ++ kind_text kind.now shown.now) }
+    ensures { OnOk result (string_bytes text.new ≡ string_bytes text.old
+        ++ kind_text kind.now shown.now) }
 {
     write!(text, "{kind}: {shown}")
 }
 
 #[tactic(auto, unfolding(crate::specs::Printed::kind_text))]
 fn put_integer(text: &mut String, number: i32) -> Result<(), AllocError>
-    ensures { OnOk result (string_bytes text.new ≡ string_bytes text.old ++ kind_text (codes "Integer") (signed_decimal number)) }
+    ensures { OnOk result (string_bytes text.new ≡ string_bytes text.old
+        ++ kind_text (codes "Integer") (signed_decimal number)) }
 {
     write!(text, "Integer: {number}")
 }
@@ -102,14 +108,16 @@ fn put_name<S: NameTexts>(
     name: &Oid,
     names: &S,
 ) -> Result<(), AllocError>
-    ensures { OnOk result (string_bytes text.new ≡ string_bytes text.old ++ kind_text (codes "Oid") (S.shown names.now name.now)) }
+    ensures { OnOk result (string_bytes text.new ≡ string_bytes text.old
+        ++ kind_text (codes "Oid") (S.shown names.now name.now)) }
 {
     let name = names.text(alloc, name)?;
     put_text(text, "Oid", name.as_str())
 }
 
 fn put_address(alloc: Global, text: &mut String, address: &[u8]) -> Result<(), AllocError>
-    ensures { OnOk result (string_bytes text.new ≡ string_bytes text.old ++ kind_text (codes "IpAddress") (address_text address.now)) }
+    ensures { OnOk result (string_bytes text.new ≡ string_bytes text.old
+        ++ kind_text (codes "IpAddress") (address_text address.now)) }
 {
     let shown = address_text(alloc, address)?;
     put_text(text, "IpAddress", shown.as_str())
@@ -147,14 +155,16 @@ fn hex_text(alloc: Global, octets: &[u8]) -> Result<String, AllocError>
 }
 
 fn put_opaque(alloc: Global, text: &mut String, octets: &[u8]) -> Result<(), AllocError>
-    ensures { OnOk result (string_bytes text.new ≡ string_bytes text.old ++ kind_text (codes "Opaque") (hex_text octets.now)) }
+    ensures { OnOk result (string_bytes text.new ≡ string_bytes text.old
+        ++ kind_text (codes "Opaque") (hex_text octets.now)) }
 {
     let shown = hex_text(alloc, octets)?;
     put_text(text, "Opaque", shown.as_str())
 }
 
 fn put_octets(alloc: Global, text: &mut String, octets: &[u8]) -> Result<(), AllocError>
-    ensures { OnOk result (string_bytes text.new ≡ string_bytes text.old ++ kind_text (codes "String") (string_text octets.now)) }
+    ensures { OnOk result (string_bytes text.new ≡ string_bytes text.old
+        ++ kind_text (codes "String") (string_text octets.now)) }
 {
     let shown = string_text(alloc, octets)?;
     put_text(text, "String", shown.as_str())
@@ -182,7 +192,8 @@ fn are_seen(octets: &[u8]) -> bool
 
 fn put_escaped(text: &mut String, octets: &[u8]) -> Result<(), AllocError>
     requires { IsTrue (list_all is_seen octets.now) }
-    ensures { OnOk result (string_bytes text.new ≡ string_bytes text.old ++ flat_map escaped octets.now) }
+    ensures { OnOk result (string_bytes text.new ≡ string_bytes text.old
+        ++ flat_map escaped octets.now) }
 {
     for octet in octets {
         if *octet == b'"' || *octet == b'\\' {

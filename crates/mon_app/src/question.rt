@@ -31,7 +31,8 @@ pub struct Repeats {
 }
 
 impl Asking<'_> {
-    /// The value that each name has in the request: the one to be assigned, else none yet (`unSpecified`).
+    /// The value that each name has in the request: the one to be assigned, else none yet
+    /// (`unSpecified`).
     fn value(self, alloc: Global) -> Result<Value, AllocError>
         ensures { IfOk result (λ v. v ≡ wanted_value self.entry) }
     {

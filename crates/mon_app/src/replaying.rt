@@ -18,9 +18,11 @@ use crate::text::{put_end, put_refused_line, put_rows};
 use mon_pdu::{Message, read_message};
 use std::alloc::{AllocError, Global};
 
-/// The first line of the octets, without the LF that ends it and one CR before that, and what follows the LF.
+/// The first line of the octets, without the LF that ends it and one CR before that, and what
+/// follows the LF.
 fn first_line(text: &[u8]) -> (&[u8], Option<&[u8]>)
-    ensures lines { lines_of text.now ≡ result.0.now ∷ lines_left (option_map (λ rest. rest.now) result.1) }
+    ensures lines { lines_of text.now ≡ result.0.now ∷ lines_left
+        (option_map (λ rest. rest.now) result.1) }
     ensures shorter { IfSome result.1 (λ rest. length rest.now < length text.now) }
 {
     match line_end(text) {
@@ -59,11 +61,15 @@ fn read_line(alloc: Global, line: &[u8]) -> Result<Message, Refusal>
 #[tactic(auto, unfolding(crate::specs::Reading::message_reading))]
 fn take_message(alloc: Global, table: &mut Table, message: &Message) -> Result<(), Refusal>
     ensures size { table.new.size ≡ table.old.size }
-    ensures ok { OnOk result ((taken : List Offer) → table.old.rows.items ≡ rows_of table.old.size taken
-        → AreOffersTaken (verdict taken (message_reading message.now)) table.old.size taken table.new.rows.items) }
-    ensures err { IfErr result (λ e. (taken : List Offer) → table.old.rows.items ≡ rows_of table.old.size taken
+    ensures ok { OnOk result ((taken : List Offer) → table.old.rows.items
+        ≡ rows_of table.old.size taken
+        → AreOffersTaken (verdict taken (message_reading message.now)) table.old.size taken
+        table.new.rows.items) }
+    ensures err { IfErr result (λ e. (taken : List Offer) → table.old.rows.items
+        ≡ rows_of table.old.size taken
         → Fails e (verdict taken (message_reading message.now))) }
-    ensures same { IfErr result (λ e. e ≢ Refusal.OutOfMemory → table.new.rows.items ≡ table.old.rows.items) }
+    ensures same { IfErr result (λ e. e ≢ Refusal.OutOfMemory
+        → table.new.rows.items ≡ table.old.rows.items) }
 {
     let response = read_body(&message.body)?;
     if !table.has_room(alloc, &response)? {
@@ -77,11 +83,15 @@ fn take_message(alloc: Global, table: &mut Table, message: &Message) -> Result<(
 #[tactic(auto, unfolding(crate::specs::Reading::hex_reading))]
 fn take_line(alloc: Global, table: &mut Table, line: &[u8]) -> Result<(), Refusal>
     ensures size { table.new.size ≡ table.old.size }
-    ensures ok { OnOk result ((taken : List Offer) → table.old.rows.items ≡ rows_of table.old.size taken
-        → AreOffersTaken (verdict taken (hex_reading line.now)) table.old.size taken table.new.rows.items) }
-    ensures err { IfErr result (λ e. (taken : List Offer) → table.old.rows.items ≡ rows_of table.old.size taken
+    ensures ok { OnOk result ((taken : List Offer) → table.old.rows.items
+        ≡ rows_of table.old.size taken
+        → AreOffersTaken (verdict taken (hex_reading line.now)) table.old.size taken
+        table.new.rows.items) }
+    ensures err { IfErr result (λ e. (taken : List Offer) → table.old.rows.items
+        ≡ rows_of table.old.size taken
         → Fails e (verdict taken (hex_reading line.now))) }
-    ensures same { IfErr result (λ e. e ≢ Refusal.OutOfMemory → table.new.rows.items ≡ table.old.rows.items) }
+    ensures same { IfErr result (λ e. e ≢ Refusal.OutOfMemory
+        → table.new.rows.items ≡ table.old.rows.items) }
 {
     let message = read_line(alloc, line)?;
     take_message(alloc, table, &message)
@@ -96,8 +106,10 @@ pub(crate) fn take_lines(
 ) -> Result<usize, AllocError>
     requires { table.old.rows.items ≡ [] }
     ensures refused { IfOk result (λ count. count ≡ length (refusals 0 [] (lines_of input.now))) }
-    ensures text { OnOk result (string_bytes text.new ≡ string_bytes text.old ++ refused_text (refusals 0 [] (lines_of input.now))) }
-    ensures rows { OnOk result (table.new.rows.items ≡ rows_of table.old.size (accepted [] (lines_of input.now))) }
+    ensures text { OnOk result (string_bytes text.new ≡ string_bytes text.old
+        ++ refused_text (refusals 0 [] (lines_of input.now))) }
+    ensures rows { OnOk result (table.new.rows.items ≡ rows_of table.old.size
+        (accepted [] (lines_of input.now))) }
     ensures few { OnOk result (length table.new.rows.items ≤ 256) }
 {
     let mut rest = Some(input);
@@ -136,7 +148,8 @@ pub fn replay(alloc: Global, n: usize, input: &[u8]) -> Result<Vec<u8>, AllocErr
     requires small { n ≤ 64 }
     ensures text { IfOk result (λ text. text.items ≡ replayed n input.now) }
 
-    // By the grammar of messages: each line has the outcome that it says, and the text is that of the outcomes.
+    // By the grammar of messages: each line has the outcome that it says, and the text is that of
+    // the outcomes.
     ensures meaning { IfOk result (λ text. IsReplay n input.now text.items) }
 {
     laws::one_text();

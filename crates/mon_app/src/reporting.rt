@@ -36,11 +36,16 @@ impl Model for Recorded {
 
     ghost Value = { Kept };
 
-    ghost view = { λ r. record { refused = string_bytes r.refused; entries = map reported_row r.table.rows.items } };
+    ghost view = { λ r. record {
+      refused = string_bytes r.refused;
+      entries = map reported_row
+          r.table.rows.items;
+    } };
 }
 
 impl Recorded {
-    /// What windows of `n` samples keep of the responses that the input records, one a line, in hex digits.
+    /// What windows of `n` samples keep of the responses that the input records, one a line, in hex
+    /// digits.
     pub fn read(alloc: Global, n: usize, input: &[u8]) -> Result<Self, AllocError>
         requires positive { 1 ≤ n }
         requires small { n ≤ 64 }

@@ -21,7 +21,8 @@ impl Response<'_> {
     /// Returns the sample that a variable binding of the response brings, if its value is of a
     /// sampled kind.
     pub(crate) fn sample(&self, binding: &Binding) -> Option<Sample>
-        ensures { option_map (λ s. offered_by self.now binding.now.name s) result ≡ offer_in (stamp_in self.now) binding.now }
+        ensures { option_map (λ s. offered_by self.now binding.now.name s) result
+            ≡ offer_in (stamp_in self.now) binding.now }
     {
         self.stamp.sample(&binding.value, Some(0))
     }

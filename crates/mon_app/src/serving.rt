@@ -106,7 +106,8 @@ fn serve_in<P: Port, D: Device + Drop>(
 /// # Errors
 /// `SocketFault` where 16 waits in a row failed, with the reason of the last.
 fn next_datagram<P: Port>(port: &mut P, room: &mut [u8]) -> Result<Received, SocketFault>
-    ensures awaited { Happens (λ log. IsAwaited room.new log result) (P.told port.old) (P.told port.new) (P.failures port.old) (P.failures port.new) }
+    ensures awaited { Happens (λ log. IsAwaited room.new log result) (P.told port.old)
+        (P.told port.new) (P.failures port.old) (P.failures port.new) }
     ensures within { IfOk result (λ received. received.len ≤ length room.new) }
 {
     for _ in 0..PASSED_OVER {

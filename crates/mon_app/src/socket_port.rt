@@ -111,8 +111,8 @@ impl<R: Ticks, S: Receives + Sends> PortBy<'_, R, S> {
     }
 }
 
-/// Waits for a datagram without end, and puts it into the buffer. Returns how many of its octets are
-/// there, and where it came from.
+/// Waits for a datagram without end, and puts it into the buffer. Returns how many of its octets
+/// are there, and where it came from.
 ///
 /// # Errors
 /// That of the system; a reception that a signal interrupts is tried 255 times.
@@ -130,8 +130,8 @@ fn receive_from<S: Receives>(socket: &S, room: &mut [u8]) -> io::Result<(usize, 
     socket.receive_next(room)
 }
 
-/// Returns the time now of a life that started then, in whole hundredths of a second. At 2^31 seconds
-/// the life is over.
+/// Returns the time now of a life that started then, in whole hundredths of a second. At 2^31
+/// seconds the life is over.
 fn moment_at(began: Instant, now: Instant) -> Result<Moment, SocketFault>
     ensures moment { IfOk result (λ moment. moment ≡ hundredths_between began now) }
     ensures over { IfErr result (λ _. 214_748_364_800 ≤ hundredths_between began now) }

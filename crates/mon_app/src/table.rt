@@ -78,8 +78,10 @@ impl Table {
         alloc: Global,
         response: &Response<'_>,
     ) -> Result<bool, AllocError>
-        ensures { IfOk result (λ room. (taken : List Offer) → self.now.rows.items ≡ rows_of self.now.size taken
-            → (IsTrue room ↔ (len (instances (taken ++ offers_of (stamp_in response.now) response.now.bindings.now)) ≤ 256))) }
+        ensures { IfOk result (λ room. (taken : List Offer) → self.now.rows.items
+            ≡ rows_of self.now.size taken
+            → (IsTrue room ↔ (len (instances (taken ++ offers_of (stamp_in response.now)
+            response.now.bindings.now)) ≤ 256))) }
     {
         if self.rows.len() + response.bindings.len() <= LIMIT {
             return Ok(true);
@@ -107,8 +109,10 @@ impl Table {
     /// Takes the samples of the response in.
     pub(crate) fn take(&mut self, alloc: Global, response: &Response<'_>) -> Result<(), AllocError>
         ensures size { self.new.size ≡ self.old.size }
-        ensures rows { OnOk result ((taken : List Offer) → self.old.rows.items ≡ rows_of self.old.size taken
-            → self.new.rows.items ≡ rows_of self.old.size (taken ++ offers_of (stamp_in response.now) response.now.bindings.now)) }
+        ensures rows { OnOk result ((taken : List Offer) → self.old.rows.items
+            ≡ rows_of self.old.size taken
+            → self.new.rows.items ≡ rows_of self.old.size (taken
+            ++ offers_of (stamp_in response.now) response.now.bindings.now)) }
     {
         for binding in response.bindings {
             if let Some(sample) = response.sample(binding) {
@@ -127,8 +131,10 @@ impl Table {
         sample: Sample,
     ) -> Result<(), AllocError>
         ensures size { self.new.size ≡ self.old.size }
-        ensures rows { OnOk result ((taken : List Offer) → self.old.rows.items ≡ rows_of self.old.size taken
-            → self.new.rows.items ≡ rows_of self.old.size (taken ++ record { instance = named engine.now name.now; sample = sample } ∷ [])) }
+        ensures rows { OnOk result ((taken : List Offer) → self.old.rows.items
+            ≡ rows_of self.old.size taken
+            → self.new.rows.items ≡ rows_of self.old.size (taken
+            ++ record { instance = named engine.now name.now; sample = sample } ∷ [])) }
     {
         match find(self.rows.as_slice(), engine, name) {
             Ok(at) => {
@@ -179,13 +185,15 @@ fn find(rows: &[Row], engine: &Octets, name: &Oid) -> Result<usize, usize>
 /// Returns `true` if neither a row nor one of the fresh names at the engine is of this name.
 fn is_new(rows: &[Row], engine: &Octets, fresh: &[&Oid], name: &Oid) -> bool
     ensures { (n : ℕ) (taken : List Offer) → rows.now ≡ rows_of n taken
-        → result ≡ not (contains (instances taken) (named engine.now name.now) || list_any (λ f. eq_by_cmp (slice_cmp nat_cmp) name.now f.now) fresh.now) }
+        → result ≡ not (contains (instances taken) (named engine.now name.now)
+        || list_any (λ f. eq_by_cmp (slice_cmp nat_cmp) name.now f.now) fresh.now) }
 {
     find(rows, engine, name).is_err() && !is_among(fresh, name)
 }
 
 fn is_among(names: &[&Oid], name: &Oid) -> bool
-    ensures { result ≡ list_any (λ other. eq_by_cmp (slice_cmp nat_cmp) name.now other.now) names.now }
+    ensures { result ≡ list_any (λ other. eq_by_cmp (slice_cmp nat_cmp) name.now other.now)
+        names.now }
 {
     names
         .iter()

@@ -36,7 +36,8 @@ fn put_sample(text: &mut String, sample: &Sample) -> Result<(), AllocError>
 
 #[tactic(auto, unfolding(crate::specs::Text::instance_line))]
 fn put_instance(alloc: Global, text: &mut String, instance: &Instance) -> Result<(), AllocError>
-    ensures { OnOk result (string_bytes text.new ≡ string_bytes text.old ++ instance_line instance.now) }
+    ensures { OnOk result (string_bytes text.new ≡ string_bytes text.old
+        ++ instance_line instance.now) }
 {
     let engine = hex::encode(alloc, instance.engine.as_slice())?;
     let name = instance.name.text(alloc)?;
@@ -44,7 +45,8 @@ fn put_instance(alloc: Global, text: &mut String, instance: &Instance) -> Result
 }
 
 fn put_samples(text: &mut String, samples: &[Sample]) -> Result<(), AllocError>
-    ensures { OnOk result (string_bytes text.new ≡ string_bytes text.old ++ flat_map sample_line samples.now) }
+    ensures { OnOk result (string_bytes text.new ≡ string_bytes text.old
+        ++ flat_map sample_line samples.now) }
 {
     for sample in samples {
         put_sample(text, sample)?;
@@ -62,7 +64,8 @@ fn put_row(alloc: Global, text: &mut String, row: &Row) -> Result<(), AllocError
 
 /// The rows, one after the other.
 pub(crate) fn put_rows(alloc: Global, text: &mut String, rows: &[Row]) -> Result<(), AllocError>
-    ensures { OnOk result (string_bytes text.new ≡ string_bytes text.old ++ flat_map row_text rows.now) }
+    ensures { OnOk result (string_bytes text.new ≡ string_bytes text.old
+        ++ flat_map row_text rows.now) }
 {
     for row in rows {
         put_row(alloc, text, row)?;
@@ -77,7 +80,8 @@ pub(crate) fn put_refused_line(
     line: usize,
     refusal: Refusal,
 ) -> Result<(), AllocError>
-    ensures { OnOk result (string_bytes text.new ≡ string_bytes text.old ++ refused_line line refusal) }
+    ensures { OnOk result (string_bytes text.new ≡ string_bytes text.old
+        ++ refused_line line refusal) }
 {
     let (number, name) = (refusal.number(), refusal.name());
     writeln!(text, "line {line}: refused {number} {name}")
@@ -100,7 +104,8 @@ pub(crate) fn samples_in(rows: &[Row]) -> usize
 #[tactic(auto, unfolding(crate::specs::Text::end_line))]
 pub(crate) fn put_end(text: &mut String, rows: &[Row], refused: usize) -> Result<(), AllocError>
     requires { length rows.now ≤ 256 }
-    ensures { OnOk result (string_bytes text.new ≡ string_bytes text.old ++ end_line (length rows.now) (samples_in rows.now) refused) }
+    ensures { OnOk result (string_bytes text.new ≡ string_bytes text.old
+        ++ end_line (length rows.now) (samples_in rows.now) refused) }
 {
     let (instances, samples) = (rows.len(), samples_in(rows));
     writeln!(

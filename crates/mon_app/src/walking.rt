@@ -70,14 +70,16 @@ struct Place<'a> {
     last: &'a Oid,
 }
 
-/// Asks an agent for what comes after the start, then for what comes after that, and so on, and prints a line for each
-/// variable as soon as it is answered. It ends at the first name that is not under the start, at endOfMibView, or after
-/// 65536 requests. Names are printed as `names` has it, also those that are values. If it ended and printed no line, one on
-/// standard error says that nothing is below the start.
+/// Asks an agent for what comes after the start, then for what comes after that, and so on, and
+/// prints a line for each variable as soon as it is answered. It ends at the first name that is not
+/// under the start, at endOfMibView, or after 65536 requests. Names are printed as `names` has it,
+/// also those that are values. If it ended and printed no line, one on standard error says that
+/// nothing is below the start.
 ///
 /// # Errors
-/// `NotIncreasing` where the agent answers with a name that does not increase, or with no variable at all; `Output` where a
-/// line could not be printed; else as `answer_text`. The walk ends at once, and the lines before were printed.
+/// `NotIncreasing` where the agent answers with a name that does not increase, or with no variable
+/// at all; `Output` where a line could not be printed; else as `answer_text`. The walk ends at
+/// once, and the lines before were printed.
 pub fn walk<W: Wire, S: NameTexts, H: Host>(
     alloc: Global,
     host: &mut H,
@@ -85,7 +87,8 @@ pub fn walk<W: Wire, S: NameTexts, H: Host>(
     asked: &WalkPlan<'_>,
     names: &S,
 ) -> Result<(), WalkFault>
-    ensures walk { GoesOnBy (λ log. HostGoesOnBy (λ said. IsWalk (S.shown names.now) (question_after asked.now)
+    ensures walk { GoesOnBy (λ log. HostGoesOnBy (λ said. IsWalk (S.shown names.now)
+        (question_after asked.now)
         asked.now.start.now log said result) (H.log host.old) (H.log host.new)) (W.told wire.old) (W.told wire.new) }
     ensures failures { W.failures wire.new ≡ walk_failures result (W.failures wire.old) }
 {
@@ -104,7 +107,8 @@ fn walk_through<W: Wire, S: NameTexts, H: Host>(
     asked: &WalkPlan<'_>,
     names: &S,
 ) -> Result<bool, WalkFault>
-    ensures walk { GoesOnBy (λ log. HostGoesOnBy (λ said. AreTurns (S.shown names.now) (question_after asked.now)
+    ensures walk { GoesOnBy (λ log. HostGoesOnBy (λ said. AreTurns (S.shown names.now)
+        (question_after asked.now)
         asked.now.start.now log said result) (H.log host.old) (H.log host.new)) (W.told wire.old) (W.told wire.new) }
     ensures failures { W.failures wire.new ≡ walk_failures result (W.failures wire.old) }
 {
@@ -137,7 +141,8 @@ fn note_empty<S: NameTexts, H: Host>(
     start: &Oid,
     names: &S,
 ) -> Result<(), WalkFault>
-    ensures said { HostGoesOnBy (λ said. IsEmptyNoted (S.shown names.now start.now) said result) (H.log host.old) (H.log host.new) }
+    ensures said { HostGoesOnBy (λ said. IsEmptyNoted (S.shown names.now start.now) said result)
+        (H.log host.old) (H.log host.new) }
     ensures fault { IfErr result IsOfLines }
 {
     let name = names.text(alloc, start)?;
@@ -182,7 +187,8 @@ fn walk_on<W: Wire, S: NameTexts, H: Host>(
 /// Asks for what comes after the last name.
 fn after<W: Wire>(alloc: Global, wire: &mut W, turn: &Turn<'_>) -> Result<Bindings, AppFault>
     requires { turn.now.request_id < 65536 }
-    ensures answer { GoesOnBy (λ log. IsQuestionAnswered (question_after turn.now.asked turn.now.request_id turn.now.last.now) log result) (W.told wire.old) (W.told wire.new) }
+    ensures answer { GoesOnBy (λ log. IsQuestionAnswered (question_after turn.now.asked
+        turn.now.request_id turn.now.last.now) log result) (W.told wire.old) (W.told wire.new) }
     ensures failures { W.failures wire.new ≡ socket_failures result (W.failures wire.old) }
 {
     let question = Question {
@@ -203,7 +209,8 @@ fn print_found<S: NameTexts, H: Host>(
     found: &[Binding],
     names: &S,
 ) -> Result<Turned, WalkFault>
-    ensures lines { HostGoesOnBy (λ said. EndsInLines (S.shown names.now) at.entry.start.now at.entry.last.now
+    ensures lines { HostGoesOnBy (λ said. EndsInLines (S.shown names.now) at.entry.start.now
+        at.entry.last.now
         found.now said (name_in result) × SaysWhether said result) (H.log host.old) (H.log host.new) }
     ensures fault { IfErr result IsOfLines }
 {
@@ -221,7 +228,8 @@ fn print_lines<S: NameTexts, H: Host>(
     found: &[Binding],
     names: &S,
 ) -> Result<Turned, WalkFault>
-    ensures lines { HostGoesOnBy (λ said. IsAlong (S.shown names.now) at.entry.start.now at.entry.last.now
+    ensures lines { HostGoesOnBy (λ said. IsAlong (S.shown names.now) at.entry.start.now
+        at.entry.last.now
         found.now said (name_in result) × SaysWhether said result) (H.log host.old) (H.log host.new) }
     ensures fault { IfErr result IsOfLines }
 {
@@ -246,7 +254,8 @@ fn print_line<S: NameTexts, H: Host>(
     found: &Binding,
     names: &S,
 ) -> Result<(), WalkFault>
-    ensures said { HostGoesOnBy (λ said. IsSaid (S.shown names.now) found.now said result) (H.log host.old) (H.log host.new) }
+    ensures said { HostGoesOnBy (λ said. IsSaid (S.shown names.now) found.now said result)
+        (H.log host.old) (H.log host.new) }
     ensures fault { IfErr result IsOfLines }
 {
     let mut line = String::new(alloc);

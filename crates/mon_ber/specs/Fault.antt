@@ -1,7 +1,8 @@
 -- The faults of reading and writing.
 use Rattle.std.specs.Prelude.{ℕ, List, codes}
 use Rattle.mon_ber.specs.declared.fault.BerFault.{BerFault}
-use Rattle.mon_ber.specs.declared.fault.BerFault.TheVariants.{OutOfMemory, Truncated, BadTag, BadLength, OutOfRange, BadOid}
+use Rattle.mon_ber.specs.declared.fault.BerFault.TheVariants.{OutOfMemory, Truncated, BadTag}
+use Rattle.mon_ber.specs.declared.fault.BerFault.TheVariants.{BadLength, OutOfRange, BadOid}
 
 -- the number of a fault
 abbrev pub number_of : BerFault → ℕ

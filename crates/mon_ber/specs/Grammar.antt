@@ -1,10 +1,25 @@
 -- Which octets spell a value: a tag, a length and contents (X.690 8.1, RFC 3417 section 8).
-use Rattle.std.specs.Prelude.{◌≡◌, ℕ, ◌+◌, ◌<◌, ◌≤◌, ◌^◌, ◌⊎◌, ◌==◌, if◌then◌else◌, pos, List, [], ◌∷◌, ◌++◌, length, Option, Some, None, FitsSigned}
+use Rattle.std.specs.Prelude.{◌≡◌, ℕ, ◌+◌, ◌<◌, ◌≤◌, ◌^◌, ◌⊎◌, ◌==◌, if◌then◌else◌, pos, List, []}
+use Rattle.std.specs.Prelude.{◌∷◌, ◌++◌, length, Option, Some, None, FitsSigned}
 use Rattle.std.specs.Int.{w32}
 use Rattle.mon_ber.specs.declared.tag.Tag.{Tag}
 use Rattle.mon_ber.specs.declared.tag.Tag.TheVariants as tags
 use Rattle.mon_ber.specs.declared.value.Value.{Value}
-use Rattle.mon_ber.specs.declared.value.Value.TheVariants.{Integer, Octets, Null, Name, IpAddress, Counter32, Gauge32, TimeTicks, Opaque, Counter64, NoSuchObject, NoSuchInstance, EndOfMibView}
+use Rattle.mon_ber.specs.declared.value.Value.TheVariants.{
+  Integer,
+  Octets,
+  Null,
+  Name,
+  IpAddress,
+  Counter32,
+  Gauge32,
+  TimeTicks,
+  Opaque,
+  Counter64,
+  NoSuchObject,
+  NoSuchInstance,
+  EndOfMibView,
+}
 use Rattle.mon_ber.specs.Numbers.{big_endian, IsNumber, IsName}
 
 -- the octet of a tag (RFC 2578 section 7.1; of the exceptions RFC 3416 section 3)
@@ -72,13 +87,15 @@ IsContents bytes NoSuchObject = bytes ≡ []
 IsContents bytes NoSuchInstance = bytes ≡ []
 IsContents bytes EndOfMibView = bytes ≡ []
 
--- a length is one octet below 128, or 1 to 4 octets after one that says how many; leading zeros are allowed (X.690 8.1.3)
+-- a length is one octet below 128, or 1 to 4 octets after one that says how many; leading zeros are
+-- allowed (X.690 8.1.3)
 abbrev pub IsLength : List ℕ → ℕ → Type 0
 IsLength [] n = ⊥
 IsLength (b ∷ bs) n = ((b < 128) × (bs ≡ []) × (n ≡ b))
     ⊎ ((b ≡ 128 + length bs) × (1 ≤ length bs) × (length bs ≤ 4) × (n ≡ big_endian bs))
 
--- these octets are an element: a tag, the length of the contents in one of its forms, and the contents (X.690 8.1)
+-- these octets are an element: a tag, the length of the contents in one of its forms, and the
+-- contents (X.690 8.1)
 pub record IsElement (tag : ℕ) (contents bytes : List ℕ) : Type 0 where
   pub len : List ℕ
   pub spelled : IsLength len (length contents)

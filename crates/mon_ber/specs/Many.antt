@@ -3,11 +3,14 @@ use Rattle.std.specs.Prelude.{ℕ, zero, suc, List, [], ◌∷◌, ◌++◌, Res
 pub use Rattle.mon_ber.specs.Sequence.{AreSpelled}
 use Rattle.mon_oid.specs.Steps.{◌>>=◌}
 
--- what reads one of them reads all; where octets are left after this many of them, the fault is full
-unfoldable pub many : {A E : Type 0} → (List ℕ → Result (A × List ℕ) E) → E → ℕ → List ℕ → Result (List A) E
+-- what reads one of them reads all; where octets are left after this many of them, the fault is
+-- full
+unfoldable pub many : {A E : Type 0} → (List ℕ → Result (A × List ℕ) E) → E → ℕ → List ℕ
+    → Result (List A) E
 many read full room [] = Ok []
 many read full zero (b ∷ bs) = Err full
-many read full (suc room) (b ∷ bs) = read (b ∷ bs) >>= λ x. many read full room x.1 >>= λ xs. Ok (x.0 ∷ xs)
+many read full (suc room) (b ∷ bs) = read (b ∷ bs) >>= λ x. many read full room x.1 >>= λ xs. Ok
+    (x.0 ∷ xs)
 
 -- what was read before, and what is still read
 abbrev pub with_front : {A E : Type 0} → List A → Result (List A) E → Result (List A) E

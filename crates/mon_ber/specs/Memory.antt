@@ -1,7 +1,21 @@
 -- What is held without heap memory.
 use Rattle.std.specs.Prelude.{◌≤◌, length}
 use Rattle.mon_ber.specs.declared.value.Value.{Value}
-use Rattle.mon_ber.specs.declared.value.Value.TheVariants.{Integer, Octets, Null, Name, IpAddress, Counter32, Gauge32, TimeTicks, Opaque, Counter64, NoSuchObject, NoSuchInstance, EndOfMibView}
+use Rattle.mon_ber.specs.declared.value.Value.TheVariants.{
+  Integer,
+  Octets,
+  Null,
+  Name,
+  IpAddress,
+  Counter32,
+  Gauge32,
+  TimeTicks,
+  Opaque,
+  Counter64,
+  NoSuchObject,
+  NoSuchInstance,
+  EndOfMibView,
+}
 
 -- the value is held without heap memory: no octets, and at most 16 sub-identifiers
 abbrev pub IsInline : Value → Type 0

@@ -1,12 +1,29 @@
 -- Reading from left to right, with the first fault that is met.
-use Rattle.std.specs.Prelude.{◌≡◌, ℕ, zero, suc, ◌+◌, ◌-◌, ◌*◌, ◌^◌, ℤ, pos, negsuc, List, [], ◌∷◌, length, take, drop, slice_index, Some, None, Result, Ok, Err, nat_lt, ◌==◌, if◌then◌else◌, ◌||◌}
+use Rattle.std.specs.Prelude.{◌≡◌, ℕ, zero, suc, ◌+◌, ◌-◌, ◌*◌, ◌^◌, ℤ, pos, negsuc, List, [], ◌∷◌}
+use Rattle.std.specs.Prelude.{length, take, drop, slice_index, Some, None, Result, Ok, Err, nat_lt}
+use Rattle.std.specs.Prelude.{◌==◌, if◌then◌else◌, ◌||◌}
 use Rattle.mon_oid.specs.Steps.{◌>>=◌}
 use Rattle.mon_ber.specs.declared.fault.BerFault.{BerFault}
-use Rattle.mon_ber.specs.declared.fault.BerFault.TheVariants.{OutOfMemory, Truncated, BadTag, BadLength, OutOfRange, BadOid}
+use Rattle.mon_ber.specs.declared.fault.BerFault.TheVariants.{OutOfMemory, Truncated, BadTag}
+use Rattle.mon_ber.specs.declared.fault.BerFault.TheVariants.{BadLength, OutOfRange, BadOid}
 use Rattle.mon_ber.specs.declared.tag.Tag.{Tag}
 use Rattle.mon_ber.specs.declared.tag.Tag.TheVariants as tags
 use Rattle.mon_ber.specs.declared.value.Value.{Value}
-use Rattle.mon_ber.specs.declared.value.Value.TheVariants.{Integer, Octets, Null, Name, IpAddress, Counter32, Gauge32, TimeTicks, Opaque, Counter64, NoSuchObject, NoSuchInstance, EndOfMibView}
+use Rattle.mon_ber.specs.declared.value.Value.TheVariants.{
+  Integer,
+  Octets,
+  Null,
+  Name,
+  IpAddress,
+  Counter32,
+  Gauge32,
+  TimeTicks,
+  Opaque,
+  Counter64,
+  NoSuchObject,
+  NoSuchInstance,
+  EndOfMibView,
+}
 use Rattle.mon_ber.specs.Numbers.{big_endian}
 use Rattle.mon_ber.specs.Grammar.{kind_of}
 
@@ -94,8 +111,10 @@ nothing_of x (b ∷ bs) = Err BadLength
 abbrev pub digits_at : ℕ → List ℕ → Result (ℕ × List ℕ) BerFault
 digits_at high [] = Err BadOid
 digits_at high (b ∷ bs) =
-    if nat_lt b 128 then (if nat_lt (128 * high + b) (2 ^ 32 + 80) then Ok (128 * high + b, bs) else Err BadOid) else
-    (if nat_lt (128 * high + (b - 128)) (2 ^ 32 + 80) then digits_at (128 * high + (b - 128)) bs else Err BadOid)
+    if nat_lt b 128 then (if nat_lt (128 * high + b) (2 ^ 32 + 80) then Ok (128 * high + b, bs)
+    else Err BadOid) else
+    (if nat_lt (128 * high + (b - 128)) (2 ^ 32 + 80) then digits_at (128 * high + (b - 128)) bs
+    else Err BadOid)
 
 -- a number in base 128 that does not begin with a leading zero, and what follows it
 unfoldable pub subidentifier_at : List ℕ → Result (ℕ × List ℕ) BerFault
@@ -154,7 +173,8 @@ value_of tags.NoSuchObject contents = nothing_of NoSuchObject contents
 value_of tags.NoSuchInstance contents = nothing_of NoSuchInstance contents
 value_of tags.EndOfMibView contents = nothing_of EndOfMibView contents
 
--- a value, and what follows it; the faults come in this order: empty, tag, length, octets left, contents
+-- a value, and what follows it; the faults come in this order: empty, tag, length, octets left,
+-- contents
 unfoldable pub value_at : List ℕ → Result (Value × List ℕ) BerFault
 value_at bytes = do
   tag ← tag_at bytes

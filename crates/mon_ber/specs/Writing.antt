@@ -1,14 +1,30 @@
 -- The spelling that is written: the one with the shortest lengths and numbers.
-use Rattle.std.specs.Prelude.{◌≡◌, FitsSigned, ℕ, min, ◌+◌, ◌/◌, ◌%◌, ◌^◌, ◌<◌, ℤ, pos, negsuc, List, [], ◌∷◌, ◌++◌, length, nat_lt, if◌then◌else◌}
+use Rattle.std.specs.Prelude.{◌≡◌, FitsSigned, ℕ, min, ◌+◌, ◌/◌, ◌%◌, ◌^◌, ◌<◌, ℤ, pos, negsuc}
+use Rattle.std.specs.Prelude.{List, [], ◌∷◌, ◌++◌, length, nat_lt, if◌then◌else◌}
 use Rattle.std.specs.Int.{w32, w128, cast_unsigned, bytes_high_first}
 use Rattle.std.specs.List.{flat_map}
 use Rattle.mon_ber.specs.declared.value.Value.{Value}
-use Rattle.mon_ber.specs.declared.value.Value.TheVariants.{Integer, Octets, Null, Name, IpAddress, Counter32, Gauge32, TimeTicks, Opaque, Counter64, NoSuchObject, NoSuchInstance, EndOfMibView}
+use Rattle.mon_ber.specs.declared.value.Value.TheVariants.{
+  Integer,
+  Octets,
+  Null,
+  Name,
+  IpAddress,
+  Counter32,
+  Gauge32,
+  TimeTicks,
+  Opaque,
+  Counter64,
+  NoSuchObject,
+  NoSuchInstance,
+  EndOfMibView,
+}
 use Rattle.mon_oid.specs.Oid.{IsOid}
 use Rattle.mon_ber.specs.Numbers.{encoded}
 use Rattle.mon_ber.specs.Grammar.{octet_of, tag_of}
 
--- how many octets a number takes, and so the one below 0 that is as far from -1: one bit is the sign's
+-- how many octets a number takes, and so the one below 0 that is as far from -1: one bit is the
+-- sign's
 abbrev pub octets_for : ℕ → ℕ
 octets_for n =
     if nat_lt n (2 ^ 7) then 1 else
@@ -35,7 +51,8 @@ digit place n = if nat_lt n place then [] else (128 + n / place % 128) ∷ []
 
 -- the number, below 2 ^ 35, in base 128
 unfoldable pub base128 : ℕ → List ℕ
-base128 n = digit (2 ^ 28) n ++ digit (2 ^ 21) n ++ digit (2 ^ 14) n ++ digit (2 ^ 7) n ++ n % 128 ∷ []
+base128 n = digit (2 ^ 28) n ++ digit (2 ^ 21) n ++ digit (2 ^ 14) n ++ digit (2 ^ 7) n ++ n % 128
+    ∷ []
 
 -- an identifier's contents
 abbrev pub name_octets : List ℕ → List ℕ
@@ -66,7 +83,8 @@ length_width n =
 
 -- a length in its shortest form
 unfoldable pub length_octets : ℕ → List ℕ
-length_octets n = if nat_lt n 128 then n ∷ [] else (128 + length_width n) ∷ bytes_high_first (length_width n) n
+length_octets n = if nat_lt n 128 then n ∷ [] else (128 + length_width n)
+    ∷ bytes_high_first (length_width n) n
 
 -- a tag, the shortest length, and the contents
 unfoldable pub element : ℕ → List ℕ → List ℕ

@@ -9,8 +9,8 @@ use crate::fault::BerFault;
 use crate::number::big_endian;
 use crate::tag::Tag;
 
-/// A length, and what follows it: one octet up to 0x7f, or 0x81 to 0x84 and this many octets, leading
-/// zeros allowed; `BadLength` for another first octet (X.690 8.1.3).
+/// A length, and what follows it: one octet up to 0x7f, or 0x81 to 0x84 and this many octets,
+/// leading zeros allowed; `BadLength` for another first octet (X.690 8.1.3).
 #[tactic(auto, using(crate::proofs::Numbers::power_of_four), unfolding(crate::specs::Reading::length_at))]
 fn length_at(octets: &[u8]) -> Result<(usize, &[u8]), BerFault>
     ensures gives { Gives (λ x. (x.0, x.1.now)) result (length_at octets.now) }

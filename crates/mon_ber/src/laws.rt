@@ -13,21 +13,25 @@ pub fn written()
 
 /// No spelling of a value in octets is shorter than what is written for it.
 pub fn shortest()
-    ensures { (text : List ℕ) (v : Value) → All (λ octet. octet < 256) text → Spells text v → length (written v) ≤ length text }
+    ensures { (text : List ℕ) (v : Value) → All (λ octet. octet < 256) text → Spells text v
+        → length (written v) ≤ length text }
 {}
 
 /// No spelling of a value is a proper prefix of a spelling of any value, and each has one meaning.
 pub fn front()
-    ensures { (text more : List ℕ) (v w : Value) → Spells text v → Spells (text ++ more) w → (more ≡ []) × (v ≡ w) }
+    ensures { (text more : List ℕ) (v w : Value) → Spells text v → Spells (text ++ more) w
+        → (more ≡ []) × (v ≡ w) }
 {}
 
 /// What is read from octets was spelled by those in front of what is left.
 pub fn taken()
-    ensures { (octets : List ℕ) (v : Value) (rest : List ℕ) → All (λ octet. octet < 256) octets → value_at octets ≡ Ok (v, rest)
+    ensures { (octets : List ℕ) (v : Value) (rest : List ℕ) → All (λ octet. octet < 256) octets
+        → value_at octets ≡ Ok (v, rest)
         → (text : List ℕ) × Spells text v × (octets ≡ text ++ rest) }
 {}
 
 /// What spells a value is read, whatever follows it.
 pub fn read_back()
-    ensures { (text : List ℕ) (v : Value) (rest : List ℕ) → Spells text v → value_at (text ++ rest) ≡ Ok (v, rest) }
+    ensures { (text : List ℕ) (v : Value) (rest : List ℕ) → Spells text v
+        → value_at (text ++ rest) ≡ Ok (v, rest) }
 {}

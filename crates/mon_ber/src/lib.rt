@@ -1,6 +1,7 @@
-//! Values of SNMP in BER, read and written (RFC 3417 section 8, X.690, RFC 2578 section 7.1).
-//! Long lengths, lengths and numbers with leading octets that they do not need, and octets after a value are read.
-//! To the layer above: a value is read exactly where octets spell it, and written in its shortest spelling.
+//! Values of SNMP in BER, read and written (RFC 3417 section 8, X.690, RFC 2578 section 7.1). Long
+//! lengths, lengths and numbers with leading octets that they do not need, and octets after a value
+//! are read. To the layer above: a value is read exactly where octets spell it, and written in its
+//! shortest spelling.
 #![tactic(auto)]
 
 pub mod element;

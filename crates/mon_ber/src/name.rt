@@ -85,7 +85,8 @@ fn with_others(mut parts: SmallVec<u32, 16>, octets: &[u8]) -> Result<SmallVec<u
         (with_front parts.items (subidentifiers_of (128 - length parts.items) octets.now)) }
     ensures valid { IfOk result (λ v. IsOid v.items) }
     ensures inline { (all : List ℕ) → 16 ≤ parts.capacity → length all ≤ 16
-        → with_front parts.items (subidentifiers_of (128 - length parts.items) octets.now) ≡ Ok all → IsOk result }
+        → with_front parts.items (subidentifiers_of (128 - length parts.items) octets.now) ≡ Ok all
+        → IsOk result }
 {
     laws::pushed();
     let mut rest = octets;
@@ -127,7 +128,8 @@ fn with_octets(
 #[tactic(auto, using(crate::proofs::Names::first_two_valid, crate::proofs::Names::octets_are_numbers), unfolding(crate::specs::Reading::name_of))]
 pub fn name_of(alloc: Global, contents: &[u8]) -> Result<Oid, BerFault>
     ensures gives { Gives (λ o. o) result (name_of contents.now) }
-    ensures inline { (parts : List ℕ) → name_of contents.now ≡ Ok parts → length parts ≤ 16 → IsOk result }
+    ensures inline { (parts : List ℕ) → name_of contents.now ≡ Ok parts → length parts ≤ 16
+        → IsOk result }
 {
     let (number, rest) = subidentifier_at(contents)?;
     let (first, second) = first_two(number)?;

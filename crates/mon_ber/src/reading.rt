@@ -69,7 +69,8 @@ fn value_of(alloc: Global, tag: Tag, contents: &[u8]) -> Result<Value, BerFault>
 #[tactic(auto, unfolding(crate::specs::Reading::value_at))]
 pub fn value_at(alloc: Global, octets: &[u8]) -> Result<(Value, &[u8]), BerFault>
     ensures gives { Gives (λ x. (x.0, x.1.now)) result (value_at octets.now) }
-    ensures inline { (v : Value) (rest : List ℕ) → value_at octets.now ≡ Ok (v, rest) → IsInline v → IsOk result }
+    ensures inline { (v : Value) (rest : List ℕ) → value_at octets.now ≡ Ok (v, rest) → IsInline v
+        → IsOk result }
     ensures shorter { IfOk result (λ x. length x.1.now < length octets.now) }
 {
     let (tag, rest) = tag_at(octets)?;
@@ -86,7 +87,8 @@ pub fn read_value(alloc: Global, octets: &[u8]) -> Result<(Value, usize), BerFau
     ensures only { (v : Value) (k : ℕ) → k ≤ length octets.now → Spells (take k octets.now) v
         → Gives (λ x. x) result (Ok (v, k)) }
     // Only octets, and identifiers of more than 16 sub-identifiers, are allocated.
-    ensures inline { (v : Value) (k : ℕ) → k ≤ length octets.now → Spells (take k octets.now) v → IsInline v → IsOk result }
+    ensures inline { (v : Value) (k : ℕ) → k ≤ length octets.now → Spells (take k octets.now) v
+        → IsInline v → IsOk result }
     // Which fault it is: the first from left to right.
     ensures fault { IfErr result (λ e. Fails e (value_at octets.now)) }
 {
@@ -109,7 +111,8 @@ pub fn integer_at(octets: &[u8]) -> Result<(i32, &[u8]), BerFault>
 #[tactic(auto, unfolding(crate::specs::Reading::name_at))]
 pub fn name_at(alloc: Global, octets: &[u8]) -> Result<(Oid, &[u8]), BerFault>
     ensures gives { Gives (λ x. (x.0, x.1.now)) result (name_at octets.now) }
-    ensures inline { (parts rest : List ℕ) → name_at octets.now ≡ Ok (parts, rest) → length parts ≤ 16 → IsOk result }
+    ensures inline { (parts rest : List ℕ) → name_at octets.now ≡ Ok (parts, rest)
+        → length parts ≤ 16 → IsOk result }
     ensures shorter { IfOk result (λ x. length x.1.now < length octets.now) }
 {
     let (contents, rest) = element_at(OBJECT_IDENTIFIER, octets)?;

@@ -61,7 +61,8 @@ impl Drop for Value {
 }
 
 impl Value {
-    /// An equal value. Only octets and identifiers of more than 16 sub-identifiers take heap memory.
+    /// An equal value. Only octets and identifiers of more than 16 sub-identifiers take heap
+    /// memory.
     pub fn try_clone(&self, alloc: Global) -> Result<Self, AllocError>
         ensures equal { IfOk result (λ v. v ≡ self.now) }
         ensures inline { IsInline self.now → IsOk result }

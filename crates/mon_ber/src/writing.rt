@@ -349,7 +349,8 @@ pub fn put_integer(out: &mut Vec<u8>, number: i32)
 #[tactic(auto, unfolding(crate::specs::Writing::written, crate::specs::Writing::element))]
 pub fn put_octets(out: &mut Vec<u8>, octets: &[u8])
     requires fits { length octets.now < 2 ^ 32 }
-    requires room { vec_len out.old + length (written (OctetString octets.now)) ≤ vec_capacity out.old }
+    requires room { vec_len out.old + length (written (OctetString octets.now))
+        ≤ vec_capacity out.old }
     ensures items { out.new.items ≡ out.old.items ++ written (OctetString octets.now) }
     ensures len { vec_len out.new ≡ vec_len out.old + length (written (OctetString octets.now)) }
     ensures capacity { vec_capacity out.old ≤ vec_capacity out.new }
@@ -400,7 +401,8 @@ pub fn put_measured_identifier(out: &mut Vec<u8>, name: &Oid, len: usize)
     put_name(out, name.parts());
 }
 
-/// The first number of octets that takes a length of more than 4 octets. No size is counted further.
+/// The first number of octets that takes a length of more than 4 octets. No size is counted
+/// further.
 pub const LIMIT: usize = 0x1_0000_0000;
 
 /// How many octets an element with this many octets of contents takes.
@@ -474,7 +476,8 @@ pub fn put_measured_value(out: &mut Vec<u8>, value: &Value, len: usize)
 /// A length that needs more than 4 octets is `BadLength`.
 pub fn write_value(alloc: Global, value: &Value) -> Result<Vec<u8>, BerFault>
     ensures ok { IfOk result (λ v. HasLength value.now × (v.items ≡ written value.now)) }
-    ensures err { IfErr result (λ e. (e ≡ OutOfMemory) ⊎ ((e ≡ BadLength) × (2 ^ 32 ≤ length (contents_of value.now)))) }
+    ensures err { IfErr result (λ e. (e ≡ OutOfMemory) ⊎ ((e ≡ BadLength)
+        × (2 ^ 32 ≤ length (contents_of value.now)))) }
 {
     let mut out = Vec::with_capacity(alloc, size_of(value)?)?;
     put_value(&mut out, value);

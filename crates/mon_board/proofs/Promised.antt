@@ -1,4 +1,5 @@
--- What crates above may cite: the order of instances, and what a watch keeps of an instance's samples. No other file here is for them.
+-- What crates above may cite: the order of instances, and what a watch keeps of an instance's
+-- samples. No other file here is for them.
 use Rattle.std.proofs.Common.{◌≡◌, ℕ, [], ◌∷◌}
 use Rattle.std.specs.FinSet.{empty, insert, union, from_list}
 use Rattle.mon_window.specs.Window.{Samples, In}

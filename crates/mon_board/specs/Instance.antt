@@ -10,7 +10,8 @@ use Rattle.mon_board.specs.declared.instance.Watched.{Watched}
 
 -- by the engine's octets, and then by the name
 unfoldable pub instance_cmp : Instance → Instance → Ordering
-instance_cmp = then_cmp (on (λ i. i.engine) (slice_cmp nat_cmp)) (on (λ i. i.name) (slice_cmp nat_cmp))
+instance_cmp = then_cmp (on (λ i. i.engine) (slice_cmp nat_cmp))
+    (on (λ i. i.name) (slice_cmp nat_cmp))
 
 -- the object of this name at this engine
 abbrev pub named : List ℕ → List ℕ → Instance

@@ -7,7 +7,8 @@ use Rattle.mon_alarms.specs.Rule.{Rule}
 
 -- by the instance's number, the rising threshold and the falling one
 unfoldable pub rule_cmp : Rule → Rule → Ordering
-rule_cmp = then_cmp (then_cmp (on (λ r. r.instance) nat_cmp) (on (λ r. r.rising) int_cmp)) (on (λ r. r.falling) int_cmp)
+rule_cmp = then_cmp (then_cmp (on (λ r. r.instance) nat_cmp) (on (λ r. r.rising) int_cmp))
+    (on (λ r. r.falling) int_cmp)
 
 -- at most 256 rules, each on one of this many instances, rising, and so none twice
 pub record AreRules (instances : ℕ) (rules : List Rule) : Type 0 where

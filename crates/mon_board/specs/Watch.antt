@@ -10,7 +10,8 @@ pub record Watch : Type 0 where
   pub instances : List Watched
   pub rules : List Rule
 
--- 1 to 256 rising instances, each with sizes that a window may have, and at most 256 rising rules on them
+-- 1 to 256 rising instances, each with sizes that a window may have, and at most 256 rising rules
+-- on them
 pub record IsWatch (w : Watch) : Type 0 where
   pub sized : AreSized w.instances
   pub listed : AreInstances w.instances

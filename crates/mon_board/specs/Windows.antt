@@ -9,7 +9,8 @@ use Rattle.mon_board.specs.Watch.{Watch, size_of, epoch_of}
 -- the samples of an instance
 abbrev pub samples_of : ℕ → List (ℕ × ℕ) → List ℕ
 samples_of i [] = []
-samples_of i (pair ∷ pairs) = if pair.0 == i then pair.1 ∷ samples_of i pairs else samples_of i pairs
+samples_of i (pair ∷ pairs) = if pair.0 == i then pair.1 ∷ samples_of i pairs
+    else samples_of i pairs
 
 -- each of these samples as a pair with the instance
 abbrev pub paired : ℕ → List ℕ → List (ℕ × ℕ)
@@ -27,7 +28,8 @@ Has pairs i s = In s (set_of i pairs)
 abbrev pub IsPartOf : List (ℕ × ℕ) → List (ℕ × ℕ) → Type 0
 IsPartOf some all = (i s : ℕ) → Has some i s → Has all i s
 
--- what a watch keeps of an instance's samples: at most an epoch's epoch of each boots number, and of these the newest that its window holds
+-- what a watch keeps of an instance's samples: at most an epoch's epoch of each boots number, and
+-- of these the newest that its window holds
 abbrev pub kept_by : Watch → ℕ → Samples → Samples
 kept_by watch i = keep boots_of (size_of watch i) (epoch_of watch i)
 

@@ -23,8 +23,9 @@ use mon_window::Inserted;
 use std::alloc::{AllocError, Global};
 use std::marker::Model;
 
-/// The windows of a watch's instances, with their totals and marks. It takes all its memory when it is made; no other call
-/// takes any. Contracts see the watch, and of each instance the set of its samples and the marks on them.
+/// The windows of a watch's instances, with their totals and marks. It takes all its memory when it
+/// is made; no other call takes any. Contracts see the watch, and of each instance the set of its
+/// samples and the marks on them.
 pub struct Board {
     watch: Watch,
     windows: Vec<Track>,
@@ -51,9 +52,16 @@ impl Model for Board {
 
     ghost coded = { board_code };
 
-    ghost view = { λ b. record { watch = b.watch; windows = sets_of b.windows.items; marks = marks_of b.marks.items } };
+    ghost view = { λ b. record {
+      watch = b.watch;
+      windows = sets_of b.windows.items;
+      marks =
+          marks_of b.marks.items;
+    } };
 
-    ghost invariant = { λ b. AreWindows (size_of b.watch) (epoch_of b.watch) (length b.watch.instances) b.windows.items × AreAllMarks (size_of b.watch) (sets_of b.windows.items) b.marks.items };
+    ghost invariant = { λ b. AreWindows (size_of b.watch) (epoch_of b.watch)
+        (length b.watch.instances) b.windows.items × AreAllMarks (size_of b.watch)
+        (sets_of b.windows.items) b.marks.items };
 }
 
 impl Board {
@@ -86,10 +94,13 @@ impl Board {
 
     /// The number of the object of this name at this engine, where it is watched.
     pub fn find(&self, engine: &[u8], name: &Oid) -> Option<u16>
-        ensures found { IfSome result (λ i. slice_get (instances_of self.now.watch.instances) i ≡ Some (named engine.now name.now)) }
-        ensures absent { IfNone result (¬ (Contains (instances_of self.now.watch.instances) (named engine.now name.now))) }
+        ensures found { IfSome result (λ i. slice_get (instances_of self.now.watch.instances) i
+            ≡ Some (named engine.now name.now)) }
+        ensures absent { IfNone result (¬ (Contains (instances_of self.now.watch.instances)
+            (named engine.now name.now))) }
         // The instances rise, so none is there twice.
-        ensures only { (i : ℕ) → slice_get (instances_of self.now.watch.instances) i ≡ Some (named engine.now name.now) → result ≡ Some i }
+        ensures only { (i : ℕ) → slice_get (instances_of self.now.watch.instances) i
+            ≡ Some (named engine.now name.now) → result ≡ Some i }
     {
         match search(self.watch.instances(), engine, name) {
             Some(place) => Some(place as u16),
@@ -103,9 +114,11 @@ impl Board {
         ensures watch { self.new.watch ≡ self.old.watch }
         ensures unknown { IsErr result ↔ (length self.old.watch.instances ≤ instance) }
         ensures refused { OnErr result (self.new ≡ self.old) }
-        ensures taken { OnOk result (IsTaken self.old.watch (window_of self.old) (window_of self.new) instance sample) }
+        ensures taken { OnOk result (IsTaken self.old.watch (window_of self.old)
+            (window_of self.new) instance sample) }
         ensures marks { KeepsMarks self.old self.new }
-        ensures inserted { IfOk result (IsInsertion (kept_by self.old.watch instance) (window_of self.old instance) (window_of self.new instance) sample) }
+        ensures inserted { IfOk result (IsInsertion (kept_by self.old.watch instance)
+            (window_of self.old instance) (window_of self.new instance) sample) }
     {
         let place = usize::from(instance);
         if place >= self.windows.len() {
@@ -122,7 +135,8 @@ impl Board {
     pub fn take_all(&mut self, instance: u16, samples: &[Sample])
         requires { instance < length self.old.watch.instances }
         ensures watch { self.new.watch ≡ self.old.watch }
-        ensures windows { (i : ℕ) → window_of self.new i ≡ joined self.old.watch (window_of self.old) (paired instance samples.now) i }
+        ensures windows { (i : ℕ) → window_of self.new i ≡ joined self.old.watch
+            (window_of self.old) (paired instance samples.now) i }
         ensures marks { KeepsMarks self.old self.new }
     {
         laws::taken_in_turn();
@@ -140,7 +154,8 @@ impl Board {
     pub fn take_pairs(&mut self, pairs: &[(u16, Sample)])
         requires { All (λ pair. pair.0 < length self.old.watch.instances) pairs.now }
         ensures watch { self.new.watch ≡ self.old.watch }
-        ensures windows { (i : ℕ) → window_of self.new i ≡ joined self.old.watch (window_of self.old) pairs.now i }
+        ensures windows { (i : ℕ) → window_of self.new i ≡ joined self.old.watch
+            (window_of self.old) pairs.now i }
         ensures marks { KeepsMarks self.old self.new }
     {
         laws::taken_in_turn();
@@ -157,12 +172,14 @@ impl Board {
     pub fn items(&self, instance: u16) -> &[Sample]
         requires { instance < length self.now.watch.instances }
         ensures items { result.now ≡ rising (window_of self.now instance) }
-        ensures few { length (rising (window_of self.now instance)) ≤ size_of self.now.watch instance }
+        ensures few { length (rising (window_of self.now instance))
+            ≤ size_of self.now.watch instance }
     {
         self.windows[usize::from(instance)].items()
     }
 
-    /// The totals of the instance's items, small enough for a rate. They are kept up with each sample, not summed here.
+    /// The totals of the instance's items, small enough for a rate. They are kept up with each
+    /// sample, not summed here.
     pub fn totals(&self, instance: u16) -> Totals
         requires { instance < length self.now.watch.instances }
         ensures totals { result ≡ sums.totals (rising (window_of self.now instance)) }
@@ -175,7 +192,8 @@ impl Board {
     pub fn join(&mut self, other: &Board)
         requires { other.now.watch ≡ self.old.watch }
         ensures watch { self.new.watch ≡ self.old.watch }
-        ensures windows { (i : ℕ) → window_of self.new i ≡ of_both self.old.watch (window_of self.old) (window_of other.now) i }
+        ensures windows { (i : ℕ) → window_of self.new i ≡ of_both self.old.watch
+            (window_of self.old) (window_of other.now) i }
         ensures marks { KeepsMarks self.old self.new }
     {
         join_each(&mut self.windows, &other.windows);
@@ -200,7 +218,8 @@ impl Board {
         ensures watch { self.new.watch ≡ self.old.watch }
         ensures windows { self.new.windows ≡ self.old.windows }
         ensures marks { (k j s : ℕ) → is_marked self.new k j s
-            ≡ (is_marked self.old k j s || (((k == slot) && (j == instance)) && ((s == sample.now) && set.contains (window_of self.old j) s))) }
+            ≡ (is_marked self.old k j s || (((k == slot) && (j == instance))
+            && ((s == sample.now) && set.contains (window_of self.old j) s))) }
     {
         let place = usize::from(instance);
         if stands_in(&self.windows[place], sample) {
@@ -213,7 +232,8 @@ impl Board {
         requires { slot < 15 }
         ensures watch { self.new.watch ≡ self.old.watch }
         ensures windows { self.new.windows ≡ self.old.windows }
-        ensures marks { (k j s : ℕ) → is_marked self.new k j s ≡ (is_marked self.old k j s && not (k == slot)) }
+        ensures marks { (k j s : ℕ) → is_marked self.new k j s
+            ≡ (is_marked self.old k j s && not (k == slot)) }
     {
         clear_each(&mut self.marks, slot);
     }
@@ -223,7 +243,8 @@ impl Board {
     pub fn owed(&self, slot: u8, instance: u16, after: Option<Sample>) -> Option<Sample>
         requires slot { slot < 15 }
         requires instance { instance < length self.now.watch.instances }
-        ensures { result ≡ next_above after (rising (owed_in (window_of self.now) (is_marked self.now slot) instance)) }
+        ensures { result ≡ next_above after (rising (owed_in (window_of self.now)
+            (is_marked self.now slot) instance)) }
     {
         let place = usize::from(instance);
         first_unmarked(self.windows[place].items(), &self.marks[place], slot, after)
@@ -255,9 +276,11 @@ fn empty_windows(alloc: Global, watch: &Watch) -> Result<Vec<Track>, AllocError>
 /// Returns the place of the object of this name at this engine among rising instances.
 fn search(instances: &[Watched], engine: &[u8], name: &Oid) -> Option<usize>
     requires { IsStrictlySortedBy instance_cmp (instances_of instances.now) }
-    ensures found { IfSome result (λ i. slice_get (instances_of instances.now) i ≡ Some (named engine.now name.now)) }
+    ensures found { IfSome result (λ i. slice_get (instances_of instances.now) i
+        ≡ Some (named engine.now name.now)) }
     ensures within { IfSome result (λ i. i < length instances.now) }
-    ensures absent { IfNone result (¬ (Contains (instances_of instances.now) (named engine.now name.now))) }
+    ensures absent { IfNone result (¬ (Contains (instances_of instances.now)
+        (named engine.now name.now))) }
 {
     match instances.binary_search_by(|watched| watched.instance.compare(engine, name)) {
         Ok(place) => Some(place),

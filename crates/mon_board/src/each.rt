@@ -16,9 +16,15 @@ use mon_rates::Track;
 /// Takes all samples of other windows in, each into the one at its place.
 pub(crate) fn join_each(windows: &mut [Track], others: &[Track])
     requires number { length others.now ≡ length windows.old }
-    requires sizes { (i : ℕ) (d : held.Window) → i < length windows.old → (slice_index_or others.now i d).size ≡ (slice_index_or windows.old i d).size }
-    requires epochs { (i : ℕ) (d : held.Window) → i < length windows.old → (slice_index_or others.now i d).epoch ≡ (slice_index_or windows.old i d).epoch }
-    ensures { AreChanged (λ i old new. new ≡ record old { items = keep boots_of old.size old.epoch (set.union old.items (slice_index_or (sets_of others.now) i set.empty)) }) windows.old windows.new }
+    requires sizes { (i : ℕ) (d : held.Window) → i < length windows.old
+        → (slice_index_or others.now i d).size ≡ (slice_index_or windows.old i d).size }
+    requires epochs { (i : ℕ) (d : held.Window) → i < length windows.old
+        → (slice_index_or others.now i d).epoch ≡ (slice_index_or windows.old i d).epoch }
+    ensures { AreChanged (λ i old new. new ≡ record old {
+      items = keep boots_of old.size old.epoch
+          (set.union old.items (slice_index_or (sets_of others.now) i set.empty));
+    }) windows.old
+        windows.new }
 {
     for i in 0..windows.len() {
         windows[i].join(&others[i]);
@@ -42,8 +48,10 @@ pub(crate) fn copy_each(windows: &mut [Track], others: &[Track])
 /// Leaves the marks of samples in the windows.
 pub(crate) fn keep_each(marks: &mut [Marks], windows: &[Track])
     requires number { length windows.now ≡ length marks.old }
-    requires rising { (i : ℕ) (d : marked.Marks) → i < length marks.old → IsStrictlySortedBy nat_cmp (samples_in (slice_index_or marks.old i d).items) }
-    ensures { AreChanged (λ i. AreKept (slice_index_or (sets_of windows.now) i set.empty)) marks.old marks.new }
+    requires rising { (i : ℕ) (d : marked.Marks) → i < length marks.old
+        → IsStrictlySortedBy nat_cmp (samples_in (slice_index_or marks.old i d).items) }
+    ensures { AreChanged (λ i. AreKept (slice_index_or (sets_of windows.now) i set.empty)) marks.old
+        marks.new }
 {
     for i in 0..marks.len() {
         marks[i].keep(&windows[i]);

@@ -10,10 +10,12 @@ pub enum WatchFault {
     /// A window holds 1 to 64 samples, and its epoch is 1 to the window.
     #[error("a window is not 1 to 64, or an epoch not 1 to its window")]
     BadWindow = 2,
-    /// The instances are not 1 to 256 with engines of 5 to 32 octets, rising by engine and then by name.
+    /// The instances are not 1 to 256 with engines of 5 to 32 octets, rising by engine and then by
+    /// name.
     #[error("the instances are not 1 to 256 that rise by engine and name")]
     BadInstances = 3,
-    /// The rules are not at most 256, each on one of the instances, rising by instance, rising and falling threshold.
+    /// The rules are not at most 256, each on one of the instances, rising by instance, rising and
+    /// falling threshold.
     #[error("the rules are not at most 256 on these instances that rise by instance and thresholds")]
     BadRules = 4,
 }

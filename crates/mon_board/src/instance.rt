@@ -6,7 +6,8 @@ use mon_oid::Oid;
 use std::alloc::{AllocError, Global};
 use std::cmp::Ordering;
 
-/// An instance of a managed object at an agent, which its engine id names (RFC 3411 section 5, snmpEngineID).
+/// An instance of a managed object at an agent, which its engine id names (RFC 3411 section 5,
+/// snmpEngineID).
 #[derive(Debug, PartialEq, Eq)]
 pub struct Instance {
     /// The agent's engine id, 5 to 32 octets.
@@ -23,7 +24,8 @@ impl Drop for Instance {
 }
 
 impl Instance {
-    /// Orders this instance against the one of the name at the engine: by the engine's octets, and then by the name.
+    /// Orders this instance against the one of the name at the engine: by the engine's octets, and
+    /// then by the name.
     #[tactic(auto, unfolding(crate::specs::Instance::instance_cmp))]
     pub fn compare(&self, engine: &[u8], name: &Oid) -> Ordering
         ensures { result ≡ instance_cmp self.now (named engine.now name.now) }
@@ -59,7 +61,8 @@ impl Instance {
 pub struct Watched {
     /// The instance that is sampled.
     pub instance: Instance,
-    /// The name of its discontinuity indicator (RFC 2578 section 7.1.6), where one is polled with it.
+    /// The name of its discontinuity indicator (RFC 2578 section 7.1.6), where one is polled with
+    /// it.
     pub discontinuity: Option<Oid>,
     /// How many samples its window holds, 1 to 64.
     pub window: usize,

@@ -13,7 +13,8 @@ use mon_sample::Sample;
 use std::alloc::{AllocError, Global};
 use std::marker::Model;
 
-/// The marked samples, the oldest first, each with one bit for each peer's slot. Contracts see the number that the bits make.
+/// The marked samples, the oldest first, each with one bit for each peer's slot. Contracts see the
+/// number that the bits make.
 #[derive(Drop)]
 pub(crate) struct Marks {
     items: Vec<(Sample, u16)>,
@@ -53,10 +54,13 @@ impl Marks {
     pub(crate) fn set(&mut self, slot: u8, sample: &Sample)
         requires slot { slot < 16 }
         requires rising { IsStrictlySortedBy nat_cmp (samples_in self.old.items) }
-        requires room { length (put nat_cmp sample.now (samples_in self.old.items)) ≤ self.old.room }
-        ensures samples { samples_in self.new.items ≡ put nat_cmp sample.now (samples_in self.old.items) }
+        requires room { length (put nat_cmp sample.now (samples_in self.old.items))
+            ≤ self.old.room }
+        ensures samples { samples_in self.new.items ≡ put nat_cmp sample.now
+            (samples_in self.old.items) }
         ensures room { self.old.room ≤ self.new.room }
-        ensures marks { (k s : ℕ) → marked_in k s self.new.items ≡ (marked_in k s self.old.items || ((k == slot) && (s == sample.now))) }
+        ensures marks { (k s : ℕ) → marked_in k s self.new.items
+            ≡ (marked_in k s self.old.items || ((k == slot) && (s == sample.now))) }
     {
         match place(self.items.as_slice(), sample) {
             Ok(at) => self.items[at].1 |= 1 << slot,
@@ -93,7 +97,8 @@ fn without(bits: u16, slot: u8) -> u16
 
 /// Leaves the samples that are in the window.
 fn keep_in(items: &mut Vec<(Sample, u16)>, window: &Track)
-    ensures items { items.new.items ≡ filter (λ x. set.contains window.now.items x.0) items.old.items }
+    ensures items { items.new.items ≡ filter (λ x. set.contains window.now.items x.0)
+        items.old.items }
     ensures room { vec_capacity items.old ≤ vec_capacity items.new }
 {
     items.retain(|item| stands_in(window, &item.0));
@@ -113,7 +118,8 @@ pub(crate) fn stands_in(window: &Track, sample: &Sample) -> bool
 fn place(items: &[(Sample, u16)], sample: &Sample) -> Result<usize, usize>
     requires { IsStrictlySortedBy nat_cmp (samples_in items.now) }
     ensures within { IfOk result (λ at. at < length items.now) }
-    ensures found { IfOk result (λ at. (other : ℕ × ℕ) → (slice_index_or items.now at other).0 ≡ sample.now) }
+    ensures found { IfOk result (λ at. (other : ℕ × ℕ) → (slice_index_or items.now at other).0
+        ≡ sample.now) }
     ensures absent { IfErr result (IsPlace nat_cmp (samples_in items.now) sample.now) }
 {
     items.binary_search_by(|item| item.0.compare(sample))
@@ -128,7 +134,8 @@ pub(crate) fn first_unmarked(
 ) -> Option<Sample>
     requires slot { slot < 16 }
     requires rising { IsStrictlySortedBy nat_cmp (samples_in marks.now.items) }
-    ensures { result ≡ next_above after (filter (λ s. not (marked_in slot s marks.now.items)) items.now) }
+    ensures { result ≡ next_above after (filter (λ s. not (marked_in slot s marks.now.items))
+        items.now) }
 {
     for sample in items {
         if is_above(&after, sample) && !marks.has(slot, sample) {

@@ -12,16 +12,16 @@ use std::cmp::Ordering;
 use std::marker::Model;
 
 /// The most samples of a window.
-const MOST_SAMPLES: usize = 64;
+const MAX_SAMPLES: usize = 64;
 
 /// The most instances of a watch.
-const MOST_INSTANCES: usize = 256;
+const MAX_INSTANCES: usize = 256;
 
 /// The most alarm rules of a watch.
-const MOST_RULES: usize = 256;
+const MAX_RULES: usize = 256;
 
-/// The instances that are watched, each with the sizes of its window, and the alarm rules on them. An instance's number is
-/// its place, from 0.
+/// The instances that are watched, each with the sizes of its window, and the alarm rules on them.
+/// An instance's number is its place, from 0.
 pub struct Watch {
     instances: Vec<Watched>,
     rules: Vec<Rule>,
@@ -44,22 +44,32 @@ impl Model for Watch {
 
     ghost view = { λ w. record { instances = w.instances.items; rules = w.rules.items } };
 
-    ghost invariant = { λ w. IsWatch (record { instances = w.instances.items; rules = w.rules.items }) };
+    ghost invariant = { λ w. IsWatch (record {
+      instances = w.instances.items;
+      rules = w.rules.items;
+    }) };
 }
 
 impl Watch {
     ghost use Rattle.mon_board.specs.Watch.{IsWatch};
 
-    /// The watch of these instances and rules. Tested in this order: `BadWindow` where some instance's window does not hold
-    /// 1 to 64 samples or its epoch 1 to the window; `BadInstances` where the instances are not 1
-    /// to 256 with engines of 5 to 32 octets, rising by engine and then by name; `BadRules` where
-    /// the rules are not at most 256, each on one of these instances, rising by instance, rising
-    /// threshold and falling threshold, none twice. It allocates nothing.
+    /// The watch of these instances and rules. Tested in this order: `BadWindow` where some
+    /// instance's window does not hold 1 to 64 samples or its epoch 1 to the window; `BadInstances`
+    /// where the instances are not 1 to 256 with engines of 5 to 32 octets, rising by engine and
+    /// then by name; `BadRules` where the rules are not at most 256, each on one of these
+    /// instances, rising by instance, rising threshold and falling threshold, none twice. It
+    /// allocates nothing.
     pub fn new(instances: Vec<Watched>, rules: Vec<Rule>) -> Result<Self, WatchFault>
-        ensures made { IfOk result (λ w. w ≡ record { instances = instances.items; rules = rules.items }) }
-        ensures accepted { AreSized instances.items → AreInstances instances.items → AreRules (length instances.items) rules.items → IsOk result }
+        ensures made { IfOk result (λ w. w ≡ record {
+          instances = instances.items;
+          rules =
+              rules.items;
+        }) }
+        ensures accepted { AreSized instances.items → AreInstances instances.items
+            → AreRules (length instances.items) rules.items → IsOk result }
         ensures bad_window { (result ≡ Err WatchFault.BadWindow) ↔ ¬ (AreSized instances.items) }
-        ensures bad_instances { (result ≡ Err WatchFault.BadInstances) ↔ (AreSized instances.items × ¬ (AreInstances instances.items)) }
+        ensures bad_instances { (result ≡ Err WatchFault.BadInstances)
+            ↔ (AreSized instances.items × ¬ (AreInstances instances.items)) }
         ensures bad_rules { (result ≡ Err WatchFault.BadRules)
             ↔ (AreSized instances.items × (AreInstances instances.items × ¬ (AreRules (length instances.items) rules.items))) }
     {
@@ -134,14 +144,14 @@ fn are_sized(instances: &[Watched]) -> bool
 fn is_sized(watched: &Watched) -> bool
     ensures { IsTrue result ↔ AreSizes watched.now.window watched.now.epoch }
 {
-    1 <= watched.epoch && watched.epoch <= watched.window && watched.window <= MOST_SAMPLES
+    1 <= watched.epoch && watched.epoch <= watched.window && watched.window <= MAX_SAMPLES
 }
 
 /// Returns `true` if these may be watched.
 fn are_instances(instances: &[Watched]) -> bool
     ensures { IsTrue result ↔ AreInstances instances.now }
 {
-    if instances.is_empty() || instances.len() > MOST_INSTANCES {
+    if instances.is_empty() || instances.len() > MAX_INSTANCES {
         return false;
     }
     have_engines(instances) && are_rising(instances)
@@ -173,7 +183,7 @@ fn are_rising(instances: &[Watched]) -> bool
 fn are_rules(rules: &[Rule], instances: usize) -> bool
     ensures { IsTrue result ↔ AreRules instances rules.now }
 {
-    if rules.len() > MOST_RULES {
+    if rules.len() > MAX_RULES {
         return false;
     }
     are_on(rules, instances) && rules_rise(rules)

@@ -10,7 +10,7 @@ use mon_mib::{
 use mon_oid::Oid;
 use mon_row_texts::{parsed, put_name, three};
 use mon_settings::AgentSettings;
-use mon_vacm::{Need, Policy};
+use mon_vacm::{Policy, ViewType};
 use std::alloc::Global;
 use std::cell::Cell;
 
@@ -146,7 +146,7 @@ impl Large {
 
     /// Appends the name after another one that `public` may read.
     fn put_next(&self, alloc: Global, text: &mut String, name: &Oid) -> Option<()> {
-        let access = self.policy.access(b"public", Need::Read).ok()?;
+        let access = self.policy.access(b"public", ViewType::Read).ok()?;
         let moment = Moment::new(0)?;
         let found = self.mib.next(alloc, &self.policy, access, name, moment);
         let found = found.ok()??;

@@ -50,7 +50,8 @@ impl Memory {
     }
 
     fn note_sent(&mut self, octets: &[u8]) -> Result<(), SocketFault>
-        ensures noted { OnOk result (map at_wire self.new.log.items ≡ map at_wire self.old.log.items ++ Sent octets.now ∷ []) }
+        ensures noted { OnOk result (map at_wire self.new.log.items
+            ≡ map at_wire self.old.log.items ++ Sent octets.now ∷ []) }
         ensures same { OnErr result (self.new.log.items ≡ self.old.log.items) }
         ensures failures { self.new.failures ≡ self.old.failures }
     {
@@ -61,7 +62,8 @@ impl Memory {
     }
 
     fn note_heard(&mut self, octets: &[u8]) -> Result<(), SocketFault>
-        ensures noted { OnOk result (map at_wire self.new.log.items ≡ map at_wire self.old.log.items ++ HeardAtWire octets.now ∷ []) }
+        ensures noted { OnOk result (map at_wire self.new.log.items
+            ≡ map at_wire self.old.log.items ++ HeardAtWire octets.now ∷ []) }
         ensures same { OnErr result (self.new.log.items ≡ self.old.log.items) }
         ensures failures { self.new.failures ≡ self.old.failures }
     {
@@ -85,7 +87,8 @@ impl Memory {
     }
 
     fn hear(&mut self, room: &mut [u8]) -> Result<Heard, SocketFault>
-        ensures told { map at_wire self.new.log.items ≡ map at_wire self.old.log.items ++ hearing room.new result }
+        ensures told { map at_wire self.new.log.items ≡ map at_wire self.old.log.items
+            ++ hearing room.new result }
         ensures failures { self.new.failures ≡ self.old.failures }
         ensures within { IfOk result (FitsRoom (length room.new)) }
     {

@@ -33,7 +33,8 @@ pub fn nothing_lost()
 /// else they watch.
 pub fn carry_alike()
     ensures { (a b : AnyBoard) (watch : AnyWatch) (dropped : List (List ℕ))
-        → ((x : AnyInstance) → Contains (instances_of watch.instances) x → window_at a x ≡ window_at b x)
+        → ((x : AnyInstance) → Contains (instances_of watch.instances) x
+        → window_at a x ≡ window_at b x)
         → (i : ℕ) → carried_window a watch dropped i ≡ carried_window b watch dropped i }
 {}
 

@@ -40,7 +40,8 @@ abbrev pub IsReplacing : Saved → (path : List ℕ) → Load → List AtHost �
 IsReplacing saved path load =
     Then (IsMade (path ++ codes ".new")) (λ new. IsReplacingBy saved path (string_bytes new) load)
 
--- a new file is written next to a station's file and put in its place, unless nothing may be written
+-- a new file is written next to a station's file and put in its place, unless nothing may be
+-- written
 abbrev pub IsReplacingUnless : Saved → (skips : Bool) (path : List ℕ) → Load → List AtHost
     → Result Unit Failure → Type 0
 IsReplacingUnless saved true path load = Quietly (λ result. result ≡ Ok tt)

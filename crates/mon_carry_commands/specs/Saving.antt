@@ -25,8 +25,8 @@ abbrev pub IsUnsaved : (path : List ℕ) → Failure → Type 0
 IsUnsaved path failure = ((fault : OpenFault) × IsOfFile path fault failure)
     ⊎ ((fault : CarryFault) × IsOfCarry fault failure)
 
--- What was answered to the call that saves windows with an incarnation as the first ones of the file
--- at a path. No log has it: only the call shows it.
+-- What was answered to the call that saves windows with an incarnation as the first ones of the
+-- file at a path. No log has it: only the call shows it.
 abbrev pub Saved : Type 1
 Saved = (path : List ℕ) → Board → (incarnation : ℕ) → Result Unit Failure → Type 0
 

@@ -1,4 +1,5 @@
--- The command that a parse meets is one of the table's, and its values are those that the table allows.
+-- The command that a parse meets is one of the table's, and its values are those that the table
+-- allows.
 use Rattle.std.proofs.Common.{◌≡◌, ◌≢◌, ◌∙◌, ◌≤◌, ◌||◌, ◌⊎◌, inl, inr, ℕ, Bool, cond, codes, true, false, not, refl, sym, ap, subst, arith, List, [], ◌∷◌, ◌++◌, map, drop, length, ◌==◌, pos, negsuc, Option, Some, None, option_map, is_some, unwrap_or, true≢false}
 use Rattle.std.specs.Box.{box_value}
 use Rattle.std.specs.Prelude.{Box, ⊤, IfSome, IsSome, option_and_then, slice_get}

@@ -1,4 +1,5 @@
--- Every value that a parse keeps is one that an argument of its id takes, where no step of the parse fails.
+-- Every value that a parse keeps is one that an argument of its id takes, where no step of the
+-- parse fails.
 use Rattle.std.proofs.Common.{◌≡◌, ◌+◌, ◌&&◌, ◌||◌, ◌==◌, ℕ, Bool, cond, codes, true, false, zero, suc, not, refl, sym, subst, arith, List, [], ◌∷◌, ◌++◌, length, drop, min, Option, Some, None, is_some, nat_lt}
 use Rattle.std.specs.Prelude.{⊤, encode_utf8, fold, slice_get}
 use Rattle.std.specs.Option.{option_map_or}
@@ -68,7 +69,8 @@ abbrev pub AllPass : List Rule → Text → List Text → Type 0
 AllPass c id [] = ⊤
 AllPass c id (v ∷ vs) = (passes c id v ≡ true) × AllPass c id vs
 
--- the row has values, each is one that an argument of its id takes, and they are read as those of such an argument
+-- the row has values, each is one that an argument of its id takes, and they are read as those of
+-- such an argument
 abbrev pub IsRight : List Rule → Row → Type 0
 IsRight c r = AllPass c r.id r.values × (is_read_as c r.id r.reading ≡ true) × (is_empty r.values ≡ false)
 

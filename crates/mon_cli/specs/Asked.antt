@@ -1,9 +1,12 @@
 -- What the arguments ask for, by the matches that clap makes of them: rows, each under the id of an
 -- argument.
-use Rattle.std.specs.Prelude.{◌≡◌, ◌≢◌, ◌⊎◌, ◌<◌, ◌≤◌, ◌≤ℤ◌, ◌^◌, FitsSigned, IfSome, IsSome, ◌||◌, ℕ, ℤ, pos, Bool, List, [], ◌∷◌, Option, Some, None, codes, unwrap_or, is_some, ⊤, true, false, option_map}
+use Rattle.std.specs.Prelude.{◌≡◌, ◌≢◌, ◌⊎◌, ◌<◌, ◌≤◌, ◌≤ℤ◌, ◌^◌, FitsSigned, IfSome, IsSome, ◌||◌}
+use Rattle.std.specs.Prelude.{ℕ, ℤ, pos, Bool, List, [], ◌∷◌, Option, Some, None, codes, unwrap_or}
+use Rattle.std.specs.Prelude.{is_some, ⊤, true, false, option_map}
 use Rattle.std.specs.Option.{option_map_or}
 use Rattle.std.specs.Str.{bytes_eq}
-use Rattle.std.specs.Str.Parse.{IsNumeral, digits_value, signed_digits_value, without_leading_plus, without_leading_sign}
+use Rattle.std.specs.Str.Parse.{IsNumeral, digits_value, signed_digits_value, without_leading_plus}
+use Rattle.std.specs.Str.Parse.{without_leading_sign}
 use Rattle.std.specs.Int.{w32}
 use Rattle.clap.specs.Words.{Row, Text, all_of, first_of, one_of}
 use Rattle.clap.specs.Walk.{texts}
@@ -55,12 +58,15 @@ IsIf P v None = P → ⊥
 -- the number that a text spells in decimal, if there is a text and it spells one of this many bits
 abbrev pub IsNumber : ℕ → Option Text → Option ℕ → Type 0
 IsNumber bits None n = n ≡ None
-IsNumber bits (Some t) n = IsIf (IsNumeral 10 (without_leading_plus t) × (digits_value 10 (without_leading_plus t) < 2 ^ bits)) (digits_value 10 (without_leading_plus t)) n
+IsNumber bits (Some t) n = IsIf (IsNumeral 10 (without_leading_plus t)
+    × (digits_value 10 (without_leading_plus t) < 2 ^ bits))
+    (digits_value 10 (without_leading_plus t)) n
 
 -- the number with a sign that a text spells in decimal, if it spells one of 32 bits
 abbrev pub IsInteger : Option Text → Option ℤ → Type 0
 IsInteger None n = n ≡ None
-IsInteger (Some t) n = IsIf (IsNumeral 10 (without_leading_sign t) × FitsSigned w32 (signed_digits_value 10 t)) (signed_digits_value 10 t) n
+IsInteger (Some t) n = IsIf (IsNumeral 10 (without_leading_sign t)
+    × FitsSigned w32 (signed_digits_value 10 t)) (signed_digits_value 10 t) n
 
 -- the number that a text spells in decimal, or another number if there is no text
 abbrev pub IsNumberOr : ℕ → ℕ → Option Text → ℕ → Type 0
@@ -72,7 +78,8 @@ IsIntegerOr other t n = (read : Option ℤ) × IsInteger t read × (n ≡ unwrap
 
 -- the modules of -m in the order of the command line, and --names
 abbrev pub IsNamed : List Row → Named → Type 0
-IsNamed rows n = (texts n.modules.now ≡ all_in (codes "module") rows) × (n.shown ≡ is_on (codes "names") rows)
+IsNamed rows n = (texts n.modules.now ≡ all_in (codes "module") rows)
+    × (n.shown ≡ is_on (codes "names") rows)
 
 -- a format by its word, or text where the word is none of a format
 abbrev pub IsFormatOf : Text → Format → Type 0
@@ -145,7 +152,8 @@ IsAnswer rows w = IsSettings rows w.settings
 
 -- FILE, and the modules of -m in the order of the command line
 abbrev pub IsMib : List Row → MibArgs → Type 0
-IsMib rows w = (w.file.now ≡ text_in (codes "FILE") rows) × (texts w.modules.now ≡ all_in (codes "module") rows)
+IsMib rows w = (w.file.now ≡ text_in (codes "FILE") rows) × (texts w.modules.now
+    ≡ all_in (codes "module") rows)
 
 -- the arguments of `station`
 abbrev pub IsStation : List Row → StationArgs → Type 0
@@ -201,15 +209,18 @@ IsCarry rows w = (w.old.now ≡ text_in (codes "OLD") rows)
 -- what the rows of a command's arguments ask for
 abbrev pub Says : Choice → List Row → Asked → Type 0
 Says commands.Replay rows (asked.Replay w) =
-    IsNumberOr 32 8 (one_of (codes "N") rows) w.size × (w.reports ≡ wants_report rows) × IsPrinted rows w.printed
+    IsNumberOr 32 8 (one_of (codes "N") rows) w.size × (w.reports ≡ wants_report rows)
+    × IsPrinted rows w.printed
 Says commands.Get rows (asked.Get request) = IsRequest rows request
 Says commands.Next rows (asked.Next request) = IsRequest rows request
 Says commands.Bulk rows (asked.Bulk w) = IsRequest rows w.request
     × IsIntegerOr (pos 0) (one_of (codes "non-repeaters") rows) w.non_repeaters
     × IsIntegerOr (pos 0) (one_of (codes "max-repetitions") rows) w.max_repetitions
-Says commands.Walk rows (asked.Walk w) = IsRequest rows w.request × IsNumberOr 32 0 (one_of (codes "bulk") rows) w.bulk
+Says commands.Walk rows (asked.Walk w) = IsRequest rows w.request
+    × IsNumberOr 32 0 (one_of (codes "bulk") rows) w.bulk
 Says commands.Set rows (asked.Set w) =
-    IsRequest rows w.request × (w.kind.now ≡ text_in (codes "KIND") rows) × (w.value.now ≡ text_in (codes "VALUE") rows)
+    IsRequest rows w.request × (w.kind.now ≡ text_in (codes "KIND") rows)
+    × (w.value.now ≡ text_in (codes "VALUE") rows)
 Says commands.Settings rows (asked.Settings w) = IsSurvey rows w
 Says commands.Agent rows (asked.Agent w) = IsAgent rows w
 Says commands.Answer rows (asked.Answer w) = IsAnswer rows w
@@ -219,7 +230,8 @@ Says commands.Report rows (asked.Report w) = IsSaved rows w
 Says commands.Carry rows (asked.Carry w) = IsCarry rows w
 Says commands.Healthz rows (asked.Healthz w) = w.address.now ≡ text_in (codes "ADDRESS") rows
 Says commands.SelfTest rows asked.SelfTest = ⊤
-Says commands.Rehearse rows (asked.Rehearse w) = IsSettings rows w.settings × IsNumberOr 32 1 (one_of (codes "K") rows) w.stations
+Says commands.Rehearse rows (asked.Rehearse w) = IsSettings rows w.settings
+    × IsNumberOr 32 1 (one_of (codes "K") rows) w.stations
 Says _ rows _ = ⊥
 
 -- What all the arguments ask for, by three things: whether --version was given, the rows before any
@@ -227,14 +239,16 @@ Says _ rows _ = ⊥
 abbrev pub AsksFor : Bool → List Row → Option (Text × List Row) → Asked → Type 0
 AsksFor true rows command a = a ≡ asked.Version
 AsksFor false rows None a = Says commands.Replay rows a
-AsksFor false rows (Some command) a = (choice : Choice) × (command.0 ≡ word_of choice) × Says choice command.1 a
+AsksFor false rows (Some command) a = (choice : Choice) × (command.0 ≡ word_of choice)
+    × Says choice command.1 a
 
 -- ---- bounds
 
 -- the text spells a decimal number of these bounds, both among them
 abbrev pub IsBetween : ℕ → ℕ → Text → Type 0
 IsBetween low high t = IsNumeral 10 (without_leading_plus t)
-    × (low ≤ digits_value 10 (without_leading_plus t)) × (digits_value 10 (without_leading_plus t) ≤ high)
+    × (low ≤ digits_value 10 (without_leading_plus t)) × (digits_value 10 (without_leading_plus t)
+    ≤ high)
 
 -- the text spells a number within the bounds of such a value, if that has bounds
 abbrev pub IsAllowed : Value → Text → Type 0
@@ -245,7 +259,8 @@ IsAllowed _ t = ⊤
 -- what the rows give for each of these arguments is allowed
 abbrev pub AreAllowed : List Argument → List Row → Type 0
 AreAllowed [] rows = ⊤
-AreAllowed (a ∷ rest) rows = IfSome (one_of a.id rows) (IsAllowed (taken a.takes)) × AreAllowed rest rows
+AreAllowed (a ∷ rest) rows = IfSome (one_of a.id rows) (IsAllowed (taken a.takes))
+    × AreAllowed rest rows
 
 -- the rows have a value for each of these arguments that is required
 abbrev pub AreThere : List Argument → List Row → Type 0
@@ -268,23 +283,27 @@ abbrev pub IsTimingIn : Timing → Type 0
 IsTimingIn t = ((t.rounds ≡ 0) ⊎ IsIn (value_of commands.Station (codes "rounds")) t.rounds)
     × IfSome t.phase (IsIn (value_of commands.Station (codes "phase")))
     × ((t.interval ≡ 0) ⊎ IsIn (value_of commands.Station (codes "interval")) t.interval)
-    × ((t.report_every ≡ 0) ⊎ IsIn (value_of commands.Station (codes "report-every")) t.report_every)
+    × ((t.report_every ≡ 0) ⊎ IsIn (value_of commands.Station (codes "report-every"))
+    t.report_every)
     × IsIn (value_of commands.Station (codes "save-every")) t.save_every
 
 -- Each number is within the bounds of its argument in the table, whether it was given or is a
 -- default.
 abbrev pub IsWithin : Asked → Type 0
 IsWithin (asked.Replay w) = IsIn (value_of commands.Replay (codes "N")) w.size
-IsWithin (asked.Bulk w) = IsSignedIn (value_of commands.Bulk (codes "non-repeaters")) w.non_repeaters
+IsWithin (asked.Bulk w) = IsSignedIn (value_of commands.Bulk (codes "non-repeaters"))
+    w.non_repeaters
     × IsSignedIn (value_of commands.Bulk (codes "max-repetitions")) w.max_repetitions
 IsWithin (asked.Walk w) = (w.bulk ≡ 0) ⊎ IsIn (value_of commands.Walk (codes "bulk")) w.bulk
 IsWithin (asked.Settings w) = IsIn (value_of commands.Settings (codes "station")) w.station
     × IsIn (value_of commands.Settings (codes "window")) w.window
     × IsIn (value_of commands.Settings (codes "wait-ms")) w.wait_ms
     × IsIn (value_of commands.Settings (codes "tries")) w.tries
-IsWithin (asked.Agent w) = IfSome w.boots (IsSignedIn (value_of commands.Agent (codes "boots"))) × IsIn (value_of commands.Agent (codes "count")) w.count
+IsWithin (asked.Agent w) = IfSome w.boots (IsSignedIn (value_of commands.Agent (codes "boots")))
+    × IsIn (value_of commands.Agent (codes "count")) w.count
 IsWithin (asked.Answer w) = IfSome w.boots (IsSignedIn (value_of commands.Answer (codes "boots")))
-    × IsIn (value_of commands.Answer (codes "at")) w.scene.at × IsIn (value_of commands.Answer (codes "times")) w.scene.times
+    × IsIn (value_of commands.Answer (codes "at")) w.scene.at
+    × IsIn (value_of commands.Answer (codes "times")) w.scene.times
 IsWithin (asked.Station w) = IsTimingIn w.timing
     × IsIn (value_of commands.Station (codes "stale-after")) w.stale_after
     × IsIn (value_of commands.Station (codes "alarm-after")) w.alarm_after
@@ -306,7 +325,8 @@ abbrev pub LacksSource : Asked → Type 0
 LacksSource (asked.Report w) = is_some w.settings ≡ is_some w.file
 LacksSource _ = ⊥
 
--- a report of saved windows whose series get the station's number, and no settings that have the number
+-- a report of saved windows whose series get the station's number, and no settings that have the
+-- number
 abbrev pub LacksNumber : Asked → Type 0
 LacksNumber (asked.Report w) = (w.printed.station_label ≡ true) × (w.settings ≡ None)
 LacksNumber _ = ⊥

@@ -13,4 +13,10 @@ pub record Argument : Type 0 where
 
 -- a line of the program's tables, without its help
 abbrev pub argument_of : Line → Argument
-argument_of line = record { id = line.id.now; form = line.form; takes = line.takes; needed = line.needed }
+argument_of line = record {
+  id = line.id.now;
+  form = line.form;
+  takes = line.takes;
+  needed =
+      line.needed;
+}

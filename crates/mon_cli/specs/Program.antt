@@ -1,6 +1,9 @@
--- The command lines as clap's model has them: rules of arguments, shapes of commands, and the program.
+-- The command lines as clap's model has them: rules of arguments, shapes of commands, and the
+-- program.
 use Rattle.std.specs.Prelude.{◌≡◌, ◌⊎◌, Result, Ok, Err, List, [], ◌∷◌, Some, fold, codes, false}
-use Rattle.clap.specs.Words.{App, IsAmong, Rule, Text, app_of, fault_of, found_of, kind_of, matches_of, new_app, new_rule, rows_of, subcommand_of, subcommand_rows_of, with_rule, with_subcommand}
+use Rattle.clap.specs.Words.{App, IsAmong, Rule, Text, app_of, fault_of, found_of, kind_of}
+use Rattle.clap.specs.Words.{matches_of, new_app, new_rule, rows_of, subcommand_of}
+use Rattle.clap.specs.Words.{subcommand_rows_of, with_rule, with_subcommand}
 use Rattle.clap.specs.declared.error.Error.{Error}
 use Rattle.clap.specs.declared.error.ErrorKind.TheVariants.{OutOfMemory}
 use Rattle.clap.specs.declared.parser.matches.ArgMatches.{ArgMatches}
@@ -29,8 +32,10 @@ use Rattle.mon_cli.specs.declared.lines.Form.TheVariants.{Place, Long, Short, Bo
 -- the texts for the formats, for the kinds and for the orders of rows
 abbrev pub IsLists : Lists → Type 0
 IsLists lists = (texts lists.formats.now
-    ≡ codes "text" ∷ codes "json" ∷ codes "prometheus" ∷ codes "openmetrics" ∷ codes "columns" ∷ codes "html" ∷ [])
-    × (texts lists.kinds.now ≡ codes "integer" ∷ codes "string" ∷ codes "hex" ∷ codes "oid" ∷ codes "ip"
+    ≡ codes "text" ∷ codes "json" ∷ codes "prometheus" ∷ codes "openmetrics" ∷ codes "columns"
+    ∷ codes "html" ∷ [])
+    × (texts lists.kinds.now ≡ codes "integer" ∷ codes "string" ∷ codes "hex" ∷ codes "oid"
+    ∷ codes "ip"
     ∷ codes "counter32" ∷ codes "gauge32" ∷ codes "timeticks" ∷ codes "counter64" ∷ [])
     × (texts lists.sorts.now ≡ codes "name" ∷ codes "rate" ∷ codes "alarm" ∷ codes "age" ∷ [])
 
@@ -55,8 +60,17 @@ with_form (Both c) id rule = record rule { short = Some c; long = Some id }
 -- what it takes
 abbrev pub with_takes : Lists → Takes → Rule → Rule
 with_takes lists Nothing rule = record rule { action = Some SetTrue }
-with_takes lists (One v) rule = record rule { action = Some Set; parser = Some (parser_of lists v); value_names = 1 }
-with_takes lists (Each v) rule = record rule { action = Some Append; parser = Some (parser_of lists v); value_names = 1 }
+with_takes lists (One v) rule = record rule {
+  action = Some Set;
+  parser = Some (parser_of lists v);
+  value_names = 1;
+}
+with_takes lists (Each v) rule = record rule {
+  action = Some Append;
+  parser = Some
+      (parser_of lists v);
+  value_names = 1;
+}
 with_takes lists (Many v) rule = record rule {
   action = Some Append;
   parser = Some (parser_of lists v);
@@ -66,7 +80,8 @@ with_takes lists (Many v) rule = record rule {
 
 -- clap's rule of an argument
 abbrev pub rule_for : Lists → Argument → Rule
-rule_for lists a = with_takes lists a.takes (with_form a.form a.id (record (new_rule a.id) { required = a.needed }))
+rule_for lists a = with_takes lists a.takes (with_form a.form a.id
+    (record (new_rule a.id) { required = a.needed }))
 
 -- ---- commands
 
@@ -96,7 +111,8 @@ with_command lists app choice = with_subcommand app (command_app lists choice).t
 
 -- all commands
 abbrev pub program : Lists → App
-program lists = fold (with_command lists) (with_arguments lists (new_app (codes "snmpmon")) first_arguments) choices
+program lists = fold (with_command lists) (with_arguments lists (new_app (codes "snmpmon"))
+    first_arguments) choices
 
 -- the command is the program
 abbrev pub IsProgram : Command → Type 0
@@ -105,7 +121,8 @@ IsProgram command = (lists : Lists) × IsLists lists × HasApp (program lists) c
 -- the matches are those that the program gives of these words, which it takes
 abbrev pub IsParseOf : List Text → ArgMatches → Type 0
 IsParseOf words m = (lists : Lists) × IsLists lists × (fault_of (program lists) words ≡ [])
-    × (rows_of (found_of m) ≡ matches_of (program lists) words) × (subcommand_rows_of m ≡ subcommand_of (program lists) words)
+    × (rows_of (found_of m) ≡ matches_of (program lists) words)
+    × (subcommand_rows_of m ≡ subcommand_of (program lists) words)
 
 -- and so of some words
 abbrev pub IsParse : ArgMatches → Type 0
@@ -115,4 +132,5 @@ IsParse m = (words : List Text) × IsParseOf words m
 -- makes of them, or memory ran out
 abbrev pub Reads : List Text → Result ArgMatches Error → Type 0
 Reads words (Ok m) = IsParseOf words m
-Reads words (Err e) = (kind_of e ≡ OutOfMemory) ⊎ ((lists : Lists) × IsLists lists × IsAmong (kind_of e) (fault_of (program lists) words))
+Reads words (Err e) = (kind_of e ≡ OutOfMemory) ⊎ ((lists : Lists) × IsLists lists
+    × IsAmong (kind_of e) (fault_of (program lists) words))

@@ -6,7 +6,8 @@ use Rattle.mon_cli.specs.Line.{Argument}
 use Rattle.mon_cli.specs.declared.choice.Choice.{Choice}
 use Rattle.mon_cli.specs.declared.choice.Choice.TheVariants as commands
 use Rattle.mon_cli.specs.declared.lines.Value.{Value}
-use Rattle.mon_cli.specs.declared.lines.Value.TheVariants.{Text, Format, Kind, Sort, Number, Natural}
+use Rattle.mon_cli.specs.declared.lines.Value.TheVariants.{Text, Format, Kind, Sort, Number}
+use Rattle.mon_cli.specs.declared.lines.Value.TheVariants.{Natural}
 use Rattle.mon_cli.specs.declared.lines.Takes.{Takes}
 use Rattle.mon_cli.specs.declared.lines.Takes.TheVariants.{Nothing, One, Each, Many}
 use Rattle.mon_cli.specs.declared.lines.Form.TheVariants.{Place, Long, Short, Both}
@@ -55,7 +56,8 @@ up_to low high = Number (pos low) (pos high)
 
 -- ---- the commands
 
--- [-m|--module FILE].. [--names]: the modules whose names are known, in this order, and whether names are printed by them
+-- [-m|--module FILE].. [--names]: the modules whose names are known, in this order, and whether
+-- names are printed by them
 abbrev pub named : List Argument
 named = or_letter 109 (repeated (codes "module")) ∷ flag (codes "names") ∷ []
 
@@ -63,9 +65,11 @@ named = or_letter 109 (repeated (codes "module")) ∷ flag (codes "names") ∷ [
 abbrev pub printed : List Argument
 printed = option (codes "format") Format ∷ flag (codes "columns") ∷ named
 
--- [--format FORMAT] [--columns] [--sort ORDER] and the names: how a report is printed, and its rows sorted
+-- [--format FORMAT] [--columns] [--sort ORDER] and the names: how a report is printed, and its rows
+-- sorted
 abbrev pub sorted : List Argument
-sorted = option (codes "format") Format ∷ flag (codes "columns") ∷ option (codes "sort") Sort ∷ named
+sorted = option (codes "format") Format ∷ flag (codes "columns") ∷ option (codes "sort") Sort
+    ∷ named
 
 -- ADDRESS COMMUNITY: the agent that is asked, and under which community
 abbrev pub addressed : List Argument
@@ -84,11 +88,14 @@ abbrev pub arguments : Choice → List Argument
 arguments commands.Replay = word (codes "N") (up_to 1 64) ∷ flag (codes "report") ∷ printed
 arguments commands.Get = addressed ++ words (codes "NAME") ∷ named
 arguments commands.Next = addressed ++ words (codes "NAME") ∷ named
-arguments commands.Bulk = addressed ++ words (codes "NAME") ∷ repeated (codes "module") ∷ flag (codes "names")
+arguments commands.Bulk = addressed ++ words (codes "NAME") ∷ repeated (codes "module")
+    ∷ flag (codes "names")
     ∷ lettered 110 (codes "non-repeaters") (up_to 0 2147483647)
     ∷ lettered 109 (codes "max-repetitions") (up_to 0 2147483647) ∷ []
-arguments commands.Walk = addressed ++ word (codes "NAME") Text ∷ option (codes "bulk") (up_to 1 1000) ∷ named
-arguments commands.Set = addressed ++ word (codes "NAME") Text ∷ word (codes "KIND") Kind ∷ word (codes "VALUE") Text ∷ named
+arguments commands.Walk = addressed ++ word (codes "NAME") Text
+    ∷ option (codes "bulk") (up_to 1 1000) ∷ named
+arguments commands.Set = addressed ++ word (codes "NAME") Text ∷ word (codes "KIND") Kind
+    ∷ word (codes "VALUE") Text ∷ named
 arguments commands.Settings = addressed
     ++ option (codes "station") (up_to 1 4294967295)
     ∷ option (codes "listen") Text
@@ -106,7 +113,8 @@ arguments commands.Settings = addressed
     ∷ option (codes "update") Text
     ∷ option (codes "labels") Text
     ∷ or_letter 109 (repeated (codes "module")) ∷ []
-arguments commands.Agent = settings ∷ boots ∷ needed (option (codes "count") (up_to 1 4294967295)) ∷ []
+arguments commands.Agent = settings ∷ boots ∷ needed (option (codes "count") (up_to 1 4294967295))
+    ∷ []
 arguments commands.Answer = settings ∷ boots
     ∷ option (codes "at") (Natural 0 214748364799)
     ∷ option (codes "fuses") (Natural 0 18446744073709551615)
@@ -158,4 +166,5 @@ taken (Many value) = value
 
 -- each value of the argument with this id, of a command
 abbrev pub value_of : Choice → List ℕ → Value
-value_of choice id = option_map_or (λ a. taken a.takes) (find (λ a. bytes_eq a.id id) (arguments choice)) Text
+value_of choice id = option_map_or (λ a. taken a.takes) (find (λ a. bytes_eq a.id id)
+    (arguments choice)) Text

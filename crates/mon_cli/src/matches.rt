@@ -105,7 +105,8 @@ fn read_named<'m, 'a>(matches: &'m ArgMatches<'a>) -> Named<'m, 'a>
 
 /// Returns the format that the arguments give.
 fn format(matches: &ArgMatches<'_>) -> Format
-    ensures { IsFormat (is_on (codes "columns") (rows_of (found_of matches.now))) (text_in (codes "format") (rows_of (found_of matches.now))) result }
+    ensures { IsFormat (is_on (codes "columns") (rows_of (found_of matches.now)))
+        (text_in (codes "format") (rows_of (found_of matches.now))) result }
 {
     if is_on(matches, "columns") {
         return Format::Columns;
@@ -372,7 +373,8 @@ fn asked_by<'m, 'a>(choice: Choice, matches: &'m ArgMatches<'a>) -> Asked<'m, 'a
 /// arguments are left out.
 pub fn read_command<'m, 'a>(matches: &'m ArgMatches<'a>) -> Asked<'m, 'a>
     requires { IsParse matches.now }
-    ensures says { AsksFor (is_on (codes "version") (rows_of (found_of matches.now))) (rows_of (found_of matches.now)) (subcommand_rows_of matches.now) result }
+    ensures says { AsksFor (is_on (codes "version") (rows_of (found_of matches.now)))
+        (rows_of (found_of matches.now)) (subcommand_rows_of matches.now) result }
     ensures within { IsWithin result }
 {
     if is_on(matches, "version") {

@@ -64,11 +64,13 @@ pub struct Timing {
     pub rounds: u32,
     /// How many seconds lie between the beginnings of two rounds, at least; 0 for none.
     pub interval: u32,
-    /// How many seconds after whole intervals of the wall clock a round begins, if the arguments say so.
+    /// How many seconds after whole intervals of the wall clock a round begins, if the arguments
+    /// say so.
     pub phase: Option<u32>,
     /// After how many rounds each the report is printed; 0 for never.
     pub report_every: u32,
-    /// After how many rounds each all is saved, besides the last one; 1 if the arguments do not say.
+    /// After how many rounds each all is saved, besides the last one; 1 if the arguments do not
+    /// say.
     pub save_every: u32,
 }
 
@@ -300,8 +302,8 @@ impl Asked<'_, '_> {
         }
     }
 
-    /// Returns `true` if `report` must label series by the station's number, and is given no settings,
-    /// which have the number.
+    /// Returns `true` if `report` must label series by the station's number, and is given no
+    /// settings, which have the number.
     pub fn lacks_number(&self) -> bool
         ensures { IsTrue result ↔ LacksNumber self.now }
     {

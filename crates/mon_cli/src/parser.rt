@@ -162,7 +162,8 @@ fn with_command<'a>(
     command: Command<'a>,
     choice: Choice,
 ) -> Result<Command<'a>, AllocError>
-    ensures { (before : App) → HasApp before command.entry → IfOk result (HasApp (with_command lists.entry before choice)) }
+    ensures { (before : App) → HasApp before command.entry → IfOk result
+        (HasApp (with_command lists.entry before choice)) }
 {
     command.subcommand(one(alloc, lists, choice)?)
 }
@@ -184,7 +185,8 @@ fn with_commands<'a>(
     Ok(command)
 }
 
-/// The whole command line. With no arguments it names no command, which the caller takes for `replay 8`.
+/// The whole command line. With no arguments it names no command, which the caller takes for
+/// `replay 8`.
 fn command<'a>(alloc: Global) -> Result<Command<'a>, AllocError>
     ensures { IfOk result IsProgram }
 {

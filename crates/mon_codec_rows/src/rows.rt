@@ -1,5 +1,5 @@
-//! Lines of what is read and written, by agents and by stations. tests/generators/codec_rows writes the
-//! rows, from independent readers.
+//! Lines of what is read and written, by agents and by stations. tests/generators/codec_rows writes
+//! the rows, from independent readers.
 //!
 //!     value HEX         the value that these octets begin with, how many spell it, its size and
 //!                       its octets as they are written; or the fault

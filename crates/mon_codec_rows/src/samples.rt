@@ -197,8 +197,8 @@ pub(crate) fn alarm(alloc: Global, text: &mut String, line: &str) -> Option<()> 
     }
 }
 
-/// Appends what became of the alarm of a line `RISING FALLING RECORD,.. RECORD,..` between a look at the
-/// first samples and one at the others.
+/// Appends what became of the alarm of a line `RISING FALLING RECORD,.. RECORD,..` between a look
+/// at the first samples and one at the others.
 pub(crate) fn changes(alloc: Global, text: &mut String, line: &str) -> Option<()> {
     let (rising, falling, rest) = three(line, ' ')?;
     let (was, is) = two(rest, ' ')?;

@@ -1,5 +1,6 @@
 -- What `agent` and `answer` do.
-use Rattle.std.specs.Prelude.{◌≡◌, ◌⊎◌, ℕ, ℤ, List, map, Option, Some, None, option_copied, Result, Ok, Err, String, codes, string_bytes}
+use Rattle.std.specs.Prelude.{◌≡◌, ◌⊎◌, ℕ, ℤ, List, map, Option, Some, None, option_copied, Result}
+use Rattle.std.specs.Prelude.{Ok, Err, String, codes, string_bytes}
 use Rattle.std.specs.Global.{Global}
 use Rattle.std.specs.Borrow.{Bor}
 use Rattle.mon_agent.specs.State.{counters_of, device_of, policy_of, settings_of}

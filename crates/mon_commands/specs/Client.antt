@@ -1,5 +1,6 @@
 -- What `get`, `next`, `bulk` and `set` do.
-use Rattle.std.specs.Prelude.{◌≡◌, ◌⊎◌, ℕ, pos, List, Bool, true, false, Result, Ok, Err, String, string_bytes}
+use Rattle.std.specs.Prelude.{◌≡◌, ◌⊎◌, ℕ, pos, List, Bool, true, false, Result, Ok, Err, String}
+use Rattle.std.specs.Prelude.{string_bytes}
 use Rattle.std.specs.Global.{Global}
 use Rattle.std.specs.Borrow.{Bor}
 use Rattle.mon_app.specs.Network.{Agents, IsUnopened}
@@ -44,8 +45,8 @@ question_about query asking names = record {
 abbrev pub question : Query → Asking → Asked
 question query asking = question_about query asking query.asked.items
 
--- The text of the answer of the agent at an address: a wire was opened to it, and what happened there
--- explains the text, or the fault; or no wire could be opened.
+-- The text of the answer of the agent at an address: a wire was opened to it, and what happened
+-- there explains the text, or the fault; or no wire could be opened.
 abbrev pub IsAnswerText : Agents → Addr → (List ℕ → List ℕ) → Asked
     → Result (String Global) AppFault → Type 0
 IsAnswerText agents at show q (Ok text) =

@@ -1,5 +1,6 @@
 -- What a client command asks, and why it asks nothing.
-use Rattle.std.specs.Prelude.{◌≡◌, ◌≢◌, ◌⊎◌, ◌≤◌, ℕ, List, [], ◌∷◌, length, map, None, Some, Result, Ok, Err, codes}
+use Rattle.std.specs.Prelude.{◌≡◌, ◌≢◌, ◌⊎◌, ◌≤◌, ℕ, List, [], ◌∷◌, length, map, None, Some, Result}
+use Rattle.std.specs.Prelude.{Ok, Err, codes}
 use Rattle.std.specs.Global.{Vec}
 use Rattle.mon_app.specs.Meaning.{IsFault, MeansValue, word_of}
 use Rattle.mon_app.specs.declared.fault.AppFault.{AppFault}

@@ -33,7 +33,8 @@ IsReplaying size = Then IsInput (λ input. Then (Quietly (IsReplayed size input.
 
 -- the report of what a replay keeps, printed in this way
 abbrev pub report_text : Printing → Kept → List ℕ
-report_text p kept = formatted p.format (shown_by p.names) kept.entries None p.labels.items p.presentation
+report_text p kept = formatted p.format (shown_by p.names) kept.entries None p.labels.items
+    p.presentation
 
 -- what a replay keeps of an input, by the grammar of messages, and its report; or memory ran out
 abbrev pub IsReported : ℕ → List ℕ → Printing → Result Reported Failure → Type 0

@@ -1,5 +1,6 @@
 -- What `agent` does.
-use Rattle.std.specs.Prelude.{◌≡◌, ◌⊎◌, ◌<◌, ◌++◌, ℕ, zero, suc, List, [], ◌∷◌, IsErrAnd, Some, Result, Ok, Err, codes}
+use Rattle.std.specs.Prelude.{◌≡◌, ◌⊎◌, ◌<◌, ◌++◌, ℕ, zero, suc, List, [], ◌∷◌, IsErrAnd, Some}
+use Rattle.std.specs.Prelude.{Result, Ok, Err, codes}
 use Rattle.std.specs.Net.Text.{socket_text}
 use Rattle.std.specs.declared.net.socket_addr.SocketAddr.{SocketAddr}
 use Rattle.mon_agent.specs.State.{policy_of, settings_of}
@@ -110,7 +111,8 @@ IsServedBy count agent at_port log result = (after : Standing Sim)
 
 -- A port was opened for an address, one line says which it has, and an agent is served this many
 -- datagrams at it.
-pub record IsHeard (ports : Ports) (listen : Addr) (count : ℕ) (agent : Agent Sim) (log : List AtHost)
+pub record IsHeard (ports : Ports) (listen : Addr) (count : ℕ) (agent : Agent Sim)
+    (log : List AtHost)
     (result : Result Unit Failure) : Type 0 where
   pub at : SocketAddr
   pub rest : List AtHost

@@ -1,5 +1,6 @@
 -- What `walk` does.
-use Rattle.std.specs.Prelude.{◌≡◌, ◌⊎◌, ◌<◌, ◌≤◌, ℕ, pos, List, [], ◌∷◌, IsErrAnd, Result, Ok, Err, codes}
+use Rattle.std.specs.Prelude.{◌≡◌, ◌⊎◌, ◌<◌, ◌≤◌, ℕ, pos, List, [], ◌∷◌, IsErrAnd, Result, Ok, Err}
+use Rattle.std.specs.Prelude.{codes}
 use Rattle.mon_app.specs.Network.{Agents, IsUnopened}
 use Rattle.mon_app.specs.Question.{Asked}
 use Rattle.mon_app.specs.Walk.{IsWalk, asking_by}
@@ -22,8 +23,8 @@ use Rattle.mon_host.specs.Reason.{why}
 use Rattle.mon_host.specs.Then.{Then}
 use Rattle.mon_udp.specs.declared.addr.Addr.{Addr}
 
--- By which request a walk asks for this many variables at once: by GetNext for none, and for more than
--- a GetBulk can ask for.
+-- By which request a walk asks for this many variables at once: by GetNext for none, and for more
+-- than a GetBulk can ask for.
 abbrev pub IsStride : ℕ → Stride → Type 0
 IsStride bulk Next = (bulk ≡ 0) ⊎ (2147483648 ≤ bulk)
 IsStride bulk (Bulk most) = (most ≡ pos bulk) × (1 ≤ bulk) × (bulk < 2147483648)
@@ -42,12 +43,13 @@ abbrev pub IsWalkWithout : Agents → Addr → WalkFault → Type 0
 IsWalkWithout agents at (faults.App fault) = agents.Unreached at fault × IsUnopened fault
 IsWalkWithout agents at (faults.Output reason) = ⊥
 
--- What a walk prints from a start on: a wire was opened to the agent at an address, and what happened
--- there explains it; or no wire could be opened.
+-- What a walk prints from a start on: a wire was opened to the agent at an address, and what
+-- happened there explains it; or no wire could be opened.
 abbrev pub IsWalkAt : Agents → Addr → (List ℕ → List ℕ) → Stride → List ℕ → List ℕ → List AtHost
     → Result Unit WalkFault → Type 0
 IsWalkAt agents at show stride community start log result =
-    agents.Reached at (λ at_wire. IsWalk show (next_question stride community) start at_wire log result)
+    agents.Reached at (λ at_wire. IsWalk show (next_question stride community) start at_wire log
+    result)
     ⊎ ((log ≡ []) × IsErrAnd result (IsWalkWithout agents at))
 
 -- the failure of a walk through an agent: the agent's, or that of standard output
@@ -67,9 +69,10 @@ IsShown agents show agent stride community start log (Err failure) = (fault : Wa
     × IsWalkAt agents agent.address show stride community start log
     (let r : Result Unit WalkFault = Err fault in r)
 
--- What a walk of a query prints and comes to, with identifiers shown as it asks, for which memory may
--- run out. A walk is from one name: of any other number of them nothing is done.
-abbrev pub IsWalkOf : Agents → Query → Stride → List (List ℕ) → List AtHost → Result Unit Failure → Type 0
+-- What a walk of a query prints and comes to, with identifiers shown as it asks, for which memory
+-- may run out. A walk is from one name: of any other number of them nothing is done.
+abbrev pub IsWalkOf : Agents → Query → Stride → List (List ℕ) → List AtHost → Result Unit Failure
+    → Type 0
 IsWalkOf agents query stride (start ∷ []) log result = IsUndone log result
     ⊎ IsShown agents (shown_if query.prints_names query.known) query.agent stride
     query.community.now start log result
@@ -81,6 +84,7 @@ IsWalkBy agents bulk query log result = (stride : Stride) × IsStride bulk strid
     × IsWalkOf agents query stride query.asked.items log result
 
 -- The command `walk`: what the arguments ask is read, and then each variable is printed as soon as
--- it is answered. If the walk ended well and printed none, it is said that nothing is below its name.
+-- it is answered. If the walk ended well and printed none, it is said that nothing is below its
+-- name.
 abbrev pub IsWalking : Agents → WalkArgs → List AtHost → Result Unit Failure → Type 0
 IsWalking agents words = Then (IsQuery words.request) (IsWalkBy agents words.bulk)

@@ -39,7 +39,7 @@ pub fn serve_agent<L: Listens, H: Host>(
         (L.has_failed net.now) L.Port.told L.Port.failures)
         words.entry log result) (H.log host.old) (H.log host.new) }
 {
-    let told = told_of(alloc, host, words.settings, words.boots)?;
+    let told = read_agent_settings(alloc, host, words.settings, words.boots)?;
     let service = Service {
         listen: told.listen,
         count: words.count,
@@ -165,7 +165,7 @@ fn port_failure(alloc: Global, listen: Addr, fault: AppFault) -> Failure
 }
 
 /// What the file of an agent's settings says, with the boots that may be given in their place.
-fn told_of<H: Host>(
+fn read_agent_settings<H: Host>(
     alloc: Global,
     host: &mut H,
     path: &str,
@@ -214,7 +214,7 @@ pub fn print_answers<H: Host>(
         (H.log host.old) (H.log host.new) }
 {
     let AnswerArgs { scene, named, .. } = words;
-    let told = told_of(alloc, host, words.settings, words.boots)?;
+    let told = read_agent_settings(alloc, host, words.settings, words.boots)?;
     let mut agent = fused_agent(told, scene.fuses)?;
     let at = moment_of(alloc, scene.at)?;
     print_told(alloc, host, &mut agent, (at, scene.times), named)

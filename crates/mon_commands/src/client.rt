@@ -21,7 +21,8 @@ pub fn get<N: Opens, H: Host>(
     net: &N,
     request: Request<'_, '_>,
 ) -> Result<(), Failure>
-    ensures { GoesOnBy (λ log. IsGetting (agents_by (N.has_opened net.now) (N.has_failed net.now) N.Wire.told)
+    ensures { GoesOnBy (λ log. IsGetting (agents_by (N.has_opened net.now) (N.has_failed net.now)
+        N.Wire.told)
         request.entry log result)
         (H.log host.old) (H.log host.new) }
 {
@@ -35,7 +36,8 @@ pub fn next<N: Opens, H: Host>(
     net: &N,
     request: Request<'_, '_>,
 ) -> Result<(), Failure>
-    ensures { GoesOnBy (λ log. IsGettingNext (agents_by (N.has_opened net.now) (N.has_failed net.now) N.Wire.told)
+    ensures { GoesOnBy (λ log. IsGettingNext (agents_by (N.has_opened net.now)
+        (N.has_failed net.now) N.Wire.told)
         request.entry log result)
         (H.log host.old) (H.log host.new) }
 {
@@ -49,7 +51,8 @@ pub fn bulk<N: Opens, H: Host>(
     net: &N,
     words: BulkArgs<'_, '_>,
 ) -> Result<(), Failure>
-    ensures { GoesOnBy (λ log. IsAskingMany (agents_by (N.has_opened net.now) (N.has_failed net.now) N.Wire.told)
+    ensures { GoesOnBy (λ log. IsAskingMany (agents_by (N.has_opened net.now) (N.has_failed net.now)
+        N.Wire.told)
         words.entry log result)
         (H.log host.old) (H.log host.new) }
 {
@@ -67,7 +70,8 @@ pub fn set<N: Opens, H: Host>(
     net: &N,
     words: SetArgs<'_, '_>,
 ) -> Result<(), Failure>
-    ensures { GoesOnBy (λ log. IsSetting (agents_by (N.has_opened net.now) (N.has_failed net.now) N.Wire.told)
+    ensures { GoesOnBy (λ log. IsSetting (agents_by (N.has_opened net.now) (N.has_failed net.now)
+        N.Wire.told)
         words.entry log result) (H.log host.old) (H.log host.new) }
 {
     let query = query_of(alloc, host, words.request)?;
@@ -83,7 +87,8 @@ fn ask<N: Opens, H: Host>(
     request: Request<'_, '_>,
     asking: Asking<'_>,
 ) -> Result<(), Failure>
-    ensures { GoesOnBy (λ log. IsAsking (agents_by (N.has_opened net.now) (N.has_failed net.now) N.Wire.told)
+    ensures { GoesOnBy (λ log. IsAsking (agents_by (N.has_opened net.now) (N.has_failed net.now)
+        N.Wire.told)
         request.entry asking.entry log result)
         (H.log host.old) (H.log host.new) }
 {
@@ -99,7 +104,8 @@ fn print_answer<'a, N: Opens, H: Host>(
     query: &'a Query<'a>,
     asking: Asking<'a>,
 ) -> Result<(), Failure>
-    ensures { GoesOnBy (λ log. PrintsAnswer (agents_by (N.has_opened net.now) (N.has_failed net.now) N.Wire.told)
+    ensures { GoesOnBy (λ log. PrintsAnswer (agents_by (N.has_opened net.now) (N.has_failed net.now)
+        N.Wire.told)
         query.now asking.entry log result)
         (H.log host.old) (H.log host.new) }
 {
@@ -114,7 +120,8 @@ fn answer<'a, N: Opens>(
     query: &'a Query<'a>,
     asking: Asking<'a>,
 ) -> Result<String, Failure>
-    ensures { IsAnswered (agents_by (N.has_opened net.now) (N.has_failed net.now) N.Wire.told) query.now asking.entry result }
+    ensures { IsAnswered (agents_by (N.has_opened net.now) (N.has_failed net.now) N.Wire.told)
+        query.now asking.entry result }
 {
     if query.prints_names {
         answer_shown(alloc, net, query, asking, &query.known.labels(alloc)?)
@@ -131,7 +138,8 @@ fn answer_shown<'a, N: Opens, S: NameTexts>(
     asking: Asking<'a>,
     names: &S,
 ) -> Result<String, Failure>
-    ensures { IsAnsweredAs (agents_by (N.has_opened net.now) (N.has_failed net.now) N.Wire.told) (S.shown names.now) query.now asking.entry result }
+    ensures { IsAnsweredAs (agents_by (N.has_opened net.now) (N.has_failed net.now) N.Wire.told)
+        (S.shown names.now) query.now asking.entry result }
 {
     let question = Question {
         asking,
@@ -153,7 +161,8 @@ fn answer_query<N: Opens, S: NameTexts>(
     question: &Question<'_>,
     names: &S,
 ) -> Result<String, AppFault>
-    ensures { IsAnswerText (agents_by (N.has_opened net.now) (N.has_failed net.now) N.Wire.told) agent (S.shown names.now) (asked_in question.now) result }
+    ensures { IsAnswerText (agents_by (N.has_opened net.now) (N.has_failed net.now) N.Wire.told)
+        agent (S.shown names.now) (asked_in question.now) result }
 {
     let mut wire = net.open(agent)?;
     answer_text(alloc, &mut wire, question, names)

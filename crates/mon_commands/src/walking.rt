@@ -46,8 +46,8 @@ struct Route<'a> {
     plan: WalkPlan<'a>,
 }
 
-/// Walks through the variables under the name of the query, and prints a line for each. Of any other
-/// number of names it does nothing.
+/// Walks through the variables under the name of the query, and prints a line for each. Of any
+/// other number of names it does nothing.
 fn walk_query<N: Opens, H: Host>(
     alloc: Global,
     host: &mut H,

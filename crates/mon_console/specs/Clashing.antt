@@ -1,5 +1,6 @@
 -- The line of a module that defines a name which is defined already.
-use Rattle.std.specs.Prelude.{ℕ, nat_lt, List, ◌++◌, Bool, true, false, Option, Some, None, String, codes, find, option_map, slice_get, string_bytes, unwrap_or}
+use Rattle.std.specs.Prelude.{ℕ, nat_lt, List, ◌++◌, Bool, true, false, Option, Some, None, String}
+use Rattle.std.specs.Prelude.{codes, find, option_map, slice_get, string_bytes, unwrap_or}
 use Rattle.std.specs.Global.{Global}
 use Rattle.mon_smi.specs.declared.definition.Definition.{Definition}
 

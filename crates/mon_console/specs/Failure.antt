@@ -1,5 +1,6 @@
 -- Failures of commands, and what is said of them on standard error.
-use Rattle.std.specs.Prelude.{◌≡◌, ◌⊎◌, ◌==◌, ℕ, List, [], ◌∷◌, ◌++◌, Bool, true, false, IfSome, Option, Some, None, codes, option_map, String, string_bytes}
+use Rattle.std.specs.Prelude.{◌≡◌, ◌⊎◌, ◌==◌, ℕ, List, [], ◌∷◌, ◌++◌, Bool, true, false, IfSome}
+use Rattle.std.specs.Prelude.{Option, Some, None, codes, option_map, String, string_bytes}
 use Rattle.std.specs.Global.{Global}
 use Rattle.std.specs.declared.io.ErrorKind.{ErrorKind}
 use Rattle.std.specs.declared.io.ErrorKind.TheVariants as kinds

@@ -1,9 +1,12 @@
 -- What commands print, read, write and replace, and how that fails.
-use Rattle.std.specs.Prelude.{◌≡◌, ◌⊎◌, ℕ, List, [], ◌∷◌, ◌++◌, Result, Ok, Err, IsUtf8, String, codes, string_bytes}
+use Rattle.std.specs.Prelude.{◌≡◌, ◌⊎◌, ℕ, List, [], ◌∷◌, ◌++◌, Result, Ok, Err, IsUtf8, String}
+use Rattle.std.specs.Prelude.{codes, string_bytes}
 use Rattle.std.specs.Global.{Global, Vec}
 use Rattle.mon_console.specs.Failure.{IsMemory, IsOfStream, IsOfText}
 use Rattle.mon_console.specs.declared.failure.Failure.{Failure}
-use Rattle.mon_host.specs.AtHost.{AtHost, FileRead, FileUnread, InputRead, InputUnread, PartRead, PartUnread, Permitted, Printed, Renamed, Unpermitted, Unprinted, Unrenamed, Unwritten, Written}
+use Rattle.mon_host.specs.AtHost.{AtHost, FileRead, FileUnread, InputRead, InputUnread, PartRead}
+use Rattle.mon_host.specs.AtHost.{PartUnread, Permitted, Printed, Renamed, Unpermitted, Unprinted}
+use Rattle.mon_host.specs.AtHost.{Unrenamed, Unwritten, Written}
 use Rattle.mon_host.specs.Reason.{Why}
 use Rattle.mon_host.specs.Then.{Quietly, Then}
 use Rattle.mon_host.specs.declared.host.Part.{Part}

@@ -1,5 +1,6 @@
 -- The settings of a station, and the labels of its instances.
-use Rattle.std.specs.Prelude.{◌≡◌, ℕ, Bool, List, [], true, false, map, Option, Some, None, Result, Ok, Err, String, codes, option_map, string_bytes}
+use Rattle.std.specs.Prelude.{◌≡◌, ℕ, Bool, List, [], true, false, map, Option, Some, None, Result}
+use Rattle.std.specs.Prelude.{Ok, Err, String, codes, option_map, string_bytes}
 use Rattle.std.specs.Global.{Global}
 use Rattle.mon_cli.specs.declared.meaning.Printed.{Printed}
 use Rattle.mon_console.specs.Failure.{IsMemory}
@@ -46,14 +47,15 @@ AreLabels (Some path) = Then (IsText path) (λ text. Quietly (AreSaid (string_by
 
 -- the labels of a station's instances: of their targets' addresses, their targets' own, and of
 -- interfaces
-pub record AreLabelsOf (settings : StationSettings) (labels : Labels) (all : List Given) : Type 0 where
-  pub addresses : List (String Global)
-  pub written : map string_bytes addresses ≡ map (λ t. addr_text t.address) settings.core.targets
-  pub labelled : all ≡ given_from labels.interfaces.items settings.core.targets addresses
-      settings.target_labels.items 0 settings.core.watch.instances
+pub record AreLabelsOf (settings : StationSettings) (labels : Labels) (all : List Given) : Type 0
+  where
+    pub addresses : List (String Global)
+    pub written : map string_bytes addresses ≡ map (λ t. addr_text t.address) settings.core.targets
+    pub labelled : all ≡ given_from labels.interfaces.items settings.core.targets addresses
+        settings.target_labels.items 0 settings.core.watch.instances
 
--- settings, and a way to print reports, to which labels and that of the station were added; or memory
--- ran out
+-- settings, and a way to print reports, to which labels and that of the station were added; or
+-- memory ran out
 abbrev pub AreLabelled : StationSettings → Printing → Labels → Both → Type 0
 AreLabelled settings printing labels (Ok both) = (both.0 ≡ settings)
     × (both.1 ≡ with_labels both.1.labels both.1.presentation.label printing)
@@ -71,9 +73,9 @@ number_if false number = None
 abbrev pub numbered_by : Printed → StationSettings × Printing → Printing
 numbered_by printed both = numbered (number_if printed.station_label both.0.core.station) both.1
 
--- The settings in a file, and how reports are printed: with labels, of which the arguments ask for the
--- station's number. After the files of the settings that of the labels of interfaces is read, if one is
--- given.
+-- The settings in a file, and how reports are printed: with labels, of which the arguments ask for
+-- the station's number. After the files of the settings that of the labels of interfaces is read,
+-- if one is given.
 abbrev pub IsLabelled : List ℕ → Option (List ℕ) → Printed → List AtHost → Both → Type 0
 IsLabelled path labels printed = Then (IsStationFile path printed) (λ both.
     Then (AreLabels labels) (λ all. Quietly (AreLabelled both.0 (numbered_by printed both) all)))

@@ -1,5 +1,6 @@
 -- How reports are printed, as the arguments ask for it.
-use Rattle.std.specs.Prelude.{◌≡◌, ℕ, List, [], ◌∷◌, Bool, true, false, map, Option, Some, None, Result, Ok, Err, String, unwrap_or}
+use Rattle.std.specs.Prelude.{◌≡◌, ℕ, List, [], ◌∷◌, Bool, true, false, map, Option, Some, None}
+use Rattle.std.specs.Prelude.{Result, Ok, Err, String, unwrap_or}
 use Rattle.std.specs.Global.{Global, Vec}
 use Rattle.mon_cli.specs.declared.meaning.Printed.{Printed}
 use Rattle.mon_console.specs.Naming.{AreJoinedFromAll, others}
@@ -21,7 +22,12 @@ shown_names false names = None
 
 -- a table with rows in this order, or by name if none is given
 abbrev pub presented : Option Sort → Presentation
-presented sort = record { label = None; file_age = None; sort = unwrap_or sort Name; station = None }
+presented sort = record {
+  label = None;
+  file_age = None;
+  sort = unwrap_or sort Name;
+  station = None;
+}
 
 -- reports in the format of the arguments, without labels
 abbrev pub IsPrintingBy : Printed → List Definition → Result Printing Failure → Type 0
@@ -41,10 +47,14 @@ IsPrinting printed names files = Then
 
 -- reports with these labels of the instances, and with that of the station
 abbrev pub with_labels : Vec InstanceLabels → Option (String Global) → Printing → Printing
-with_labels labels label p = record p { labels = labels; presentation = record p.presentation { label = label } }
+with_labels labels label p = record p {
+  labels = labels;
+  presentation = record p.presentation
+      { label = label };
+}
 
--- reports in which each series of an instance has this number of a station as a label in Prometheus'
--- text, if there is one
+-- reports in which each series of an instance has this number of a station as a label in
+-- Prometheus' text, if there is one
 abbrev pub numbered : Option ℕ → Printing → Printing
 numbered number p = record p { presentation = record p.presentation { station = number } }
 

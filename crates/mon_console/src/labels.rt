@@ -22,8 +22,8 @@ use std::alloc::{AllocError, Global};
 
 /// Returns what the file of a station's settings says, and how its reports are printed: with the
 /// station's label, with the addresses and the labels of the targets as labels, and with those of
-/// interfaces that are in the file of labels, if one is given. If the arguments ask for it, series have
-/// the station's number as a label.
+/// interfaces that are in the file of labels, if one is given. If the arguments ask for it, series
+/// have the station's number as a label.
 pub fn read_labelled_station<H: Host>(
     alloc: Global,
     host: &mut H,

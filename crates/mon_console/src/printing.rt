@@ -95,7 +95,8 @@ impl Printing {
         }
     }
 
-    /// How the report of a file is printed whose last change is this old in seconds, if that is known.
+    /// How the report of a file is printed whose last change is this old in seconds, if that is
+    /// known.
     pub fn with_file_age(self, file_age: Option<u64>) -> Self
         ensures { result ≡ aged file_age self }
     {
@@ -104,8 +105,8 @@ impl Printing {
         printing
     }
 
-    /// How reports are printed in which each series of an instance has this number of a station as its
-    /// label `station` in Prometheus' text, if there is one.
+    /// How reports are printed in which each series of an instance has this number of a station as
+    /// its label `station` in Prometheus' text, if there is one.
     pub(crate) fn with_station(self, station: Option<u32>) -> Self
         ensures { result ≡ numbered station self }
     {

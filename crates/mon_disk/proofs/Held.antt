@@ -1,4 +1,5 @@
--- What a keeper knows of its file even after its disk failed, and how closing the spare slot's gate mends it.
+-- What a keeper knows of its file even after its disk failed, and how closing the spare slot's gate
+-- mends it.
 use Rattle.std.proofs.Common.{ℕ, ◌≡◌, ◌<◌, ◌≤◌, ◌+◌, ◌*◌, max, [], ◌∷◌, inl, inr, ⊎_elim, true, ◌&&◌, ◌==◌, nat_lt, Bool, List, length, refl, sym, ◌∙◌, ap, subst, if◌then◌else◌, Option, Some, None}
 use Rattle.std.proofs.lemmas.Bool.{and_parts, and_from}
 use Rattle.mon_disk.specs.Disk.{Follows, IsTorn, Leaves, LeavesSince, Only}

@@ -1,10 +1,13 @@
--- What happens to a disk under its keepers, one call or stop after another, and what an opening may find after it.
+-- What happens to a disk under its keepers, one call or stop after another, and what an opening may
+-- find after it.
 use Rattle.std.specs.Prelude.{◌≡◌, ◌⊎◌, ℕ, List, [], ◌∷◌, Option, Some, None, Contains}
 use Rattle.mon_disk.specs.Disk.{Only, Leaves, LeavesSince}
 use Rattle.mon_disk.specs.Keeper.{FindsAs, FindsBody}
 
--- A call of a keeper with its answer, or a stop: an opening that found this body (None: nothing was saved) or failed, a save of this body that was acknowledged or failed, a
--- reopening after which this body is the last (None: nothing is) or that failed, a stop within a save of this body (None: within an opening, or between calls), or one within a reopening.
+-- A call of a keeper with its answer, or a stop: an opening that found this body (None: nothing was
+-- saved) or failed, a save of this body that was acknowledged or failed, a reopening after which
+-- this body is the last (None: nothing is) or that failed, a stop within a save of this body (None:
+-- within an opening, or between calls), or one within a reopening.
 pub data Event : Type 0 where
   opened : Option (List ℕ) → Event
   unopened : Event
@@ -15,8 +18,10 @@ pub data Event : Type 0 where
   stopped : Option (List ℕ) → Event
   stopped_reopening : Option (List ℕ) → Event
 
--- The bodies that an opening may find after it, if these are the ones before, the newest first: what an opening found, a save acknowledged or a reopening went back to is the only
--- one, a body whose save was running comes to those before, and a reopening that failed or was stopped brings none.
+-- The bodies that an opening may find after it, if these are the ones before, the newest first:
+-- what an opening found, a save acknowledged or a reopening went back to is the only one, a body
+-- whose save was running comes to those before, and a reopening that failed or was stopped brings
+-- none.
 abbrev pub found_after : List (Option (List ℕ)) → Event → List (Option (List ℕ))
 found_after bodies (opened body) = body ∷ []
 found_after bodies unopened = bodies
@@ -45,7 +50,8 @@ GoesBack bodies event = Unit {0}
 abbrev pub FindsOneOf : List (Option (List ℕ)) → List ℕ → Type 0
 FindsOneOf bodies file = (body : Option (List ℕ)) × Contains bodies body × FindsBody body file
 
--- an opening of this file meets what it would have met before, or finds the body whose save was running
+-- an opening of this file meets what it would have met before, or finds the body whose save was
+-- running
 abbrev pub FindsRunning : Option (List ℕ) → (List ℕ → Type 0) → List ℕ → Type 0
 FindsRunning None outcomes file = FindsAs outcomes file
 FindsRunning (Some body) outcomes file = FindsAs outcomes file ⊎ FindsBody (Some body) file
@@ -54,7 +60,8 @@ FindsRunning (Some body) outcomes file = FindsAs outcomes file ⊎ FindsBody (So
 abbrev pub FindsAgain : Option (List ℕ) → (List ℕ → Type 0) → List ℕ → Type 0
 FindsAgain last outcomes file = FindsAs outcomes file ⊎ FindsBody last file
 
-module _ {D : Type 0} (is_honest : D → Type 0) (seen : D → List ℕ) (may_leave : D → List ℕ → Type 0) (moment : D → ℕ) (left_since : D → ℕ → List ℕ → Type 0) where
+module _ {D : Type 0} (is_honest : D → Type 0) (seen : D → List ℕ) (may_leave : D → List ℕ → Type 0)
+    (moment : D → ℕ) (left_since : D → ℕ → List ℕ → Type 0) where
   -- an opening that answered this body, as its clauses found and kept say
   pub record IsOpened (body : Option (List ℕ)) (old new : D) : Type 0 where
     pub found : FindsBody body (seen old)
@@ -75,16 +82,20 @@ module _ {D : Type 0} (is_honest : D → Type 0) (seen : D → List ℕ) (may_le
   Happens (opened body) old new = IsOpened body old new
   Happens unopened old new = LeavesSince moment left_since old new (FindsAs (may_leave old))
   Happens (acknowledged body) old new = Leaves (may_leave new) (FindsBody (Some body))
-  Happens (unacknowledged body) old new = LeavesSince moment left_since old new (FindsRunning (Some body) (may_leave old))
+  Happens (unacknowledged body) old new = LeavesSince moment left_since old new
+      (FindsRunning (Some body) (may_leave old))
   Happens (reopened body) old new = Leaves (may_leave new) (FindsBody body)
-  Happens (unreopened body) old new = LeavesSince moment left_since old new (FindsAgain body (may_leave old))
+  Happens (unreopened body) old new = LeavesSince moment left_since old new
+      (FindsAgain body (may_leave old))
   Happens (stopped running) old new = IsStopped (FindsRunning running (may_leave old)) old new
   Happens (stopped_reopening body) old new = IsStopped (FindsAgain body (may_leave old)) old new
 
-  -- each event with the honest disk that it left, the first of them first, where an opening may find these bodies before them
+  -- each event with the honest disk that it left, the first of them first, where an opening may
+  -- find these bodies before them
   abbrev pub IsHistory : List (Option (List ℕ)) → D → List (Event × D) → Type 0
   IsHistory bodies old [] = Unit {0}
-  IsHistory bodies old ((event, new) ∷ rest) = is_honest new × GoesBack bodies event × Happens event old new × IsHistory (found_after bodies event) new rest
+  IsHistory bodies old ((event, new) ∷ rest) = is_honest new × GoesBack bodies event
+      × Happens event old new × IsHistory (found_after bodies event) new rest
 
 -- the disk after a history
 abbrev pub last_disk : {D : Type 0} → D → List (Event × D) → D
@@ -92,6 +103,7 @@ last_disk disk [] = disk
 last_disk disk ((event, new) ∷ rest) = last_disk new rest
 
 -- the bodies that an opening may find after it
-abbrev pub may_find : {D : Type 0} → List (Option (List ℕ)) → List (Event × D) → List (Option (List ℕ))
+abbrev pub may_find : {D : Type 0} → List (Option (List ℕ)) → List (Event × D)
+    → List (Option (List ℕ))
 may_find bodies [] = bodies
 may_find bodies ((event, new) ∷ rest) = may_find (found_after bodies event) rest

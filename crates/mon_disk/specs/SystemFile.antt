@@ -1,5 +1,6 @@
 -- What a disk asks the system for, and what it makes of the answers.
-use Rattle.std.specs.Prelude.{◌≡◌, true, ◌∷◌, [], ℕ, ◌+◌, ◌-◌, ◌^◌, min, List, Option, Some, None, Result, Ok, Err, IsErr}
+use Rattle.std.specs.Prelude.{◌≡◌, true, ◌∷◌, [], ℕ, ◌+◌, ◌-◌, ◌^◌, min, List, Option, Some, None}
+use Rattle.std.specs.Prelude.{Result, Ok, Err, IsErr}
 use Rattle.std.specs.Fs.{new_options, with_read, with_write, with_create}
 use Rattle.std.specs.Path.{path_parent, cur_dir}
 use Rattle.std.specs.declared.io.Error.{Error}

@@ -15,7 +15,8 @@ pub(crate) fn put_spare<D: Disk>(
     octets: &[u8],
     calls: u8,
 ) -> Result<(), DiskError>
-    requires kept { D.is_honest disk.old → IsKept SLOT_SIZE newest (D.seen disk.old) (D.may_leave disk.old) }
+    requires kept { D.is_honest disk.old → IsKept SLOT_SIZE newest (D.seen disk.old)
+        (D.may_leave disk.old) }
     requires room { length octets.now + 1 ≤ SLOT_SIZE }
     requires next { generation_of newest < (save_of octets.now).generation }
     requires alone { (rest : List ℕ) → save_of (octets.now ++ rest) ≡ save_of octets.now }
@@ -26,14 +27,18 @@ pub(crate) fn put_spare<D: Disk>(
         (shown_from 5 calls (found SLOT_SIZE (D.seen disk.old)) (Some (save_of octets.now))) (D.seen disk.new)) }
     ensures synced { D.is_honest disk.old → OnOk result (FindsIn SLOT_SIZE
         (shown_from 6 calls (found SLOT_SIZE (D.seen disk.old)) (Some (save_of octets.now))) (D.synced disk.new)) }
-    ensures durable { D.is_honest disk.old → 6 ≤ calls → OnOk result (Only (D.seen disk.new) (D.may_leave disk.new)) }
-    ensures newest { D.is_honest disk.old → 6 ≤ calls → OnOk result (is_newest SLOT_SIZE (Some (spare newest, (save_of octets.now).generation)) (D.seen disk.new) ≡ true) }
+    ensures durable { D.is_honest disk.old → 6 ≤ calls → OnOk result
+        (Only (D.seen disk.new) (D.may_leave disk.new)) }
+    ensures newest { D.is_honest disk.old → 6 ≤ calls → OnOk result
+        (is_newest SLOT_SIZE (Some (spare newest, (save_of octets.now).generation))
+        (D.seen disk.new) ≡ true) }
 
     // A crash at any time of the call leaves what was found before it, or this save.
     ensures any_moment { D.is_honest disk.old → LeavesSince D.moment D.left_since disk.old disk.new
         (FindsEither SLOT_SIZE (found SLOT_SIZE (D.seen disk.old)) (Some (save_of octets.now))) }
     // It changes nothing of the other slot, whichever call fails.
-    ensures beside { D.is_honest disk.old → Leaves (D.may_leave disk.new) (IsBeside SLOT_SIZE (spare newest) (D.seen disk.old)) }
+    ensures beside { D.is_honest disk.old → Leaves (D.may_leave disk.new)
+        (IsBeside SLOT_SIZE (spare newest) (D.seen disk.old)) }
     ensures honest { D.is_honest disk.old ↔ D.is_honest disk.new }
     ensures cause { HasCause (D.faults disk.old) (D.faults disk.new) result }
 {

@@ -39,7 +39,8 @@ pub first_digits : (n k : ℕ) → k ≡ exponent_of n → rounded n (10 ^ k) �
 unfolding digits_of
 first_digits n k e = ap (λ (x : ℕ). rounded n (10 ^ x)) e
 
--- what is kept before an exponent is tried: the step is its power, and those before it were too small
+-- what is kept before an exponent is tried: the step is its power, and those before it were too
+-- small
 abbrev pub IsSoFar : ℕ → ℕ → ℕ → Type 0
 IsSoFar n e step = (step ≡ 10 ^ e) × (exponent_from (30 - e) e n ≡ exponent_of n)
 

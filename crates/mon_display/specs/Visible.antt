@@ -1,4 +1,5 @@
--- How a text from outside is written to a terminal and a log: a control character could move the cursor or begin a line.
+-- How a text from outside is written to a terminal and a log: a control character could move the
+-- cursor or begin a line.
 use Rattle.std.specs.Prelude.{ℕ, ◌==◌, ◌||◌, List, [], ◌∷◌, ◌++◌, codes, if◌then◌else◌}
 use Rattle.std.specs.Char.{encode_utf8, is_control}
 use Rattle.std.specs.List.{flat_map}
@@ -6,7 +7,8 @@ use Rattle.std.specs.Str.{chars}
 
 -- a character: a control character is a question mark, and a backslash is before `"` and `\`
 abbrev pub visible_char : ℕ → List ℕ
-visible_char c = if is_control c then codes "?" else if (c == 34) || (c == 92) then 92 ∷ c ∷ [] else encode_utf8 c
+visible_char c = if is_control c then codes "?" else if (c == 34) || (c == 92) then 92 ∷ c ∷ []
+    else encode_utf8 c
 
 -- a text
 abbrev pub visible : List ℕ → List ℕ

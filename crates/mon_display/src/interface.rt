@@ -28,8 +28,8 @@ pub enum Column {
     Other,
 }
 
-/// Returns the index of the interface that a name is about. Returns `None` if the name is no column of
-/// ifTable or ifXTable with an index of one number (RFC 2863 section 6).
+/// Returns the index of the interface that a name is about. Returns `None` if the name is no column
+/// of ifTable or ifXTable with an index of one number (RFC 2863 section 6).
 pub fn interface_of(name: &[u32]) -> Option<u32>
     ensures { result ≡ interface_of name.now }
 {

@@ -1,5 +1,5 @@
-//! How rates, interfaces and devices are written for people: one vocabulary of all lines, tables and
-//! pages. It reads nothing but its arguments, and formats for machines do not use it.
+//! How rates, interfaces and devices are written for people: one vocabulary of all lines, tables
+//! and pages. It reads nothing but its arguments, and formats for machines do not use it.
 //!
 //! Contract: each text is a function of its arguments, and a rate is at most half of its last digit
 //! from the text.

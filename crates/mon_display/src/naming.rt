@@ -53,8 +53,8 @@ fn without_port(address: &str) -> &str
     }
 }
 
-/// Returns how an interface is named: by its ifName, and by its ifAlias in quotes if it is not empty:
-/// `gi0/1 "storage"`. The text is empty without an ifName.
+/// Returns how an interface is named: by its ifName, and by its ifAlias in quotes if it is not
+/// empty: `gi0/1 "storage"`. The text is empty without an ifName.
 ///
 /// # Errors
 /// `AllocError` if there is no memory for the text.
@@ -64,7 +64,8 @@ pub fn interface_text(
     if_alias: Option<&str>,
 ) -> Result<String, AllocError>
     ensures { IfOk result (λ text. string_bytes text
-        ≡ interface_text (option_map (λ t. t.now) if_name.entry) (option_map (λ t. t.now) if_alias.entry)) }
+        ≡ interface_text (option_map (λ t. t.now) if_name.entry)
+        (option_map (λ t. t.now) if_alias.entry)) }
 {
     let mut text = String::new(alloc);
     if let Some(name) = if_name {

@@ -21,8 +21,8 @@ struct Scaled {
     exponent: u8,
 }
 
-/// Returns a rate in thousandths of the unit a second as a text of three digits, rounded half up, with
-/// a prefix of SI: `8.42 Gbit/s`, `126 k/s`.
+/// Returns a rate in thousandths of the unit a second as a text of three digits, rounded half up,
+/// with a prefix of SI: `8.42 Gbit/s`, `126 k/s`.
 ///
 /// # Errors
 /// `AllocError` if there is no memory for the text.

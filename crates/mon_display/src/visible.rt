@@ -5,8 +5,8 @@ ghost use Rattle.mon_display.specs.Visible.{quoted, visible, visible_char};
 
 use std::alloc::AllocError;
 
-/// Adds a text in which a control character is a question mark, and a backslash is before each `"` and
-/// each backslash.
+/// Adds a text in which a control character is a question mark, and a backslash is before each `"`
+/// and each backslash.
 ///
 /// # Errors
 /// `AllocError` if there is no memory for it.

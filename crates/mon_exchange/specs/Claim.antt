@@ -18,18 +18,31 @@ kind_octet Confirm = 2
 
 -- a claim whose engine id, name and samples are lent, as a claim
 abbrev pub claim_of : ClaimRef → Claim
-claim_of c = record { kind = c.kind; station = c.station; incarnation = c.incarnation; serial = c.serial; engine = c.engine.now; name = c.name.now; samples = c.samples.now }
+claim_of c = record {
+  kind = c.kind;
+  station = c.station;
+  incarnation = c.incarnation;
+  serial =
+      c.serial;
+  engine = c.engine.now;
+  name = c.name.now;
+  samples = c.samples.now;
+}
 
 -- the count of the samples, and these
 unfoldable pub counted_samples : List ℕ → List ℕ
 counted_samples samples = length samples ∷ samples_octets samples
 
--- the octets of a claim: MX, version 1, the kind, then station, incarnation and serial of four octets each, the instance, the samples
+-- the octets of a claim: MX, version 1, the kind, then station, incarnation and serial of four
+-- octets each, the instance, the samples
 unfoldable pub claim_octets : Claim → List ℕ
-claim_octets c = 77 ∷ 88 ∷ 1 ∷ kind_octet c.kind ∷ (to_be_bytes w32 c.station ++ (to_be_bytes w32 c.incarnation
-    ++ (to_be_bytes w32 c.serial ++ (instance_octets c.engine c.name ++ counted_samples c.samples))))
+claim_octets c = 77 ∷ 88 ∷ 1 ∷ kind_octet c.kind ∷ (to_be_bytes w32 c.station
+    ++ (to_be_bytes w32 c.incarnation
+    ++ (to_be_bytes w32 c.serial ++ (instance_octets c.engine c.name
+    ++ counted_samples c.samples))))
 
--- station and incarnation are not 0, the engine id has 5 to 32 octets, the name is an object identifier, and at most 40 samples rise
+-- station and incarnation are not 0, the engine id has 5 to 32 octets, the name is an object
+-- identifier, and at most 40 samples rise
 pub record IsClaim (c : Claim) : Type 0 where
   pub station : 1 ≤ c.station
   pub station_fits : c.station < 2 ^ 32

@@ -1,5 +1,6 @@
 -- The peers of a station, and what a claim of one of them changes.
-use Rattle.std.specs.Prelude.{ℕ, ◌≡◌, ◌≤◌, Bool, List, length, ◌==◌, ◌&&◌, ◌||◌, Option, Some, None, if◌then◌else◌, nat_lt, max, map, slice_get, slice_index_or}
+use Rattle.std.specs.Prelude.{ℕ, ◌≡◌, ◌≤◌, Bool, List, length, ◌==◌, ◌&&◌, ◌||◌, Option, Some, None}
+use Rattle.std.specs.Prelude.{if◌then◌else◌, nat_lt, max, map, slice_get, slice_index_or}
 use Rattle.std.specs.FinSet as set
 use Rattle.std.specs.List.{position}
 use Rattle.std.specs.Option.{option_and_then}
@@ -9,7 +10,8 @@ use Rattle.mon_board.specs.Instance.{instances_of, named}
 use Rattle.mon_board.specs.Owed.{kept_marks}
 use Rattle.mon_board.specs.Watch.{Watch}
 use Rattle.mon_exchange.specs.declared.noted.Noted.{Noted}
-use Rattle.mon_exchange.specs.declared.noted.Noted.TheVariants.{Counted, OlderIncarnation, NewIncarnation}
+use Rattle.mon_exchange.specs.declared.noted.Noted.TheVariants.{Counted, OlderIncarnation}
+use Rattle.mon_exchange.specs.declared.noted.Noted.TheVariants.{NewIncarnation}
 use Rattle.mon_exchange.specs.declared.peers.Peer.{Peer}
 
 -- a station's own number, and its peers
@@ -45,7 +47,8 @@ known_incarnation peers station = option_and_then (incarnation_in peers) (peer_s
 -- what is answered to a claim of this incarnation, by the one that was known
 abbrev pub noted_as : Option ℕ → ℕ → Noted
 noted_as None incarnation = NewIncarnation
-noted_as (Some known) incarnation = if nat_lt known incarnation then NewIncarnation else (if known == incarnation then Counted else OlderIncarnation)
+noted_as (Some known) incarnation = if nat_lt known incarnation then NewIncarnation
+    else (if known == incarnation then Counted else OlderIncarnation)
 
 -- the greater of an incarnation and the one that was known
 abbrev pub latest : Option ℕ → ℕ → ℕ
@@ -54,24 +57,32 @@ latest (Some known) incarnation = max known incarnation
 
 -- the object of this name at this engine has this number in the watch
 abbrev pub IsWatchedAs : Watch → List ℕ → List ℕ → ℕ → Type 0
-IsWatchedAs watch engine name i = slice_get (instances_of watch.instances) i ≡ Some (named engine name)
+IsWatchedAs watch engine name i = slice_get (instances_of watch.instances) i
+    ≡ Some (named engine name)
 
 -- whether a sample of an instance is one of those claimed of the instance of this number, and is in
 -- its window
 abbrev pub is_claimed : ℕ → List ℕ → (ℕ → Samples) → ℕ → ℕ → Bool
-is_claimed number samples windows i s = (i == number) && (set.contains (set.from_list {R = nat_cmp} samples) s && set.contains (windows i) s)
+is_claimed number samples windows i s = (i == number) && (set.contains
+    (set.from_list {R = nat_cmp} samples) s && set.contains (windows i) s)
 
--- whether a sample is marked for the claim's peer, by the answer, whether it was claimed and whether it was marked
+-- whether a sample is marked for the claim's peer, by the answer, whether it was claimed and
+-- whether it was marked
 abbrev pub marked_by : Noted → Bool → Bool → Bool
 marked_by NewIncarnation claimed marked = claimed
 marked_by Counted claimed marked = marked || claimed
 marked_by OlderIncarnation claimed marked = marked
 
--- marks after a claim: for its peer's slot as the answer says, and for every other slot as they were
-abbrev pub marks_noted : Noted → ℕ → ℕ → List ℕ → (ℕ → Samples) → (ℕ → ℕ → ℕ → Bool) → ℕ → ℕ → ℕ → Bool
+-- marks after a claim: for its peer's slot as the answer says, and for every other slot as they
+-- were
+abbrev pub marks_noted : Noted → ℕ → ℕ → List ℕ → (ℕ → Samples) → (ℕ → ℕ → ℕ → Bool) → ℕ → ℕ → ℕ
+    → Bool
 marks_noted noted slot number samples windows marked k i s =
-    if k == slot then marked_by noted (is_claimed number samples windows i s) (marked k i s) else marked k i s
+    if k == slot then marked_by noted (is_claimed number samples windows i s) (marked k i s)
+    else marked k i s
 
 -- marks after a claim was taken and noted, from the old windows to the new
-abbrev pub marks_after : Noted → ℕ → ℕ → List ℕ → (old new : ℕ → Samples) → (ℕ → ℕ → ℕ → Bool) → ℕ → ℕ → ℕ → Bool
-marks_after noted slot number samples old new marked = marks_noted noted slot number samples new (λ k. kept_marks old new (marked k))
+abbrev pub marks_after : Noted → ℕ → ℕ → List ℕ → (old new : ℕ → Samples) → (ℕ → ℕ → ℕ → Bool) → ℕ
+    → ℕ → ℕ → Bool
+marks_after noted slot number samples old new marked = marks_noted noted slot number samples new
+    (λ k. kept_marks old new (marked k))

@@ -1,5 +1,6 @@
 -- Reading claims from left to right, with the first fault that is met.
-use Rattle.std.specs.Prelude.{◌≡◌, ℕ, Bool, List, length, slice_index, Option, None, Result, Ok, Err, nat_lt, ◌==◌, ◌||◌, ◌&&◌, if◌then◌else◌}
+use Rattle.std.specs.Prelude.{◌≡◌, ℕ, Bool, List, length, slice_index, Option, None, Result, Ok}
+use Rattle.std.specs.Prelude.{Err, nat_lt, ◌==◌, ◌||◌, ◌&&◌, if◌then◌else◌}
 use Rattle.mon_oid.specs.Steps.{◌>>=◌}
 use Rattle.mon_fields.specs.declared.fault.LayoutFault.{LayoutFault}
 use Rattle.mon_fields.specs.Reading.{octet_at, field_at, u32_at, one_by_one, samples_at}
@@ -7,7 +8,16 @@ use Rattle.mon_exchange.specs.declared.claim.Claim.{Claim}
 use Rattle.mon_exchange.specs.declared.claim.ClaimKind.{ClaimKind}
 use Rattle.mon_exchange.specs.declared.claim.ClaimKind.TheVariants.{Offer, Confirm}
 use Rattle.mon_exchange.specs.declared.fault.ExchangeFault.{ExchangeFault}
-use Rattle.mon_exchange.specs.declared.fault.ExchangeFault.TheVariants.{OutOfMemory, NotAClaim, BadVersion, BadSample, NotRising, BadName, UnknownPeer, UnknownInstance}
+use Rattle.mon_exchange.specs.declared.fault.ExchangeFault.TheVariants.{
+  OutOfMemory,
+  NotAClaim,
+  BadVersion,
+  BadSample,
+  NotRising,
+  BadName,
+  UnknownPeer,
+  UnknownInstance,
+}
 use Rattle.mon_exchange.specs.Fault.{exchange_fault}
 
 -- a call that failed so failed as reading does, unless memory ran out
@@ -22,7 +32,8 @@ Fails UnknownPeer read = read ≡ Err UnknownPeer
 Fails UnknownInstance read = read ≡ Err UnknownInstance
 
 -- what a call returned, seen by view, is what reading gives, unless memory ran out
-abbrev pub Gives : {X Y : Type 0} → (X → Y) → Result X ExchangeFault → Result Y ExchangeFault → Type 0
+abbrev pub Gives : {X Y : Type 0} → (X → Y) → Result X ExchangeFault → Result Y ExchangeFault
+    → Type 0
 Gives view (Ok x) read = read ≡ Ok (view x)
 Gives view (Err e) read = Fails e read
 
@@ -76,7 +87,8 @@ sub_identifiers_at n octets = one_by_one next_number None n octets
 
 -- whether the first two numbers are out of the range of an identifier's (RFC 2578 section 3.5)
 unfoldable pub is_unrooted : List ℕ → Bool
-is_unrooted parts = nat_lt 2 (slice_index parts 0) || (nat_lt (slice_index parts 0) 2 && nat_lt 39 (slice_index parts 1))
+is_unrooted parts = nat_lt 2 (slice_index parts 0) || (nat_lt (slice_index parts 0) 2
+    && nat_lt 39 (slice_index parts 1))
 
 -- an identifier after the count of its numbers, and what follows it
 unfoldable pub oid_at : List ℕ → Result (List ℕ × List ℕ) ExchangeFault
@@ -113,4 +125,12 @@ claim_at octets = do
   engine ← engine_at serial.1
   name ← oid_at engine.1
   samples ← claimed_at name.1
-  all_read samples.1 (record { kind = kind.0; station = station.0; incarnation = incarnation.0; serial = serial.0; engine = engine.0; name = name.0; samples = samples.0 })
+  all_read samples.1 (record {
+    kind = kind.0;
+    station = station.0;
+    incarnation = incarnation.0;
+    serial = serial.0;
+    engine = engine.0;
+    name = name.0;
+    samples = samples.0;
+  })

@@ -32,7 +32,8 @@ pub struct Claim {
     pub station: u32,
     /// Its incarnation, not 0.
     pub incarnation: u32,
-    /// The number of an offer within the incarnation, which a confirmation repeats. Receivers do not use it.
+    /// The number of an offer within the incarnation, which a confirmation repeats. Receivers do
+    /// not use it.
     pub serial: u32,
     /// The agent's engine id, 5 to 32 octets.
     pub engine: Octets,

@@ -12,8 +12,8 @@ pub enum ExchangeFault {
     /// Memory was refused.
     #[error("out of memory")]
     OutOfMemory = 1,
-    /// The octets are no claim: the mark, the kind, the station, the incarnation or the count of samples is wrong, or the
-    /// octets end too early or too late.
+    /// The octets are no claim: the mark, the kind, the station, the incarnation or the count of
+    /// samples is wrong, or the octets end too early or too late.
     #[error("the octets are no claim")]
     NotAClaim = 2,
     /// The claim has another version than 1.

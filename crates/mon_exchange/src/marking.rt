@@ -10,9 +10,11 @@ use mon_sample::Sample;
 
 /// The number of the claim's instance in the board's watch.
 pub(crate) fn number_of(board: &Board, claim: &Claim) -> Option<u16>
-    ensures found { IfSome result (λ i. IsWatchedAs board.now.watch claim.now.engine claim.now.name i) }
+    ensures found { IfSome result (λ i. IsWatchedAs board.now.watch claim.now.engine claim.now.name
+        i) }
     ensures within { IfSome result (λ i. i < length board.now.watch.instances) }
-    ensures only { (i : ℕ) → IsWatchedAs board.now.watch claim.now.engine claim.now.name i → result ≡ Some i }
+    ensures only { (i : ℕ) → IsWatchedAs board.now.watch claim.now.engine claim.now.name i
+        → result ≡ Some i }
 {
     board.find(claim.engine.as_slice(), &claim.name)
 }
@@ -29,7 +31,8 @@ pub(crate) fn mark_noted(
     requires instance { instance < length board.old.watch.instances }
     ensures watch { board.new.watch ≡ board.old.watch }
     ensures windows { board.new.windows ≡ board.old.windows }
-    ensures marks { (k i s : ℕ) → is_marked board.new k i s ≡ marks_noted noted slot instance samples.now (window_of board.old) (is_marked board.old) k i s }
+    ensures marks { (k i s : ℕ) → is_marked board.new k i s ≡ marks_noted noted slot instance
+        samples.now (window_of board.old) (is_marked board.old) k i s }
 {
     match noted {
         Noted::NewIncarnation => {
@@ -47,7 +50,9 @@ fn mark_all(board: &mut Board, slot: u8, instance: u16, samples: &[Sample])
     requires instance { instance < length board.old.watch.instances }
     ensures watch { board.new.watch ≡ board.old.watch }
     ensures windows { board.new.windows ≡ board.old.windows }
-    ensures marks { (k i s : ℕ) → is_marked board.new k i s ≡ (is_marked board.old k i s || ((k == slot) && is_claimed instance samples.now (window_of board.old) i s)) }
+    ensures marks { (k i s : ℕ) → is_marked board.new k i s ≡
+        (is_marked board.old k i s || ((k == slot) && is_claimed instance samples.now
+        (window_of board.old) i s)) }
 {
     for sample in samples {
         board.mark(slot, instance, sample);

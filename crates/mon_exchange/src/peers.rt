@@ -20,8 +20,8 @@ pub(crate) struct Peer {
     known: Option<u32>,
 }
 
-/// The peers of a station, at most 15, and the incarnation that is known of each. A peer's slot is its place among them.
-/// It takes all its memory when it is made; no other call takes any.
+/// The peers of a station, at most 15, and the incarnation that is known of each. A peer's slot is
+/// its place among them. It takes all its memory when it is made; no other call takes any.
 #[derive(Drop)]
 pub struct Peers {
     own: u32,
@@ -80,7 +80,8 @@ impl Peers {
         }
     }
 
-    /// The incarnation that is known of a station: the greatest that a claim of it named, where it is a peer and one was noted.
+    /// The incarnation that is known of a station: the greatest that a claim of it named, where it
+    /// is a peer and one was noted.
     pub fn known(&self, station: u32) -> Option<u32>
         ensures { result ≡ known_incarnation self.now.peers station }
     {
@@ -96,26 +97,36 @@ impl Peers {
     /// station is no peer, else `UnknownInstance` where the instance is not watched; both change
     /// nothing.
     pub fn note(&mut self, board: &mut Board, claim: &Claim) -> Result<Noted, ExchangeFault>
-        ensures unknown_peer { (result ≡ Err ExchangeFault.UnknownPeer) ↔ (peer_slot self.old.peers claim.now.station ≡ None) }
+        ensures unknown_peer { (result ≡ Err ExchangeFault.UnknownPeer)
+            ↔ (peer_slot self.old.peers claim.now.station ≡ None) }
         ensures unknown_instance { (result ≡ Err ExchangeFault.UnknownInstance)
-            ↔ ((peer_slot self.old.peers claim.now.station ≢ None) × ((i : ℕ) → ¬ (IsWatchedAs board.old.watch claim.now.engine claim.now.name i))) }
-        ensures faults { IfErr result (λ e. (e ≡ ExchangeFault.UnknownPeer) ⊎ (e ≡ ExchangeFault.UnknownInstance)) }
+            ↔ ((peer_slot self.old.peers claim.now.station ≢ None)
+            × ((i : ℕ) → ¬ (IsWatchedAs board.old.watch claim.now.engine claim.now.name i))) }
+        ensures faults { IfErr result (λ e. (e ≡ ExchangeFault.UnknownPeer)
+            ⊎ (e ≡ ExchangeFault.UnknownInstance)) }
         ensures refused { OnErr result ((self.new ≡ self.old) × (board.new ≡ board.old)) }
-        ensures noted { IfOk result (λ n. n ≡ noted_of (known_incarnation self.old.peers claim.now.station) claim.now.incarnation) }
+        ensures noted { IfOk result (λ n. n ≡ noted_of (known_incarnation self.old.peers
+            claim.now.station) claim.now.incarnation) }
 
         // The peers stay, and only of the claim's station another incarnation may be known.
         ensures own { self.new.own ≡ self.old.own }
         ensures numbers { peer_numbers self.new.peers ≡ peer_numbers self.old.peers }
         ensures known { OnOk result ((y : ℕ) → known_incarnation self.new.peers y
-            ≡ (if y == claim.now.station then Some (latest_of (known_incarnation self.old.peers y) claim.now.incarnation) else known_incarnation self.old.peers y)) }
+            ≡ (if y == claim.now.station then Some (latest_of (known_incarnation self.old.peers y)
+            claim.now.incarnation) else known_incarnation self.old.peers y)) }
 
         // The claim's samples are taken, and then marked.
         ensures watch { board.new.watch ≡ board.old.watch }
-        ensures windows { OnOk result ((number : ℕ) → IsWatchedAs board.old.watch claim.now.engine claim.now.name number
-            → (i : ℕ) → window_of board.new i ≡ joined board.old.watch (window_of board.old) (paired number claim.now.samples) i) }
-        ensures marks { OnOk result ((slot number : ℕ) → peer_slot self.old.peers claim.now.station ≡ Some slot → IsWatchedAs board.old.watch claim.now.engine claim.now.name number
+        ensures windows { OnOk result ((number : ℕ) → IsWatchedAs board.old.watch claim.now.engine
+            claim.now.name number
+            → (i : ℕ) → window_of board.new i ≡ joined board.old.watch (window_of board.old)
+            (paired number claim.now.samples) i) }
+        ensures marks { OnOk result ((slot number : ℕ) → peer_slot self.old.peers claim.now.station
+            ≡ Some slot → IsWatchedAs board.old.watch claim.now.engine claim.now.name number
             → (k i s : ℕ) → is_marked board.new k i s
-            ≡ marks_after (noted_of (known_incarnation self.old.peers claim.now.station) claim.now.incarnation) slot number claim.now.samples (window_of board.old) (window_of board.new) (is_marked board.old) k i s) }
+            ≡ marks_after (noted_of (known_incarnation self.old.peers claim.now.station)
+            claim.now.incarnation) slot number claim.now.samples (window_of board.old)
+            (window_of board.new) (is_marked board.old) k i s) }
     {
         let Some(slot) = self.slot(claim.station) else {
             return Err(ExchangeFault::UnknownPeer);
@@ -130,14 +141,16 @@ impl Peers {
         Ok(noted)
     }
 
-    /// Keeps the incarnation of the peer in the slot where it is its first or greater than the known one, and says which.
+    /// Keeps the incarnation of the peer in the slot where it is its first or greater than the
+    /// known one, and says which.
     fn hear(&mut self, slot: u8, incarnation: u32) -> Noted
         requires { slot < length self.old.peers }
         ensures noted { result ≡ noted_of (incarnation_in self.old.peers slot) incarnation }
         ensures own { self.new.own ≡ self.old.own }
         ensures numbers { peer_numbers self.new.peers ≡ peer_numbers self.old.peers }
         ensures known { (k : ℕ) → incarnation_in self.new.peers k
-            ≡ (if k == slot then Some (latest_of (incarnation_in self.old.peers slot) incarnation) else incarnation_in self.old.peers k) }
+            ≡ (if k == slot then Some (latest_of (incarnation_in self.old.peers slot) incarnation)
+            else incarnation_in self.old.peers k) }
     {
         let peer = &mut self.peers[usize::from(slot)];
         let noted = noted_as(peer.known, incarnation);

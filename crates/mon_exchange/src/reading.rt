@@ -73,7 +73,8 @@ fn within_at(
     reader: &mut Reader<'_>,
 ) -> Result<u8, ExchangeFault>
     ensures octets { AreOctets reader.old }
-    ensures gives { Gives (λ octet. (octet, reader.new)) result (within_at least most fault reader.old) }
+    ensures gives { Gives (λ octet. (octet, reader.new)) result
+        (within_at least most fault reader.old) }
     ensures within { IfOk result (λ octet. (least ≤ octet) × (octet ≤ most)) }
 {
     let octet = reader.octet()?;
@@ -99,7 +100,8 @@ fn sub_identifiers_at(
     count: u8,
     reader: &mut Reader<'_>,
 ) -> Result<SmallVec<u32, 16>, LayoutFault>
-    ensures { Fields (λ numbers. (numbers.items, reader.new)) result (sub_identifiers_at count reader.old) }
+    ensures { Fields (λ numbers. (numbers.items, reader.new)) result
+        (sub_identifiers_at count reader.old) }
 {
     let mut numbers = SmallVec::new(alloc);
     while numbers.len() < usize::from(count) {
@@ -183,11 +185,11 @@ fn claim_at(alloc: Global, octets: &[u8]) -> Result<Claim, ExchangeFault>
 /// take an allocation each.
 ///
 /// # Errors
-/// The first fault from the left: `NotAClaim` if the letters, the kind, the station, the incarnation
-/// or the count of samples is wrong, or the octets end too early or too late; `BadVersion` if the
-/// version is not 1; `BadName` if the engine id does not have 5 to 32 octets, or the name is no
-/// object identifier; `BadSample` if a record is no sample's; `NotRising` if a sample does not exceed
-/// the one before it; `OutOfMemory`.
+/// The first fault from the left: `NotAClaim` if the letters, the kind, the station, the
+/// incarnation or the count of samples is wrong, or the octets end too early or too late;
+/// `BadVersion` if the version is not 1; `BadName` if the engine id does not have 5 to 32 octets,
+/// or the name is no object identifier; `BadSample` if a record is no sample's; `NotRising` if a
+/// sample does not exceed the one before it; `OutOfMemory`.
 pub fn read_claim(alloc: Global, octets: &[u8]) -> Result<Claim, ExchangeFault>
     // What is read is spelled.
     ensures found { IfOk result (λ c. SpellsClaim octets.now c) }

@@ -13,7 +13,7 @@ use mon_sample::Sample;
 use std::alloc::{AllocError, Global};
 
 /// How many samples a claim has at most.
-const MOST_SAMPLES: usize = 40;
+const MAX_SAMPLES: usize = 40;
 
 /// Samples of one instance, as many as one offer carries.
 #[derive(Drop)]
@@ -29,7 +29,9 @@ pub struct Portion {
 /// portion without samples of the first instance.
 pub fn portions(alloc: Global, board: &Board, slot: u8) -> Result<Vec<Portion>, AllocError>
     requires { slot < 15 }
-    ensures portions { IfOk result (λ p. p.items ≡ offered_portions (owed_in (window_of board.now) (is_marked board.now slot)) (length board.now.watch.instances)) }
+    ensures portions { IfOk result (λ p. p.items ≡ offered_portions
+        (owed_in (window_of board.now) (is_marked board.now slot))
+        (length board.now.watch.instances)) }
     ensures each { IfOk result (λ p. All (IsPortion (length board.now.watch.instances)) p.items) }
 {
     let mut portions = owed_portions(alloc, board, slot)?;
@@ -47,7 +49,9 @@ pub fn portions(alloc: Global, board: &Board, slot: u8) -> Result<Vec<Portion>, 
 /// What is owed to the peer in the slot; none where that is nothing.
 fn owed_portions(alloc: Global, board: &Board, slot: u8) -> Result<Vec<Portion>, AllocError>
     requires { slot < 15 }
-    ensures portions { IfOk result (λ p. p.items ≡ portions_from (owed_in (window_of board.now) (is_marked board.now slot)) 0 (length board.now.watch.instances)) }
+    ensures portions { IfOk result (λ p. p.items ≡ portions_from
+        (owed_in (window_of board.now) (is_marked board.now slot)) 0
+        (length board.now.watch.instances)) }
     ensures each { IfOk result (λ p. All (IsPortion (length board.now.watch.instances)) p.items) }
     ensures some { IfOk result (λ p. 0 < length board.now.watch.instances) }
 {
@@ -65,7 +69,8 @@ fn owed_portions(alloc: Global, board: &Board, slot: u8) -> Result<Vec<Portion>,
 fn owed_of(alloc: Global, board: &Board, slot: u8, instance: u16) -> Result<Vec<Sample>, AllocError>
     requires slot { slot < 15 }
     requires instance { instance < length board.now.watch.instances }
-    ensures owed { IfOk result (λ owed. owed.items ≡ rising (owed_in (window_of board.now) (is_marked board.now slot) instance)) }
+    ensures owed { IfOk result (λ owed. owed.items ≡ rising (owed_in (window_of board.now)
+        (is_marked board.now slot) instance)) }
     ensures rising { IfOk result (λ owed. IsStrictlySortedBy nat_cmp owed.items) }
 {
     mon_window::laws::rising_list();
@@ -86,8 +91,10 @@ fn push_pieces(
     samples: &[Sample],
 ) -> Result<(), AllocError>
     requires { IsStrictlySortedBy nat_cmp samples.now }
-    ensures portions { OnOk result (portions.new.items ≡ portions.old.items ++ map (portion instance) (pieces samples.now)) }
-    ensures each { (n : ℕ) → instance < n → All (IsPortion n) portions.old.items → OnOk result (All (IsPortion n) portions.new.items) }
+    ensures portions { OnOk result (portions.new.items ≡ portions.old.items
+        ++ map (portion instance) (pieces samples.now)) }
+    ensures each { (n : ℕ) → instance < n → All (IsPortion n) portions.old.items
+        → OnOk result (All (IsPortion n) portions.new.items) }
 {
     let mut rest = samples;
     while !rest.is_empty() {
@@ -105,10 +112,11 @@ fn split_piece(samples: &[Sample]) -> (&[Sample], &[Sample])
     ensures piece { result.0.now ≡ take 40 samples.now }
     ensures others { result.1.now ≡ drop 40 samples.now }
 {
-    samples.split_at(samples.len().min(MOST_SAMPLES))
+    samples.split_at(samples.len().min(MAX_SAMPLES))
 }
 
-/// The serial of the offer that follows one of this serial: serials count from 1, and after 4294967295 comes 1.
+/// The serial of the offer that follows one of this serial: serials count from 1, and after
+/// 4294967295 comes 1.
 pub fn serial_after(serial: u32) -> u32
     ensures serial { result ≡ specs.serial_after serial }
     ensures positive { 1 ≤ result }

@@ -26,7 +26,8 @@ pub(crate) fn claim_size(claim: &ClaimRef) -> usize
 #[tactic(auto, unfolding(crate::specs::Claim::claim_octets, crate::specs::Claim::counted_samples))]
 pub fn write_within(out: &mut Vec<u8>, claim: &ClaimRef)
     requires sendable { IsSendable (claim_of claim.now) }
-    requires room { vec_len out.old + length (claim_octets (claim_of claim.now)) ≤ vec_capacity out.old }
+    requires room { vec_len out.old + length (claim_octets (claim_of claim.now))
+        ≤ vec_capacity out.old }
     ensures items { out.new.items ≡ out.old.items ++ claim_octets (claim_of claim.now) }
     ensures says { SpellsClaim (claim_octets (claim_of claim.now)) (claim_of claim.now) }
     ensures len { vec_len out.new ≡ vec_len out.old + length (claim_octets (claim_of claim.now)) }

@@ -7,7 +7,8 @@ use Rattle.mon_app.specs.declared.reason.SocketReason.{SocketReason}
 use Rattle.mon_app.specs.declared.reason.SocketReason.TheVariants.{AddressInUse, PermissionDenied}
 use Rattle.mon_disk.specs.Fault as disk
 use Rattle.mon_disk.specs.declared.fault.KeeperFault.{KeeperFault}
-use Rattle.mon_disk.specs.declared.fault.KeeperFault.TheVariants.{Damaged, NoMoreGenerations, TooLarge}
+use Rattle.mon_disk.specs.declared.fault.KeeperFault.TheVariants.{Damaged, NoMoreGenerations}
+use Rattle.mon_disk.specs.declared.fault.KeeperFault.TheVariants.{TooLarge}
 use Rattle.mon_mib.specs.DeviceFault as device
 use Rattle.mon_saved.specs.Fault as saved
 use Rattle.mon_settings.specs.SettingsFault as settings
@@ -17,17 +18,53 @@ use Rattle.mon_station.specs.declared.fault.StationFault.{StationFault}
 use Rattle.mon_station.specs.declared.fault.StationFault.TheVariants as of_station
 use Rattle.mon_station.specs.Fault as station
 use Rattle.mon_faults.specs.declared.fault.Fault.{Fault}
-use Rattle.mon_faults.specs.declared.fault.Fault.TheVariants.{App, Names, Text, Settings, Device, Keeper, Image, Station, SettingsChanged, Other}
+use Rattle.mon_faults.specs.declared.fault.Fault.TheVariants.{App, Names, Text, Settings, Device}
+use Rattle.mon_faults.specs.declared.fault.Fault.TheVariants.{Keeper, Image, Station}
+use Rattle.mon_faults.specs.declared.fault.Fault.TheVariants.{SettingsChanged, Other}
 
 -- the innermost of nested faults: the crate whose it is, and its number and name there
 abbrev pub innermost_of : Fault → station.Told
-innermost_of (App f) = record { part = codes "mon_app"; number = app.number_of f; name = app.name_of f }
-innermost_of (Names f) = record { part = codes "mon_smi"; number = number_of_names f; name = name_of_names f }
-innermost_of (Text f) = record { part = codes "mon_smi"; number = number_of_text f; name = name_of_text f }
-innermost_of (Settings f) = record { part = codes "mon_settings"; number = settings.number_of f; name = settings.name_of f }
-innermost_of (Device f) = record { part = codes "mon_mib"; number = device.number_of f; name = device.name_of f }
-innermost_of (Keeper f) = record { part = codes "mon_disk"; number = disk.number_of f; name = disk.name_of f }
-innermost_of (Image f) = record { part = codes "mon_saved"; number = saved.number_of f; name = saved.name_of f }
+innermost_of (App f) = record {
+  part = codes "mon_app";
+  number = app.number_of f;
+  name = app.name_of
+      f;
+}
+innermost_of (Names f) = record {
+  part = codes "mon_smi";
+  number = number_of_names f;
+  name =
+      name_of_names f;
+}
+innermost_of (Text f) = record {
+  part = codes "mon_smi";
+  number = number_of_text f;
+  name =
+      name_of_text f;
+}
+innermost_of (Settings f) = record {
+  part = codes "mon_settings";
+  number = settings.number_of f;
+  name = settings.name_of f;
+}
+innermost_of (Device f) = record {
+  part = codes "mon_mib";
+  number = device.number_of f;
+  name =
+      device.name_of f;
+}
+innermost_of (Keeper f) = record {
+  part = codes "mon_disk";
+  number = disk.number_of f;
+  name =
+      disk.name_of f;
+}
+innermost_of (Image f) = record {
+  part = codes "mon_saved";
+  number = saved.number_of f;
+  name =
+      saved.name_of f;
+}
 innermost_of (Station f) = station.innermost_of f
 innermost_of SettingsChanged =
     record { part = codes "mon_station_commands"; number = 2; name = codes "SettingsChanged" }

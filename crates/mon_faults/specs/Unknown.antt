@@ -31,7 +31,8 @@ abbrev pub table_at : Place → Members → Option Members
 table_at place.Whole t = Some t
 table_at (place.At last) t = table_of last t
 table_at (place.In table last) t = option_and_then (table_of last) (table_of table t)
-table_at (place.Inside first table last) t = option_and_then (table_of last) (option_and_then (table_of table) (table_of first t))
+table_at (place.Inside first table last) t = option_and_then (table_of last)
+    (option_and_then (table_of table) (table_of first t))
 
 -- the keys of the table to which a step leads
 abbrev pub step_keys : Step → List Key
@@ -45,7 +46,8 @@ known_keys whose (place.At last) = step_keys last
 known_keys whose (place.In table last) = step_keys last
 known_keys whose (place.Inside first table last) = step_keys last
 
--- the first key of the table at a place that its grammar does not know, and none if there is no such table
+-- the first key of the table at a place that its grammar does not know, and none if there is no
+-- such table
 abbrev pub unknown_at : SettingsKind → Place → Members → Option (List ℕ)
 unknown_at whose p t = option_and_then (first_unknown (known_keys whose p)) (table_at p t)
 
@@ -54,7 +56,8 @@ abbrev pub other_kind : SettingsKind → SettingsKind
 other_kind kind.Agent = kind.Station
 other_kind kind.Station = kind.Agent
 
--- whether the name, at this place, is a key of settings of the other kind: of those at the top alone
+-- whether the name, at this place, is a key of settings of the other kind: of those at the top
+-- alone
 abbrev pub is_of_other : SettingsKind → Place → List ℕ → Bool
 is_of_other whose place.Whole name = is_one_of (top_keys (other_kind whose)) name
 is_of_other whose (place.At last) name = false

@@ -100,8 +100,8 @@ fn is_no_memory(number: u8) -> bool
     number != OUT_OF_MEMORY
 }
 
-/// Returns `true` if arguments are not read, another program has the address, or the system does not
-/// permit the port.
+/// Returns `true` if arguments are not read, another program has the address, or the system does
+/// not permit the port.
 fn app_lasts(fault: AppFault) -> bool
     ensures { result ≡ app_lasts fault }
 {

@@ -62,8 +62,8 @@ fn front(octets: &[u8], count: usize) -> &[u8]
     }
 }
 
-/// The line and the column of the octet after the first `offset` ones of a text, and of its end where it has no more.
-/// A column counts characters.
+/// The line and the column of the octet after the first `offset` ones of a text, and of its end
+/// where it has no more. A column counts characters.
 pub(crate) fn line_column_at(text: &str, offset: usize) -> LineColumn
     ensures { result ≡ line_column_after (take offset text.now) }
 {

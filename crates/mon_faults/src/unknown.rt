@@ -86,7 +86,8 @@ fn unknown_in(
     kind: SettingsKind,
     place: Place,
 ) -> Result<Option<String>, AllocError>
-    ensures { IfOk result (λ o. option_map string_bytes o ≡ unknown_at kind place (table_view tree.now)) }
+    ensures { IfOk result (λ o. option_map string_bytes o ≡ unknown_at kind place
+        (table_view tree.now)) }
 {
     let Some(table) = table_at(tree, place) else {
         return Ok(None);
@@ -109,7 +110,8 @@ pub(crate) fn unknown_key(
     kind: SettingsKind,
     place: Place,
 ) -> Result<Option<String>, AllocError>
-    ensures { IfOk result (λ o. option_map string_bytes o ≡ option_and_then (unknown_at kind place) (parse_document text.now)) }
+    ensures { IfOk result (λ o. option_map string_bytes o ≡ option_and_then (unknown_at kind place)
+        (parse_document text.now)) }
 {
     match toml::table_from_str(alloc, text) {
         Ok(tree) => unknown_in(alloc, &tree, kind, place),

@@ -12,7 +12,8 @@ use Rattle.mon_sample.specs.Record.{octets_of}
 abbrev pub numbers_octets : List ℕ → List ℕ
 numbers_octets numbers = flat_map (to_be_bytes w32) numbers
 
--- an instance: the length of the engine id, its octets, the count of the name's sub-identifiers, these of four octets each
+-- an instance: the length of the engine id, its octets, the count of the name's sub-identifiers,
+-- these of four octets each
 unfoldable pub instance_octets : List ℕ → List ℕ → List ℕ
 instance_octets engine name = length engine ∷ engine ++ (length name ∷ numbers_octets name)
 
@@ -27,4 +28,5 @@ pub record AreSamples (samples : List ℕ) : Type 0 where
 
 -- whether a number is a sample's: tag, boots, time and value are in range
 unfoldable pub is_sample_number : ℕ → Bool
-is_sample_number k = (kind_tag (kind_of k) == tag_of k) && (nat_lt (boots_of k) (2 ^ 31) && (nat_lt (time_of k) (2 ^ 31) && holds (kind_of k) (sample_value k)))
+is_sample_number k = (kind_tag (kind_of k) == tag_of k) && (nat_lt (boots_of k) (2 ^ 31)
+    && (nat_lt (time_of k) (2 ^ 31) && holds (kind_of k) (sample_value k)))

@@ -1,10 +1,13 @@
 -- Reading fields from left to right, with the first fault that is met.
-use Rattle.std.specs.Prelude.{◌≡◌, ℕ, zero, suc, Bool, true, List, [], ◌∷◌, ◌++◌, length, take, drop, Option, Some, None, Result, Ok, Err, nat_lt, if◌then◌else◌, get_or, ◌<◌}
+use Rattle.std.specs.Prelude.{◌≡◌, ℕ, zero, suc, Bool, true, List, [], ◌∷◌, ◌++◌, length, take}
+use Rattle.std.specs.Prelude.{drop, Option, Some, None, Result, Ok, Err, nat_lt, if◌then◌else◌}
+use Rattle.std.specs.Prelude.{get_or, ◌<◌}
 use Rattle.std.specs.Int.{w32, from_be_bytes}
 use Rattle.mon_oid.specs.Steps.{◌>>=◌}
 use Rattle.mon_sample.specs.Record.{spelled}
 use Rattle.mon_fields.specs.declared.fault.LayoutFault.{LayoutFault}
-use Rattle.mon_fields.specs.declared.fault.LayoutFault.TheVariants.{OutOfMemory, Truncated, BadSample, NotRising}
+use Rattle.mon_fields.specs.declared.fault.LayoutFault.TheVariants.{OutOfMemory, Truncated}
+use Rattle.mon_fields.specs.declared.fault.LayoutFault.TheVariants.{BadSample, NotRising}
 use Rattle.mon_fields.specs.Layout.{is_sample_number}
 
 -- a call that failed so failed as reading does, unless memory ran out
@@ -26,7 +29,8 @@ octet_at (b ∷ bs) = Ok (b, bs)
 
 -- the first n octets, and what follows them
 unfoldable pub field_at : ℕ → List ℕ → Result (List ℕ × List ℕ) LayoutFault
-field_at n octets = if nat_lt (length octets) n then Err Truncated else Ok (take n octets, drop n octets)
+field_at n octets = if nat_lt (length octets) n then Err Truncated
+    else Ok (take n octets, drop n octets)
 
 -- each is an octet; what is read past the end is 0
 abbrev pub AreOctets : List ℕ → Type 0
@@ -39,12 +43,15 @@ u32_at octets = do
   Ok (from_be_bytes w32 field.0, field.1)
 
 -- n things, each read after the one before it, and what follows them
-unfoldable pub one_by_one : {A E : Type 0} → (Option A → List ℕ → Result (A × List ℕ) E) → Option A → ℕ → List ℕ → Result (List A × List ℕ) E
+unfoldable pub one_by_one : {A E : Type 0} → (Option A → List ℕ → Result (A × List ℕ) E) → Option A
+    → ℕ → List ℕ → Result (List A × List ℕ) E
 one_by_one read last zero octets = Ok ([], octets)
-one_by_one read last (suc n) octets = read last octets >>= λ x. one_by_one read (Some x.0) n x.1 >>= λ xs. Ok (x.0 ∷ xs.0, xs.1)
+one_by_one read last (suc n) octets = read last octets >>= λ x. one_by_one read (Some x.0) n x.1 >>=
+    λ xs. Ok (x.0 ∷ xs.0, xs.1)
 
 -- what was read before, in front of what is still read
-abbrev pub with_front : {A E : Type 0} → List A → Result (List A × List ℕ) E → Result (List A × List ℕ) E
+abbrev pub with_front : {A E : Type 0} → List A → Result (List A × List ℕ) E
+    → Result (List A × List ℕ) E
 with_front front read = read >>= λ xs. Ok (front ++ xs.0, xs.1)
 
 -- the sample that a record spells

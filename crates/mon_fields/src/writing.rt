@@ -71,7 +71,8 @@ fn write_numbers(octets: &mut [u8], numbers: &[u32])
     }
 }
 
-/// How many octets an instance takes, at most 769: of the engine id's octets there are fewer than 256.
+/// How many octets an instance takes, at most 769: of the engine id's octets there are fewer than
+/// 256.
 pub fn instance_size(engine: &[u8], name: &Oid) -> usize
     requires { length engine.now < 256 }
     ensures size { result ≡ length (instance_octets engine.now name.now) }
@@ -81,11 +82,13 @@ pub fn instance_size(engine: &[u8], name: &Oid) -> usize
     2 + engine.len() + 4 * name.parts().len()
 }
 
-/// Appends an instance: the engine id's length and octets, the count of the name's sub-identifiers and these.
+/// Appends an instance: the engine id's length and octets, the count of the name's sub-identifiers
+/// and these.
 #[tactic(auto, unfolding(crate::specs::Layout::instance_octets))]
 pub fn put_instance(out: &mut Vec<u8>, engine: &[u8], name: &Oid)
     requires engine { length engine.now < 256 }
-    requires room { vec_len out.old + length (instance_octets engine.now name.now) ≤ vec_capacity out.old }
+    requires room { vec_len out.old + length (instance_octets engine.now name.now)
+        ≤ vec_capacity out.old }
     ensures items { out.new.items ≡ out.old.items ++ instance_octets engine.now name.now }
     ensures len { vec_len out.new ≡ vec_len out.old + length (instance_octets engine.now name.now) }
     ensures capacity { vec_capacity out.old ≤ vec_capacity out.new }

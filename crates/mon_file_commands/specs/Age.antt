@@ -1,5 +1,6 @@
 -- How old a station's file is.
-use Rattle.std.specs.Prelude.{◌≡◌, ◌⊎◌, ◌-◌, ◌/◌, ℕ, nat_le, List, [], ◌∷◌, ◌++◌, if◌then◌else◌, Option, Some, None, Result, Ok, Err, codes, decimal}
+use Rattle.std.specs.Prelude.{◌≡◌, ◌⊎◌, ◌-◌, ◌/◌, ℕ, nat_le, List, [], ◌∷◌, ◌++◌, if◌then◌else◌}
+use Rattle.std.specs.Prelude.{Option, Some, None, Result, Ok, Err, codes, decimal}
 use Rattle.std.specs.Time.{system_time_nanos}
 use Rattle.std.specs.declared.time.SystemTime.{SystemTime}
 use Rattle.mon_console.specs.declared.failure.Failure.{Failure}
@@ -22,15 +23,16 @@ age_lines path (Some seconds) =
     stated level.Info (codes "snmpmon: " ++ (path ++ (codes " was saved "
     ++ (decimal seconds ++ codes " s ago\n")))) ∷ []
 
--- Of a file that was changed at this time the wall clock is asked, and it is said how many seconds ago
--- that was. If the clock fails nothing is said, and the age is not known.
+-- Of a file that was changed at this time the wall clock is asked, and it is said how many seconds
+-- ago that was. If the clock fails nothing is said, and the age is not known.
 abbrev pub IsSinceSaid : (path : List ℕ) → SystemTime → List AtHost → (age : Option ℕ) → Type 0
 IsSinceSaid path changed log age = ((why : Why) × (log ≡ Undated why ∷ []) × (age ≡ None))
-    ⊎ ((now : SystemTime) × (rest : List AtHost) × AreNoted (age_lines path (seconds_between changed now)) rest
+    ⊎ ((now : SystemTime) × (rest : List AtHost) × AreNoted (age_lines path
+    (seconds_between changed now)) rest
     × (log ≡ Dated now ∷ rest) × (age ≡ seconds_between changed now))
 
--- It is asked when the file at a path was changed, and said how many seconds ago that was. If the system
--- does not say it nothing is said, and the age is not known.
+-- It is asked when the file at a path was changed, and said how many seconds ago that was. If the
+-- system does not say it nothing is said, and the age is not known.
 abbrev pub IsAgeSaid : (path : List ℕ) → List AtHost → (age : Option ℕ) → Type 0
 IsAgeSaid path log age = ((why : Why) × (log ≡ FileUndated path why ∷ []) × (age ≡ None))
     ⊎ ((changed : SystemTime) × (rest : List AtHost) × IsSinceSaid path changed rest age

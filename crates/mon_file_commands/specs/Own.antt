@@ -32,8 +32,8 @@ use Rattle.mon_saved.specs.declared.fault.ImageFault.TheVariants as image
 use Rattle.mon_station.specs.declared.fault.StationFault.{StationFault}
 use Rattle.mon_station.specs.declared.fault.StationFault.TheVariants as fault
 
--- what a body holds by itself: a board of the watch that it names, with all of its samples; nothing if
--- there is no body
+-- what a body holds by itself: a board of the watch that it names, with all of its samples; nothing
+-- if there is no body
 abbrev pub IsOwn : Option (List ℕ) → Option Board → Type 0
 IsOwn None own = own ≡ None
 IsOwn (Some body) own = (board : Board) × (own ≡ Some board) × IsOwnBoard body board
@@ -71,7 +71,8 @@ IsOwnSaved path = Then (IsSteadyRead path 15) (λ octets. Quietly (IsOwnIn octet
 abbrev pub AreOwnLabels : Option Board → Labels → List Given → Type 0
 AreOwnLabels None labels all = all ≡ []
 AreOwnLabels (Some board) labels all =
-    all ≡ given_from {A = Global} {B = Global} labels.interfaces.items [] [] [] 0 board.watch.instances
+    all ≡ given_from {A = Global} {B = Global} labels.interfaces.items [] [] [] 0
+    board.watch.instances
 
 -- reports to which these labels were added, and no label of a station; or memory ran out
 abbrev pub IsOwnLabelled : Option Board → Labels → Printing → Result Printing Failure → Type 0
@@ -89,11 +90,13 @@ abbrev pub own_report : Printing → Option Board → List ℕ
 own_report printing own = formatted printing.format (shown_by printing.names) (own_entries own) None
     printing.labels.items printing.presentation
 
--- it is said how old the file at a path is, and the report of what it holds is printed with this age
+-- it is said how old the file at a path is, and the report of what it holds is printed with this
+-- age
 abbrev pub IsAgedReport : (path : List ℕ) → Option Board → Printing → List AtHost
     → Result Unit Failure → Type 0
 IsAgedReport path own printing = Then (IsAge path) (λ (age : Option ℕ).
-    Then (Quietly (OrMemory (λ (text : List ℕ). text ≡ own_report (aged age printing) own))) IsPrint)
+    Then (Quietly (OrMemory (λ (text : List ℕ). text ≡ own_report (aged age printing) own)))
+    IsPrint)
 
 -- the file at a path is read, labels of interfaces are added, and the report is printed
 abbrev pub IsOwnReport : (path : List ℕ) → Printing → Labels → List AtHost → Result Unit Failure
@@ -105,16 +108,16 @@ IsOwnReport path printing labels = Then (IsOwnSaved path) (λ own.
 abbrev pub IsBuiltIn : Result KnownNames Failure → Type 0
 IsBuiltIn result = AreBuiltIn (names_in result)
 
--- how reports are printed, by the built-in names and those of the modules of the arguments, which are
--- read; and then the labels of interfaces, if a file of them is given
+-- how reports are printed, by the built-in names and those of the modules of the arguments, which
+-- are read; and then the labels of interfaces, if a file of them is given
 abbrev pub IsWayTo : (labels : Option (List ℕ)) → Printed → List AtHost
     → Result (Printing × Labels) Failure → Type 0
 IsWayTo labels printed = Then (Quietly IsBuiltIn) (λ known.
     Then (IsPrinting printed known.names []) (λ printing.
     Then (AreLabels labels) (λ all. Quietly (λ result. result ≡ Ok (printing, all)))))
 
--- The modules of the arguments and the labels are read, then the file at this path, whose age is said.
--- Then the report of its windows is printed, without alarms, and nothing is replaced.
+-- The modules of the arguments and the labels are read, then the file at this path, whose age is
+-- said. Then the report of its windows is printed, without alarms, and nothing is replaced.
 abbrev pub IsFileReport : (path : List ℕ) (labels : Option (List ℕ)) → Printed → List AtHost
     → Result Unit Failure → Type 0
 IsFileReport path labels printed =

@@ -9,8 +9,8 @@ use Rattle.mon_formats.specs.Formats.{formatted}
 use Rattle.mon_page.specs.declared.figures.Figures.{Figures}
 use Rattle.mon_report.specs.Report.{Entry, announced_from}
 
--- the instances of a board, with these states of its alarms in the order of the rules; those that are
--- not there follow from the windows
+-- the instances of a board, with these states of its alarms in the order of the rules; those that
+-- are not there follow from the windows
 abbrev pub entries_by : Board → (states : List AlarmState) → List Entry
 entries_by board states =
     announced_from states board.watch.rules (window_of board) 0 board.watch.instances

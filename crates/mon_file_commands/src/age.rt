@@ -8,8 +8,8 @@ ghost use Rattle.mon_file_commands.specs.Line.{AreNoted};
 use mon_host::{Host, Level};
 use std::time::SystemTime;
 
-/// Says how many seconds ago the file at a path was saved, and returns it: when it was changed last, by
-/// the wall clock. Nothing is said, and returned, if that is not known, or is after now.
+/// Says how many seconds ago the file at a path was saved, and returns it: when it was changed
+/// last, by the wall clock. Nothing is said, and returned, if that is not known, or is after now.
 pub(crate) fn tell_age<H: Host>(host: &mut H, path: &str) -> Option<u64>
     ensures { GoesOnBy (λ log. IsAgeSaid path.now log result) (H.log host.old) (H.log host.new) }
 {

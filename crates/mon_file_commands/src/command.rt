@@ -11,13 +11,13 @@ use mon_console::Failure;
 use mon_host::Host;
 use std::alloc::Global;
 
-/// Prints the report of the windows in a station's file, and says on standard error how long ago it was
-/// saved: of the file that the arguments give, by what it holds itself and without alarms; else of that
-/// of the settings. The station is not started, and the file is only read.
+/// Prints the report of the windows in a station's file, and says on standard error how long ago it
+/// was saved: of the file that the arguments give, by what it holds itself and without alarms; else
+/// of that of the settings. The station is not started, and the file is only read.
 ///
 /// # Errors
-/// The settings, a module or the labels were refused; the file could not be read, is damaged or holds
-/// no image; or the report could not be printed.
+/// The settings, a module or the labels were refused; the file could not be read, is damaged or
+/// holds no image; or the report could not be printed.
 pub fn print_saved_report<H: Host>(
     alloc: Global,
     host: &mut H,

@@ -19,8 +19,8 @@ use mon_own_watch::own_board;
 use mon_station::StationFault;
 use std::alloc::{AllocError, Global};
 
-/// Prints the report of the windows in the file at a path by what it holds itself, without alarms, and
-/// says on standard error how long ago it was saved. The file is only read.
+/// Prints the report of the windows in the file at a path by what it holds itself, without alarms,
+/// and says on standard error how long ago it was saved. The file is only read.
 pub(crate) fn print_file_report<H: Host>(
     alloc: Global,
     host: &mut H,
@@ -154,8 +154,8 @@ fn own_in(alloc: Global, path: &str, octets: &[u8]) -> Result<Option<Board>, Fai
     }
 }
 
-/// Returns the board of the body that is found in the octets of a file, by its own watch; `None` if no
-/// save was finished. The file is not written: it is opened as a disk in memory.
+/// Returns the board of the body that is found in the octets of a file, by its own watch; `None` if
+/// no save was finished. The file is not written: it is opened as a disk in memory.
 fn own_found(alloc: Global, octets: &[u8]) -> Result<Option<Board>, StationFault>
     ensures found { IfOk result (IsOwn (found_body octets.now)) }
     ensures fault { IfErr result (IsFaultOfFile octets.now) }

@@ -22,8 +22,8 @@ const HEAD: u64 = 17;
 /// How often a file is read again, at most, that is saved to meanwhile.
 pub const MORE_READS: u32 = 15;
 
-/// Prints the report of the windows in the file of the settings at a path, and says on standard error
-/// how long ago it was saved. The station is not started, and the file is only read.
+/// Prints the report of the windows in the file of the settings at a path, and says on standard
+/// error how long ago it was saved. The station is not started, and the file is only read.
 pub(crate) fn print_settings_report<H: Host>(
     alloc: Global,
     host: &mut H,
@@ -38,8 +38,8 @@ pub(crate) fn print_settings_report<H: Host>(
     print_saved(alloc, host, &settings, printing)
 }
 
-/// Prints the report of the windows in the file of these settings, with how old it is, which is said
-/// too.
+/// Prints the report of the windows in the file of these settings, with how old it is, which is
+/// said too.
 fn print_saved<H: Host>(
     alloc: Global,
     host: &mut H,
@@ -78,15 +78,16 @@ fn board_of(alloc: Global, settings: &StationSettings, octets: &[u8]) -> Result<
     }
 }
 
-/// Reads a station's file, which may be saved to meanwhile. If a head of it changed until the end of
-/// the read, it is read again, at most this many times more.
+/// Reads a station's file, which may be saved to meanwhile. If a head of it changed until the end
+/// of the read, it is read again, at most this many times more.
 pub fn read_saved<H: Host>(
     alloc: Global,
     host: &mut H,
     path: &str,
     more: u32,
 ) -> Result<Vec<u8>, Failure>
-    ensures { GoesOnBy (λ log. IsSteadyRead path.now more log result) (H.log host.old) (H.log host.new) }
+    ensures { GoesOnBy (λ log. IsSteadyRead path.now more log result) (H.log host.old)
+        (H.log host.new) }
 {
     // A file that is longer than a station's is damaged, whatever follows.
     let whole = Part {
@@ -107,7 +108,8 @@ pub fn read_saved<H: Host>(
 /// Returns `true` if the heads of both slots in the file are still those of these octets, or cannot
 /// be read: then nothing shows that the file changed.
 fn has_heads_of<H: Host>(host: &mut H, path: &str, octets: &[u8]) -> bool
-    ensures { GoesOnBy (λ log. AreLooks path.now octets.now log result) (H.log host.old) (H.log host.new) }
+    ensures { GoesOnBy (λ log. AreLooks path.now octets.now log result) (H.log host.old)
+        (H.log host.new) }
 {
     if has_head_of(host, path, octets, 0) {
         return has_head_of(host, path, octets, SLOT_SIZE);
@@ -118,7 +120,8 @@ fn has_heads_of<H: Host>(host: &mut H, path: &str, octets: &[u8]) -> bool
 /// Returns `true` if the head of the slot at this place is that of these octets, or cannot be read.
 fn has_head_of<H: Host>(host: &mut H, path: &str, octets: &[u8], at: u64) -> bool
     requires { at ≤ 1048576 }
-    ensures { GoesOnBy (λ log. IsLook path.now octets.now at log result) (H.log host.old) (H.log host.new) }
+    ensures { GoesOnBy (λ log. IsLook path.now octets.now at log result) (H.log host.old)
+        (H.log host.new) }
 {
     match host.read_part(path, Part { at, length: HEAD }) {
         Ok(head) => is_head_at(octets, at, head.as_slice()),

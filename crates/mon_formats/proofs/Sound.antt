@@ -1,4 +1,5 @@
--- Data that was written and read back is sound, data of sound parts is sound, and the text of sound data reads back.
+-- Data that was written and read back is sound, data of sound parts is sound, and the text of sound
+-- data reads back.
 use Rattle.std.proofs.Common.{◌≡◌, ℕ, ℤ, pos, negsuc, suc, ◌≤◌, ◌<◌, ◌^◌, max, List, [], Bool, Option, Some, None, option_map, option_and_then, decimal, map, nat_le, nat_lt, cond, refl, sym, ap, ap₂, ◌∙◌, arith, append-nil, codes, true, false}
 use Rattle.std.proofs.lemmas.Bool.{leb-true}
 use Rattle.std.specs.Borrow.{Bor}

@@ -1,5 +1,7 @@
 -- The line of an alarm that changed: of which device and interface, by which value, and its limit.
-use Rattle.std.specs.Prelude.{ℕ, ◌*◌, ◌/◌, ◌%◌, ℤ, pos, negsuc, suc, Bool, true, false, ◌&&◌, ◌==◌, if◌then◌else◌, List, ◌++◌, [], Option, Some, None, codes, decimal, find, option_map, slice_get, string_bytes}
+use Rattle.std.specs.Prelude.{ℕ, ◌*◌, ◌/◌, ◌%◌, ℤ, pos, negsuc, suc, Bool, true, false, ◌&&◌, ◌==◌}
+use Rattle.std.specs.Prelude.{if◌then◌else◌, List, ◌++◌, [], Option, Some, None, codes, decimal}
+use Rattle.std.specs.Prelude.{find, option_map, slice_get, string_bytes}
 use Rattle.std.specs.Int.Signed.{le_z}
 use Rattle.hex.specs.Hex.{encode_lower}
 use Rattle.mon_alarms.specs.Observed.{Observation, observations_from}
@@ -39,28 +41,35 @@ device_or engine address label = device_text address label
 -- the device of an instance, by its labels if it has any
 abbrev pub device_of : (engine : List ℕ) → Option InstanceLabels → List ℕ
 device_of engine None = encode_lower engine
-device_of engine (Some l) = device_or engine (option_map string_bytes l.target) (option_map string_bytes l.device)
+device_of engine (Some l) = device_or engine (option_map string_bytes l.target)
+    (option_map string_bytes l.device)
 
 -- the object of a name as it is shown: without its index if it is shown by modules
 abbrev pub object_of : List ℕ → List ℕ
 object_of name = if is_in_numbers name then name else (at_first_dot name).0
 
--- an interface of this ifName and ifAlias and the object; the name as it is shown if the ifName is not known
+-- an interface of this ifName and ifAlias and the object; the name as it is shown if the ifName is
+-- not known
 abbrev pub interface_or : (name : List ℕ) → (if_name if_alias : Option (List ℕ)) → List ℕ
 interface_or name None if_alias = name
-interface_or name (Some if_name) if_alias = interface_text (Some if_name) if_alias ++ codes " " ++ object_of name
+interface_or name (Some if_name) if_alias = interface_text (Some if_name) if_alias ++ codes " "
+    ++ object_of name
 
--- the interface and the object of a name as it is shown, by the labels of its instance if it has any
+-- the interface and the object of a name as it is shown, by the labels of its instance if it has
+-- any
 abbrev pub interface_of : (name : List ℕ) → Option InstanceLabels → List ℕ
 interface_of name None = name
-interface_of name (Some l) = interface_or name (option_map string_bytes l.if_name) (option_map string_bytes l.if_alias)
+interface_of name (Some l) = interface_or name (option_map string_bytes l.if_name)
+    (option_map string_bytes l.if_alias)
 
 -- an instance with its labels: its device, and then its interface and object
 unfoldable pub subject_text : (List ℕ → List ℕ) → Instance → Option InstanceLabels → List ℕ
-subject_text shown i labels = device_of i.engine labels ++ codes " " ++ interface_of (shown i.name) labels
+subject_text shown i labels = device_of i.engine labels ++ codes " "
+    ++ interface_of (shown i.name) labels
 
 -- ---- how much
--- what is behind the point of thousandths in decimal: no zeros at its end, and nothing of a whole number
+-- what is behind the point of thousandths in decimal: no zeros at its end, and nothing of a whole
+-- number
 abbrev pub fraction_text : ℕ → List ℕ
 fraction_text n =
     if n % 1000 == 0 then []
@@ -83,11 +92,12 @@ is_octets InOctets = true
 is_octets OutOctets = true
 is_octets _ = false
 
--- How values of a column are shown, by the kind of a sample: those of octets' counters in bits, and of others' as rates. Without a
--- sample the column decides.
+-- How values of a column are shown, by the kind of a sample: those of octets' counters in bits, and
+-- of others' as rates. Without a sample the column decides.
 abbrev pub measure_of : Column → Option ℕ → Measure
 measure_of column None = if is_octets column then Bits else Plain
-measure_of column (Some x) = if is_counter (kind_of x) then (if is_octets column then Bits else Each) else Plain
+measure_of column (Some x) = if is_counter (kind_of x) then (if is_octets column then Bits
+    else Each) else Plain
 
 -- a value in thousandths, a second if it is a counter's: of octets in bits a second
 abbrev pub measured : Measure → ℤ → List ℕ
@@ -100,7 +110,8 @@ measured other level = number_text level
 abbrev pub is_at : (boots time : ℕ) → (sample : ℕ) → Bool
 is_at boots time x = (boots_of x == boots) && (time_of x == time)
 
--- whether an alarm was raised or cleared by an observation: it is at the sample, and at the threshold or beyond it
+-- whether an alarm was raised or cleared by an observation: it is at the sample, and at the
+-- threshold or beyond it
 abbrev pub is_by : Rule → AlarmEvent → Observation → Bool
 is_by rule (Raised boots time) o = is_at boots time o.sample && le_z rule.rising o.level
 is_by rule (Cleared boots time) o = is_at boots time o.sample && le_z o.level rule.falling
@@ -108,7 +119,8 @@ is_by rule Lapsed o = false
 
 -- the value by which an alarm was raised or cleared, if the samples still have it
 abbrev pub level_by : Rule → AlarmEvent → List ℕ → Option ℤ
-level_by rule event samples = option_map (λ o. o.level) (find (is_by rule event) (observations_from None samples))
+level_by rule event samples = option_map (λ o. o.level) (find (is_by rule event)
+    (observations_from None samples))
 
 -- ---- the line
 -- what became of an alarm
@@ -140,25 +152,33 @@ limit_text measure limit = codes " (limit " ++ measured measure limit ++ codes "
 
 -- the value by which it was, and its limit
 unfoldable pub values_text : Measure → (samples : List ℕ) → Rule → AlarmEvent → List ℕ
-values_text measure samples rule event = value_text measure (level_by rule event samples) ++ limit_text measure (limit_of rule event)
+values_text measure samples rule event = value_text measure (level_by rule event samples)
+    ++ limit_text measure (limit_of rule event)
 
 -- the line of a rule on an instance with these labels and samples
-unfoldable pub line_on : (List ℕ → List ℕ) → Instance → Option InstanceLabels → (samples : List ℕ) → Rule → AlarmEvent → List ℕ
+unfoldable pub line_on : (List ℕ → List ℕ) → Instance → Option InstanceLabels → (samples : List ℕ)
+    → Rule → AlarmEvent → List ℕ
 line_on shown i labels samples rule event =
     event_word event ++ subject_text shown i labels
-    ++ values_text (measure_of (column_of i.name) (newest_of samples)) samples rule event ++ event_end event
+    ++ values_text (measure_of (column_of i.name) (newest_of samples)) samples rule event
+    ++ event_end event
 
 -- the line of a rule on an instance of a watch, if it has that
-abbrev pub line_at : (List ℕ → List ℕ) → Option Watched → Option InstanceLabels → (samples : List ℕ) → Rule → AlarmEvent → List ℕ
+abbrev pub line_at : (List ℕ → List ℕ) → Option Watched → Option InstanceLabels → (samples : List ℕ)
+    → Rule → AlarmEvent → List ℕ
 line_at shown None labels samples rule event = []
-line_at shown (Some watched) labels samples rule event = line_on shown watched.instance labels samples rule event
+line_at shown (Some watched) labels samples rule event = line_on shown watched.instance labels
+    samples rule event
 
 -- the line of a rule of a board, if it has that
-abbrev pub rule_line : (List ℕ → List ℕ) → Board → List InstanceLabels → Option Rule → AlarmEvent → List ℕ
+abbrev pub rule_line : (List ℕ → List ℕ) → Board → List InstanceLabels → Option Rule → AlarmEvent
+    → List ℕ
 rule_line shown board labels None event = []
-rule_line shown board labels (Some rule) event = line_at shown (slice_get board.watch.instances rule.instance)
+rule_line shown board labels (Some rule) event = line_at shown
+    (slice_get board.watch.instances rule.instance)
     (slice_get labels rule.instance) (rising (window_of board rule.instance)) rule event
 
 -- the line of a change: that of its rule
 abbrev pub change_line : (List ℕ → List ℕ) → Board → List InstanceLabels → AlarmChange → List ℕ
-change_line shown board labels change = rule_line shown board labels (slice_get board.watch.rules change.rule) change.event
+change_line shown board labels change = rule_line shown board labels
+    (slice_get board.watch.rules change.rule) change.event

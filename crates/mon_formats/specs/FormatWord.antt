@@ -1,7 +1,8 @@
 -- The words that name formats.
 use Rattle.std.specs.Prelude.{ℕ, List, codes}
 use Rattle.mon_formats.specs.declared.format.Format.{Format}
-use Rattle.mon_formats.specs.declared.format.Format.TheVariants.{Text, Json, Prometheus, OpenMetrics, Columns, Html}
+use Rattle.mon_formats.specs.declared.format.Format.TheVariants.{Text, Json, Prometheus}
+use Rattle.mon_formats.specs.declared.format.Format.TheVariants.{OpenMetrics, Columns, Html}
 
 -- the word that names a format
 abbrev pub format_word : Format → List ℕ

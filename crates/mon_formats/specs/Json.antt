@@ -1,8 +1,12 @@
--- A report as JSON (RFC 8259), on one line. Whole numbers beyond 2^53, which many readers round, are texts.
-use Rattle.std.specs.Prelude.{◌≡◌, ℕ, ℤ, pos, negsuc, ◌+◌, ◌^◌, Bool, true, false, not, List, [], ◌∷◌, ◌++◌, Option, Some, None, codes, decimal, map, nat_le, nat_lt, String, string_bytes, if◌then◌else◌}
+-- A report as JSON (RFC 8259), on one line. Whole numbers beyond 2^53, which many readers round,
+-- are texts.
+use Rattle.std.specs.Prelude.{◌≡◌, ℕ, ℤ, pos, negsuc, ◌+◌, ◌^◌, Bool, true, false, not, List, []}
+use Rattle.std.specs.Prelude.{◌∷◌, ◌++◌, Option, Some, None, codes, decimal, map, nat_le, nat_lt}
+use Rattle.std.specs.Prelude.{String, string_bytes, if◌then◌else◌}
 use Rattle.std.specs.Fmt.{signed_decimal}
 use Rattle.hex.specs.Hex.{encode_lower}
-use Rattle.serde_json.specs.Data.{Data, Members, boolean, null, number, unsigned, negative, string, array, object, no_members, member, put}
+use Rattle.serde_json.specs.Data.{Data, Members, boolean, null, number, unsigned, negative, string}
+use Rattle.serde_json.specs.Data.{array, object, no_members, member, put}
 use Rattle.serde_json.specs.Read.{read}
 use Rattle.serde_json.specs.View.{items_of}
 use Rattle.serde_json.specs.Written.{compact_text}
@@ -25,7 +29,8 @@ exact n = if nat_le n (2 ^ 53) then number (unsigned n) else string (decimal n)
 -- a whole number with its sign, in the same way
 abbrev pub exact_signed : ℤ → Data
 exact_signed (pos n) = exact n
-exact_signed (negsuc n) = if nat_lt n (2 ^ 53) then number (negative (negsuc n)) else string (signed_decimal (negsuc n))
+exact_signed (negsuc n) = if nat_lt n (2 ^ 53) then number (negative (negsuc n))
+    else string (signed_decimal (negsuc n))
 
 -- a whole number, if there is one; else null
 abbrev pub exact_or_null : Option ℕ → Data
@@ -34,7 +39,8 @@ exact_or_null (Some n) = exact n
 
 -- boots and time of the agent's engine
 abbrev pub stamp : ℕ → ℕ → Data
-stamp boots time = object (member (codes "boots") (number (unsigned boots)) (member (codes "time") (number (unsigned time)) no_members))
+stamp boots time = object (member (codes "boots") (number (unsigned boots))
+    (member (codes "time") (number (unsigned time)) no_members))
 
 -- a sample
 abbrev pub sample_data : ℕ → Data
@@ -61,7 +67,8 @@ alarm_data alarm = object
 
 -- how much the counter counted, and in how many seconds
 abbrev pub totals_data : List ℕ → Data
-totals_data items = object (member (codes "delta") (exact (totals items).delta) (member (codes "span") (exact (totals items).span) no_members))
+totals_data items = object (member (codes "delta") (exact (totals items).delta)
+    (member (codes "span") (exact (totals items).span) no_members))
 
 -- the alarms that are said of an instance: none if it is stale
 abbrev pub fresh_alarms : Bool → List Alarm → List Alarm
@@ -96,7 +103,8 @@ entry_data shown fresh e = object (with_stale fresh (entry_members shown (or_fre
 -- the instances from a place on
 abbrev pub entries_data : (List ℕ → List ℕ) → Option Figures → ℕ → List Entry → List Data
 entries_data shown station place [] = []
-entries_data shown station place (e ∷ es) = entry_data shown (fresh_at station place) e ∷ entries_data shown station (place + 1) es
+entries_data shown station place (e ∷ es) = entry_data shown (fresh_at station place) e
+    ∷ entries_data shown station (place + 1) es
 
 -- why a target's last response was refused; null where none was
 abbrev pub refusal_data : {A : Type 0} → Option (String A) → Data
@@ -118,7 +126,8 @@ target_data t = object
 
 -- how many samples a station owes a peer, by the peer's number
 abbrev pub debt_data : ℕ × ℕ → Data
-debt_data d = object (member (codes "peer") (number (unsigned d.0)) (member (codes "samples") (number (unsigned d.1)) no_members))
+debt_data d = object (member (codes "peer") (number (unsigned d.0))
+    (member (codes "samples") (number (unsigned d.1)) no_members))
 
 -- in how many rounds an instance had no new sample
 abbrev pub age_data : ℕ → Data
@@ -158,4 +167,5 @@ json_report shown entries station = compact_text (report_data shown entries stat
 
 -- the text is a line that reads as the report's value, and a line feed
 abbrev pub ReadsAsReport : (List ℕ → List ℕ) → List Entry → Option Figures → List ℕ → Type 0
-ReadsAsReport shown entries station text = (line : List ℕ) × (text ≡ line ++ codes "\n") × (read line ≡ Some (report_data shown entries station))
+ReadsAsReport shown entries station text = (line : List ℕ) × (text ≡ line ++ codes "\n")
+    × (read line ≡ Some (report_data shown entries station))

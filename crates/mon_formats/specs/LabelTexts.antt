@@ -5,12 +5,16 @@ use Rattle.mon_report.specs.Report.{Entry}
 use Rattle.mon_page.specs.declared.extras.InstanceLabels.{InstanceLabels}
 use Rattle.mon_page.specs.Labelled.{Labelled, labelled}
 
--- the instances are these entries with what is given for them, and these are the texts of the labels that a function has for them
-pub record HaveLabels (labels : Labelled → List ℕ) (all : List Labelled) (entries : List Entry) (given : List InstanceLabels)
+-- the instances are these entries with what is given for them, and these are the texts of the
+-- labels that a function has for them
+pub record HaveLabels (labels : Labelled → List ℕ) (all : List Labelled) (entries : List Entry)
+    (given : List InstanceLabels)
     (texts : List (Vec ℕ)) : Type 0 where
   pub are : all ≡ labelled given entries
   pub texts_are : map labels all ≡ map (λ t. t.items) texts
 
 -- the labels of these entries with what is given for them, by texts that were made
-abbrev pub AreLabelTexts : (labels : Labelled → List ℕ) → List Entry → (given : List InstanceLabels) → Vec (Vec ℕ) → Type 0
-AreLabelTexts labels entries given texts = HaveLabels labels (labelled given entries) entries given texts.items
+abbrev pub AreLabelTexts : (labels : Labelled → List ℕ) → List Entry → (given : List InstanceLabels)
+    → Vec (Vec ℕ) → Type 0
+AreLabelTexts labels entries given texts = HaveLabels labels (labelled given entries) entries given
+    texts.items

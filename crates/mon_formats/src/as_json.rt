@@ -21,7 +21,8 @@ use mon_smi::NameTexts;
 use serde_json::{Map, Value, json, push, put};
 use std::alloc::{AllocError, Global};
 
-/// The largest whole number that is written as a number: readers that keep numbers as floats of 64 bits have it exactly.
+/// The largest whole number that is written as a number: readers that keep numbers as floats of 64
+/// bits have it exactly.
 const LARGEST_NUMBER: u64 = 1 << 53;
 
 /// An instance, and of a running station whether it is fresh.
@@ -39,8 +40,10 @@ pub(crate) fn json_report<S: NameTexts>(
     entries: &[Entry],
     station: Option<&Figures>,
 ) -> Result<Vec<u8>, AllocError>
-    ensures text { IfOk result (λ text. text.items ≡ json_report (S.shown names.now) entries.now (option_map (λ f. f.now) station.entry)) }
-    ensures read_back { IfOk result (λ text. ReadsAsReport (S.shown names.now) entries.now (option_map (λ f. f.now) station.entry) text.items) }
+    ensures text { IfOk result (λ text. text.items ≡ json_report (S.shown names.now) entries.now
+        (option_map (λ f. f.now) station.entry)) }
+    ensures read_back { IfOk result (λ text. ReadsAsReport (S.shown names.now) entries.now
+        (option_map (λ f. f.now) station.entry) text.items) }
 {
     let mut text = buffer;
     text.clear();
@@ -56,8 +59,10 @@ fn put_report<S: NameTexts>(
     entries: &[Entry],
     station: Option<&Figures>,
 ) -> Result<(), AllocError>
-    ensures text { OnOk result (text.new.items ≡ text.old.items ++ json_report (S.shown names.now) entries.now (option_map (λ f. f.now) station.entry)) }
-    ensures sound { OnOk result (IsSound (report_data (S.shown names.now) entries.now (option_map (λ f. f.now) station.entry))) }
+    ensures text { OnOk result (text.new.items ≡ text.old.items
+        ++ json_report (S.shown names.now) entries.now (option_map (λ f. f.now) station.entry)) }
+    ensures sound { OnOk result (IsSound (report_data (S.shown names.now) entries.now
+        (option_map (λ f. f.now) station.entry))) }
 {
     text.extend_from_slice(b"{\"instances\":[")?;
     put_instances(alloc, text, names, entries, station)?;
@@ -77,7 +82,8 @@ fn put_running(
     text: &mut Vec<u8>,
     station: Option<&Figures>,
 ) -> Result<(), AllocError>
-    ensures text { OnOk result (text.new.items ++ codes "}" ≡ text.old.items ++ members_text true (station_member (option_map (λ f. f.now) station.entry))) }
+    ensures text { OnOk result (text.new.items ++ codes "}" ≡ text.old.items
+        ++ members_text true (station_member (option_map (λ f. f.now) station.entry))) }
     ensures sound { OnOk result (IfSome station.entry (λ f. IsSound (station_data f.now))) }
 {
     match station {
@@ -99,8 +105,11 @@ fn put_instances<S: NameTexts>(
     entries: &[Entry],
     station: Option<&Figures>,
 ) -> Result<(), AllocError>
-    ensures text { OnOk result (text.new.items ≡ text.old.items ++ items_text false (items_of (entries_data (S.shown names.now) (option_map (λ f. f.now) station.entry) 0 entries.now))) }
-    ensures sound { OnOk result (IsSound (array (items_of (entries_data (S.shown names.now) (option_map (λ f. f.now) station.entry) 0 entries.now)))) }
+    ensures text { OnOk result (text.new.items ≡ text.old.items
+        ++ items_text false (items_of (entries_data (S.shown names.now)
+        (option_map (λ f. f.now) station.entry) 0 entries.now))) }
+    ensures sound { OnOk result (IsSound (array (items_of (entries_data (S.shown names.now)
+        (option_map (λ f. f.now) station.entry) 0 entries.now)))) }
 {
     let mut later = false;
     for (place, instance) in entries.iter().enumerate() {
@@ -136,8 +145,11 @@ fn put_instance<S: NameTexts>(
     seen: Seen,
     later: bool,
 ) -> Result<(), AllocError>
-    ensures text { OnOk result (text.new.items ≡ text.old.items ++ (comma_if later ++ compact_text (entry_data (S.shown names.now) seen.entry.fresh seen.entry.instance.now))) }
-    ensures sound { OnOk result (IsSound (entry_data (S.shown names.now) seen.entry.fresh seen.entry.instance.now)) }
+    ensures text { OnOk result (text.new.items ≡ text.old.items
+        ++ (comma_if later ++ compact_text (entry_data (S.shown names.now) seen.entry.fresh
+        seen.entry.instance.now))) }
+    ensures sound { OnOk result (IsSound (entry_data (S.shown names.now) seen.entry.fresh
+        seen.entry.instance.now)) }
 {
     text.extend_from_slice(comma(later))?;
     put_head(alloc, text, names, seen.instance, or_fresh(seen.fresh))?;
@@ -161,7 +173,8 @@ fn put_value(
 ) -> Result<(), AllocError>
     requires exact { has_float (view value) ≡ false }
     requires shallow { depth (view value) ≤ max_depth }
-    ensures text { OnOk result (text.new.items ≡ text.old.items ++ (before.now ++ compact_text (view value))) }
+    ensures text { OnOk result (text.new.items ≡ text.old.items
+        ++ (before.now ++ compact_text (view value))) }
     ensures sound { OnOk result (IsSound (view value)) }
 {
     text.extend_from_slice(before)?;
@@ -243,7 +256,8 @@ fn put_exact(
     key: &str,
     number: u128,
 ) -> Result<(), AllocError>
-    ensures { OnOk result (members_view members.new.entries ≡ with_member key.now (exact number) (members_view members.old.entries)) }
+    ensures { OnOk result (members_view members.new.entries ≡ with_member key.now (exact number)
+        (members_view members.old.entries)) }
 {
     put(members, alloc, key, exact_value(alloc, number)?)
 }
@@ -284,7 +298,8 @@ fn push_debt(
     peer: u32,
     samples: u32,
 ) -> Result<(), AllocError>
-    ensures { OnOk result (map view values.new.items ≡ map view values.old.items ++ debt_data (peer, samples) ∷ []) }
+    ensures { OnOk result (map view values.new.items ≡ map view values.old.items
+        ++ debt_data (peer, samples) ∷ []) }
 {
     push(values, json!(in alloc; {"peer": peer, "samples": samples})?)
 }
@@ -306,7 +321,8 @@ fn push_target(
     values: &mut Vec<Value>,
     target: &TargetFigures,
 ) -> Result<(), AllocError>
-    ensures { OnOk result (map view values.new.items ≡ map view values.old.items ++ target_data target.now ∷ []) }
+    ensures { OnOk result (map view values.new.items ≡ map view values.old.items
+        ++ target_data target.now ∷ []) }
 {
     let mut members = Map::new(alloc);
     put_target(alloc, &mut members, target)?;
@@ -379,8 +395,15 @@ fn put_head<S: NameTexts>(
     entry: &Entry,
     fresh: bool,
 ) -> Result<(), AllocError>
-    ensures text { OnOk result ((rest : Members) → text.new.items ++ members_text true rest ≡ text.old.items ++ compact_text (object (member (codes "alarms") (array (items_of (map alarm_data (fresh_alarms fresh entry.now.alarms)))) (member (codes "engine") (string (encode_lower entry.now.engine)) (member (codes "name") (string (S.shown names.now entry.now.name)) (member (codes "rate_thousandths") (exact_or_null (fresh_rate fresh entry.now.items)) rest)))))) }
-    ensures sound { OnOk result (IsSound (array (items_of (map alarm_data (fresh_alarms fresh entry.now.alarms))))) }
+    ensures text { OnOk result ((rest : Members) → text.new.items ++ members_text true rest
+        ≡ text.old.items ++ compact_text (object (member (codes "alarms")
+        (array (items_of (map alarm_data (fresh_alarms fresh entry.now.alarms))))
+        (member (codes "engine") (string (encode_lower entry.now.engine))
+        (member (codes "name") (string (S.shown names.now entry.now.name))
+        (member (codes "rate_thousandths") (exact_or_null (fresh_rate fresh entry.now.items))
+        rest)))))) }
+    ensures sound { OnOk result (IsSound (array (items_of (map alarm_data
+        (fresh_alarms fresh entry.now.alarms))))) }
 {
     put_value(
         alloc,
@@ -415,7 +438,9 @@ fn or_fresh(fresh: Option<bool>) -> bool
 
 /// Adds the members behind the samples of an instance, and its bracket.
 fn put_end(alloc: Global, text: &mut Vec<u8>, seen: Seen) -> Result<(), AllocError>
-    ensures { OnOk result (text.new.items ≡ text.old.items ++ members_text true (with_stale seen.entry.fresh (member (codes "totals") (totals_data seen.entry.instance.now.items) no_members))) }
+    ensures { OnOk result (text.new.items ≡ text.old.items ++ members_text true
+        (with_stale seen.entry.fresh (member (codes "totals")
+        (totals_data seen.entry.instance.now.items) no_members))) }
 {
     text.extend_from_slice(stale_member(seen.fresh))?;
     put_value(
@@ -427,9 +452,12 @@ fn put_end(alloc: Global, text: &mut Vec<u8>, seen: Seen) -> Result<(), AllocErr
     text.extend_from_slice(b"}")
 }
 
-/// Whether an instance of a running station is stale, as a member between others; nothing without a station.
+/// Whether an instance of a running station is stale, as a member between others; nothing without a
+/// station.
 fn stale_member(fresh: Option<bool>) -> &'static [u8]
-    ensures { (items : List ℕ) → members_text true (with_stale fresh (member (codes "totals") (totals_data items) no_members)) ≡ result.now ++ members_text true (member (codes "totals") (totals_data items) no_members) }
+    ensures { (items : List ℕ) → members_text true (with_stale fresh
+        (member (codes "totals") (totals_data items) no_members))
+        ≡ result.now ++ members_text true (member (codes "totals") (totals_data items) no_members) }
 {
     match fresh {
         None => b"",
@@ -447,7 +475,8 @@ fn name_value<S: NameTexts>(alloc: Global, names: &S, entry: &Entry) -> Result<V
 
 /// The array of the alarms of an instance; of a stale one it is empty.
 fn alarms_value(alloc: Global, entry: &Entry, fresh: bool) -> Result<Value, AllocError>
-    ensures { IfOk result (λ v. view v ≡ array (items_of (map alarm_data (fresh_alarms fresh entry.now.alarms)))) }
+    ensures { IfOk result (λ v. view v ≡ array (items_of (map alarm_data
+        (fresh_alarms fresh entry.now.alarms)))) }
 {
     if !fresh {
         return array_of_alarms(alloc, &[]);
@@ -469,7 +498,8 @@ fn array_of_alarms(alloc: Global, alarms: &[Alarm]) -> Result<Value, AllocError>
 
 /// Adds a rule with its thresholds in thousandths, and when its alarm was raised.
 fn push_alarm(alloc: Global, values: &mut Vec<Value>, alarm: &Alarm) -> Result<(), AllocError>
-    ensures { OnOk result (map view values.new.items ≡ map view values.old.items ++ alarm_data alarm.now ∷ []) }
+    ensures { OnOk result (map view values.new.items ≡ map view values.old.items
+        ++ alarm_data alarm.now ∷ []) }
 {
     let mut members = Map::new(alloc);
     put_alarm(alloc, &mut members, alarm)?;
@@ -512,7 +542,8 @@ fn raised_value(alloc: Global, state: AlarmState) -> Result<Value, AllocError>
 
 /// Adds the samples, as a member behind others.
 fn put_samples(text: &mut Vec<u8>, samples: &[Sample]) -> Result<(), AllocError>
-    ensures text { OnOk result (text.new.items ≡ text.old.items ++ (codes ",\"samples\":" ++ compact_text (array (items_of (map sample_data samples.now))))) }
+    ensures text { OnOk result (text.new.items ≡ text.old.items
+        ++ (codes ",\"samples\":" ++ compact_text (array (items_of (map sample_data samples.now))))) }
     ensures sound { OnOk result (IsSound (array (items_of (map sample_data samples.now)))) }
 {
     text.extend_from_slice(b",\"samples\":[")?;
@@ -524,10 +555,11 @@ fn put_samples(text: &mut Vec<u8>, samples: &[Sample]) -> Result<(), AllocError>
     text.extend_from_slice(b"]")
 }
 
-/// Adds a sample, behind a comma where another stands before it: its stamp, its discontinuity, its kind and the number that
-/// its value means.
+/// Adds a sample, behind a comma where another stands before it: its stamp, its discontinuity, its
+/// kind and the number that its value means.
 fn put_sample(text: &mut Vec<u8>, sample: &Sample, later: bool) -> Result<(), AllocError>
-    ensures text { OnOk result (text.new.items ≡ text.old.items ++ (comma_if later ++ compact_text (sample_data sample.now))) }
+    ensures text { OnOk result (text.new.items ≡ text.old.items
+        ++ (comma_if later ++ compact_text (sample_data sample.now))) }
     ensures sound { OnOk result (IsSound (sample_data sample.now)) }
 {
     put_digits(text, boots_key(later), sample.boots())?;
@@ -550,9 +582,11 @@ fn boots_key(later: bool) -> &'static [u8]
     }
 }
 
-/// Adds a text, and a whole number with its sign behind it: as a number up to 2^53 on either side of 0, else as a text.
+/// Adds a text, and a whole number with its sign behind it: as a number up to 2^53 on either side
+/// of 0, else as a text.
 fn put_exact_signed(text: &mut Vec<u8>, before: &[u8], number: i128) -> Result<(), AllocError>
-    ensures { OnOk result (text.new.items ≡ text.old.items ++ (before.now ++ compact_text (exact_signed number))) }
+    ensures { OnOk result (text.new.items ≡ text.old.items ++
+        (before.now ++ compact_text (exact_signed number))) }
 {
     if number.unsigned_abs() <= u128::from(LARGEST_NUMBER) {
         return put_digits(text, before, number as i64);

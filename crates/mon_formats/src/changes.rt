@@ -47,10 +47,10 @@ struct Turn<'a> {
     event: AlarmEvent,
 }
 
-/// Returns the line of a change of a board's alarms, without its end: `ALARM raised: `, the device, the
-/// interface and the object, the value that was observed, the threshold, and by which sample. The
-/// labels are those of the board's instances, in their order. It is empty if the watch has no such
-/// rule, and has no value if the window does not have that sample any more.
+/// Returns the line of a change of a board's alarms, without its end: `ALARM raised: `, the device,
+/// the interface and the object, the value that was observed, the threshold, and by which sample.
+/// The labels are those of the board's instances, in their order. It is empty if the watch has no
+/// such rule, and has no value if the window does not have that sample any more.
 ///
 /// # Errors
 /// `AllocError` if there is no memory for it.
@@ -61,7 +61,8 @@ pub fn alarm_line<S: NameTexts>(
     labels: &[InstanceLabels],
     change: &AlarmChange,
 ) -> Result<String, AllocError>
-    ensures { IfOk result (λ text. string_bytes text ≡ change_line (S.shown names.now) board.now labels.now change.now) }
+    ensures { IfOk result (λ text. string_bytes text ≡ change_line (S.shown names.now) board.now
+        labels.now change.now) }
 {
     let Some(rule) = board.watch().rules().get(change.rule) else {
         return Ok(String::new(alloc));
@@ -79,7 +80,8 @@ pub fn instance_text<S: NameTexts>(
     names: &S,
     instance: &Instance,
 ) -> Result<String, AllocError>
-    ensures { IfOk result (λ text. string_bytes text ≡ instance_text (S.shown names.now) instance.now) }
+    ensures { IfOk result (λ text. string_bytes text ≡ instance_text (S.shown names.now)
+        instance.now) }
 {
     let mut text = String::new(alloc);
     put_instance(alloc, &mut text, names, instance)?;
@@ -93,7 +95,8 @@ fn put_instance<S: NameTexts>(
     names: &S,
     instance: &Instance,
 ) -> Result<(), AllocError>
-    ensures { OnOk result (string_bytes text.new ≡ string_bytes text.old ++ instance_text (S.shown names.now) instance.now) }
+    ensures { OnOk result (string_bytes text.new ≡ string_bytes text.old
+        ++ instance_text (S.shown names.now) instance.now) }
 {
     put_engine(alloc, text, instance.engine.as_slice())?;
     text.push_str(" ")?;
@@ -117,7 +120,8 @@ fn turn_line<S: NameTexts>(
     labels: &[InstanceLabels],
     turn: Turn<'_>,
 ) -> Result<String, AllocError>
-    ensures { IfOk result (λ text. string_bytes text ≡ line_at (S.shown names.now) (slice_get board.now.watch.instances turn.entry.rule.now.instance)
+    ensures { IfOk result (λ text. string_bytes text ≡ line_at (S.shown names.now)
+        (slice_get board.now.watch.instances turn.entry.rule.now.instance)
         (slice_get labels.now turn.entry.rule.now.instance) (rising (window_of board.now turn.entry.rule.now.instance)) turn.entry.rule.now turn.entry.event) }
 {
     let number = turn.rule.instance();
@@ -141,7 +145,8 @@ fn line_on<S: NameTexts>(
     subject: Subject<'_>,
     turn: Turn<'_>,
 ) -> Result<String, AllocError>
-    ensures { IfOk result (λ text. string_bytes text ≡ line_on (S.shown names.now) subject.entry.instance.now (option_map (λ l. l.now) subject.entry.labels)
+    ensures { IfOk result (λ text. string_bytes text ≡ line_on (S.shown names.now)
+        subject.entry.instance.now (option_map (λ l. l.now) subject.entry.labels)
         subject.entry.samples.now turn.entry.rule.now turn.entry.event) }
 {
     let mut text = String::from_str(alloc, event_word(turn.event))?;
@@ -182,7 +187,9 @@ fn put_subject<S: NameTexts>(
     names: &S,
     subject: Subject<'_>,
 ) -> Result<(), AllocError>
-    ensures { OnOk result (string_bytes text.new ≡ string_bytes text.old ++ subject_text (S.shown names.now) subject.entry.instance.now (option_map (λ l. l.now) subject.entry.labels)) }
+    ensures { OnOk result (string_bytes text.new ≡ string_bytes text.old
+        ++ subject_text (S.shown names.now) subject.entry.instance.now
+        (option_map (λ l. l.now) subject.entry.labels)) }
 {
     put_device(
         alloc,
@@ -202,7 +209,8 @@ fn put_device(
     engine: &[u8],
     labels: Option<&InstanceLabels>,
 ) -> Result<(), AllocError>
-    ensures { OnOk result (string_bytes text.new ≡ string_bytes text.old ++ device_of engine.now (option_map (λ l. l.now) labels.entry)) }
+    ensures { OnOk result (string_bytes text.new ≡ string_bytes text.old
+        ++ device_of engine.now (option_map (λ l. l.now) labels.entry)) }
 {
     match labels {
         None => put_engine(alloc, text, engine),
@@ -217,7 +225,9 @@ fn put_labelled_device(
     engine: &[u8],
     labels: &InstanceLabels,
 ) -> Result<(), AllocError>
-    ensures { OnOk result (string_bytes text.new ≡ string_bytes text.old ++ device_or engine.now (option_map string_bytes labels.now.target) (option_map string_bytes labels.now.device)) }
+    ensures { OnOk result (string_bytes text.new ≡ string_bytes text.old
+        ++ device_or engine.now (option_map string_bytes labels.now.target)
+        (option_map string_bytes labels.now.device)) }
 {
     if labels.target.is_none() && labels.device.is_none() {
         return put_engine(alloc, text, engine);
@@ -226,15 +236,16 @@ fn put_labelled_device(
     text.push_str(device.as_str())
 }
 
-/// Adds the interface and the object of a name as it is shown, by the labels of its instance if it has
-/// any.
+/// Adds the interface and the object of a name as it is shown, by the labels of its instance if it
+/// has any.
 fn put_interface(
     alloc: Global,
     text: &mut String,
     name: &str,
     labels: Option<&InstanceLabels>,
 ) -> Result<(), AllocError>
-    ensures { OnOk result (string_bytes text.new ≡ string_bytes text.old ++ interface_of name.now (option_map (λ l. l.now) labels.entry)) }
+    ensures { OnOk result (string_bytes text.new ≡ string_bytes text.old
+        ++ interface_of name.now (option_map (λ l. l.now) labels.entry)) }
 {
     match labels {
         None => text.push_str(name),
@@ -249,7 +260,9 @@ fn put_labelled_interface(
     name: &str,
     labels: &InstanceLabels,
 ) -> Result<(), AllocError>
-    ensures { OnOk result (string_bytes text.new ≡ string_bytes text.old ++ interface_or name.now (option_map string_bytes labels.now.if_name) (option_map string_bytes labels.now.if_alias)) }
+    ensures { OnOk result (string_bytes text.new ≡ string_bytes text.old
+        ++ interface_or name.now (option_map string_bytes labels.now.if_name)
+        (option_map string_bytes labels.now.if_alias)) }
 {
     if labels.if_name.is_none() {
         return text.push_str(name);
@@ -270,7 +283,8 @@ fn object_of(name: &str) -> &str
     at_first_dot(name).0
 }
 
-/// Adds the value by which an alarm was raised or cleared, if the samples still have it, and its limit.
+/// Adds the value by which an alarm was raised or cleared, if the samples still have it, and its
+/// limit.
 #[tactic(auto, unfolding(crate::specs::Changes::values_text))]
 fn put_values(
     alloc: Global,
@@ -279,7 +293,8 @@ fn put_values(
     samples: &[Sample],
     turn: Turn<'_>,
 ) -> Result<(), AllocError>
-    ensures { OnOk result (string_bytes text.new ≡ string_bytes text.old ++ values_text measure samples.now turn.entry.rule.now turn.entry.event) }
+    ensures { OnOk result (string_bytes text.new ≡ string_bytes text.old
+        ++ values_text measure samples.now turn.entry.rule.now turn.entry.event) }
 {
     let level = level_by(turn.rule, turn.event, None, samples);
     put_value(alloc, text, measure, level)?;
@@ -304,7 +319,8 @@ fn put_value(
     level: Option<i128>,
 ) -> Result<(), AllocError>
     requires { IfSome level (λ z. z ≤ℤ pos (2 ^ 100)) }
-    ensures { OnOk result (string_bytes text.new ≡ string_bytes text.old ++ value_text measure level) }
+    ensures { OnOk result (string_bytes text.new ≡ string_bytes text.old
+        ++ value_text measure level) }
 {
     let Some(level) = level else {
         return Ok(());
@@ -320,7 +336,8 @@ fn put_limit(
     measure: Measure,
     limit: i64,
 ) -> Result<(), AllocError>
-    ensures { OnOk result (string_bytes text.new ≡ string_bytes text.old ++ limit_text measure limit) }
+    ensures { OnOk result (string_bytes text.new ≡ string_bytes text.old
+        ++ limit_text measure limit) }
 {
     text.push_str(" (limit ")?;
     put_measured(alloc, text, measure, i128::from(limit))?;
@@ -334,8 +351,8 @@ fn is_octets(column: Column) -> bool
     matches!(column, Column::InOctets | Column::OutOctets)
 }
 
-/// Returns how values of a column are shown, by the kind of the newest sample; without one the column
-/// decides.
+/// Returns how values of a column are shown, by the kind of the newest sample; without one the
+/// column decides.
 fn measure_of(column: Column, samples: &[Sample]) -> Measure
     ensures { result ≡ measure_of column (newest_of samples.now) }
 {
@@ -392,7 +409,8 @@ fn put_rate(
     unit: Unit,
     thousandths: u128,
 ) -> Result<(), AllocError>
-    ensures { OnOk result (string_bytes text.new ≡ string_bytes text.old ++ rate_text unit thousandths) }
+    ensures { OnOk result (string_bytes text.new ≡ string_bytes text.old
+        ++ rate_text unit thousandths) }
 {
     let rate = rate_text(alloc, unit, thousandths)?;
     text.push_str(rate.as_str())
@@ -411,7 +429,8 @@ fn put_number(text: &mut String, thousandths: i128) -> Result<(), AllocError>
 /// Adds thousandths as a decimal number.
 #[tactic(auto, unfolding(crate::specs::Changes::thousandths_text))]
 fn put_thousandths(text: &mut String, thousandths: u128) -> Result<(), AllocError>
-    ensures { OnOk result (string_bytes text.new ≡ string_bytes text.old ++ thousandths_text thousandths) }
+    ensures { OnOk result (string_bytes text.new ≡ string_bytes text.old
+        ++ thousandths_text thousandths) }
 {
     let whole = thousandths / 1000;
     write!(text, "{whole}")?;
@@ -420,7 +439,8 @@ fn put_thousandths(text: &mut String, thousandths: u128) -> Result<(), AllocErro
 
 /// Adds what is behind the point of thousandths in decimal, without zeros at its end.
 fn put_fraction(text: &mut String, thousandths: u128) -> Result<(), AllocError>
-    ensures { OnOk result (string_bytes text.new ≡ string_bytes text.old ++ fraction_text thousandths) }
+    ensures { OnOk result (string_bytes text.new ≡ string_bytes text.old
+        ++ fraction_text thousandths) }
 {
     if thousandths % 1000 == 0 {
         return Ok(());
@@ -437,15 +457,16 @@ fn put_fraction(text: &mut String, thousandths: u128) -> Result<(), AllocError>
     write!(text, ".{tenths}{hundredths}{last}")
 }
 
-/// Returns the value by which an alarm was raised or cleared, if these samples have it, which follow
-/// one or none.
+/// Returns the value by which an alarm was raised or cleared, if these samples have it, which
+/// follow one or none.
 fn level_by(
     rule: &Rule,
     event: AlarmEvent,
     before: Option<&Sample>,
     samples: &[Sample],
 ) -> Option<i128>
-    ensures level { result ≡ option_map (λ o. o.level) (find (is_by rule.now event) (observations_from (option_copied before.entry) samples.now)) }
+    ensures level { result ≡ option_map (λ o. o.level) (find (is_by rule.now event)
+        (observations_from (option_copied before.entry) samples.now)) }
     ensures small { IfSome result (λ z. z ≤ℤ pos (2 ^ 100)) }
 {
     let [first, rest @ ..] = samples else {

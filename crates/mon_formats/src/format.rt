@@ -71,9 +71,12 @@ pub fn format_report<S: NameTexts>(
     entries: &[Entry],
     extras: Extras<'_>,
 ) -> Result<Vec<u8>, AllocError>
-    ensures text { IfOk result (λ text. text.items ≡ formatted format (S.shown names.now) entries.now (option_map (λ f. f.now) extras.entry.station) extras.entry.labels.now extras.entry.presentation.now) }
+    ensures text { IfOk result (λ text. text.items ≡ formatted format (S.shown names.now)
+        entries.now (option_map (λ f. f.now) extras.entry.station) extras.entry.labels.now
+        extras.entry.presentation.now) }
     // JSON reads back as the value of the report (RFC 8259).
-    ensures read_back { format ≡ Json → IfOk result (λ text. ReadsAsReport (S.shown names.now) entries.now (option_map (λ f. f.now) extras.entry.station) text.items) }
+    ensures read_back { format ≡ Json → IfOk result (λ text. ReadsAsReport (S.shown names.now)
+        entries.now (option_map (λ f. f.now) extras.entry.station) text.items) }
 {
     let alloc = *buffer.allocator();
     match format {

@@ -28,27 +28,37 @@ pub fn names_in_numbers()
     ensures { (entries : List Entry) → named_report dotted entries ≡ report_of entries }
 {}
 
-/// Equal watches with equal windows have equal reports in each format, where names are shown alike, the station says the same, and the same labels and presentation are given.
+/// Equal watches with equal windows have equal reports in each format, where names are shown alike,
+/// the station says the same, and the same labels and presentation are given.
 pub fn equal_windows()
-    ensures { (format : Format) (shown : List ℕ → List ℕ) (watch : Watch) (some others : ℕ → Samples) (station : Option Figures) (labels : List InstanceLabels) (presentation : Presentation) → ((i : ℕ) → some i ≡ others i)
-        → report_in format shown watch some station labels presentation ≡ report_in format shown watch others station labels presentation }
+    ensures { (format : Format) (shown : List ℕ → List ℕ) (watch : Watch)
+        (some others : ℕ → Samples) (station : Option Figures) (labels : List InstanceLabels)
+        (presentation : Presentation) → ((i : ℕ) → some i ≡ others i)
+        → report_in format shown watch some station labels presentation
+        ≡ report_in format shown watch others station labels presentation }
 {}
 
-/// Equal watches that took the same samples, in whatever order and however often, have equal reports in each format.
+/// Equal watches that took the same samples, in whatever order and however often, have equal
+/// reports in each format.
 pub fn equal_samples()
-    ensures { (format : Format) (shown : List ℕ → List ℕ) (watch : Watch) (some others : List (ℕ × ℕ)) (station : Option Figures) (labels : List InstanceLabels) (presentation : Presentation) → IsPartOf some others → IsPartOf others some
-        → report_in format shown watch (window watch some) station labels presentation ≡ report_in format shown watch (window watch others) station labels presentation }
+    ensures { (format : Format) (shown : List ℕ → List ℕ) (watch : Watch)
+        (some others : List (ℕ × ℕ)) (station : Option Figures) (labels : List InstanceLabels)
+        (presentation : Presentation) → IsPartOf some others → IsPartOf others some
+        → report_in format shown watch (window watch some) station labels presentation
+        ≡ report_in format shown watch (window watch others) station labels presentation }
 {
     mon_board::laws::windows_meet();
 }
 
-/// The value of a label, read as Prometheus reads it up to its closing quote, is the text that was escaped.
+/// The value of a label, read as Prometheus reads it up to its closing quote, is the text that was
+/// escaped.
 pub fn label_read_back()
-    ensures { (value rest : List ℕ) → read_value (flat_map escaped value ++ 34 ∷ rest) ≡ Some (value, rest) }
+    ensures { (value rest : List ℕ) → read_value (flat_map escaped value ++ 34 ∷ rest)
+        ≡ Some (value, rest) }
 {}
 
-/// In OpenMetrics the samples of each metric have its family's name and the suffix that its type has:
-/// `_total` for a counter, `_info` for an info, none for a gauge.
+/// In OpenMetrics the samples of each metric have its family's name and the suffix that its type
+/// has: `_total` for a counter, `_info` for an info, none for a gauge.
 pub fn families()
     ensures instances { (metric : Metric) → IsNamed (type_of metric) (name_of metric) }
     ensures station { (metric : StationMetric) → IsNamed (station_type metric) (station_name metric) }
@@ -59,7 +69,9 @@ pub fn families()
 /// No text of help has an octet that a format escapes.
 pub fn helps()
     ensures instances { (metric : Metric) → flat_map escaped (help_of metric) ≡ help_of metric }
-    ensures station { (metric : StationMetric) → flat_map escaped (station_help metric) ≡ station_help metric }
+    ensures station { (metric : StationMetric) → flat_map escaped (station_help metric)
+        ≡ station_help metric }
     ensures peers { (metric : PeerMetric) → flat_map escaped (peer_help metric) ≡ peer_help metric }
-    ensures targets { (metric : TargetMetric) → flat_map escaped (target_help metric) ≡ target_help metric }
+    ensures targets { (metric : TargetMetric) → flat_map escaped (target_help metric)
+        ≡ target_help metric }
 {}

@@ -1,5 +1,6 @@
-//! The formats of a report: lines of text, JSON, Prometheus' text format, a table for people, and a page for a browser.
-//! Contract: each is a function of the instances' windows and rules, and of how names are shown; so equal windows give equal octets.
+//! The formats of a report: lines of text, JSON, Prometheus' text format, a table for people, and a
+//! page for a browser. Contract: each is a function of the instances' windows and rules, and of how
+//! names are shown; so equal windows give equal octets.
 #![tactic(auto)]
 
 mod as_json;

@@ -35,7 +35,8 @@ fn put_lines<S: NameTexts>(
     names: &S,
     entries: &[Entry],
 ) -> Result<(), AllocError>
-    ensures { OnOk result (text.new.items ≡ text.old.items ++ flat_map (named_line (S.shown names.now)) entries.now) }
+    ensures { OnOk result (text.new.items ≡ text.old.items ++ flat_map
+        (named_line (S.shown names.now)) entries.now) }
 {
     for entry in entries {
         put_line(alloc, text, names, entry)?;
@@ -51,7 +52,8 @@ fn put_line<S: NameTexts>(
     names: &S,
     entry: &Entry,
 ) -> Result<(), AllocError>
-    ensures { OnOk result (text.new.items ≡ text.old.items ++ named_line (S.shown names.now) entry.now) }
+    ensures { OnOk result (text.new.items ≡ text.old.items ++ named_line (S.shown names.now)
+        entry.now) }
 {
     put_engine(alloc, text, entry)?;
     text.extend_from_slice(b" ")?;
@@ -85,7 +87,8 @@ fn put_name<S: NameTexts>(
 
 /// Adds the last line.
 fn put_end(alloc: Global, text: &mut Vec<u8>, entries: &[Entry]) -> Result<(), AllocError>
-    ensures { OnOk result (text.new.items ≡ text.old.items ++ end_line (length entries.now) (samples_in entries.now)) }
+    ensures { OnOk result (text.new.items ≡ text.old.items ++ end_line (length entries.now)
+        (samples_in entries.now)) }
 {
     let end = end_line(alloc, entries.len(), count_samples(entries))?;
     text.extend_from_slice(end.as_bytes())

@@ -298,7 +298,8 @@ fn put_lines(
 
 /// Adds the line of the newest value, if it is a counter's.
 fn put_counted(text: &mut Vec<u8>, labels: &[u8], samples: &[Sample]) -> Result<(), AllocError>
-    ensures { OnOk result (text.new.items ≡ text.old.items ++ counted_line labels.now (newest_of samples.now)) }
+    ensures { OnOk result (text.new.items ≡ text.old.items ++ counted_line labels.now
+        (newest_of samples.now)) }
 {
     let Some(newest) = samples.last() else {
         return Ok(());
@@ -311,7 +312,8 @@ fn put_counted(text: &mut Vec<u8>, labels: &[u8], samples: &[Sample]) -> Result<
 
 /// Adds the line of the newest value, if it is no counter's.
 fn put_number(text: &mut Vec<u8>, labels: &[u8], samples: &[Sample]) -> Result<(), AllocError>
-    ensures { OnOk result (text.new.items ≡ text.old.items ++ number_line labels.now (newest_of samples.now)) }
+    ensures { OnOk result (text.new.items ≡ text.old.items ++ number_line labels.now
+        (newest_of samples.now)) }
 {
     let Some(newest) = samples.last() else {
         return Ok(());
@@ -329,7 +331,8 @@ fn put_value(
     labels: &[u8],
     sample: &Sample,
 ) -> Result<(), AllocError>
-    ensures { OnOk result (text.new.items ≡ text.old.items ++ metric_line (name_of metric) labels.now (signed_decimal (value_of sample.now))) }
+    ensures { OnOk result (text.new.items ≡ text.old.items ++ metric_line (name_of metric)
+        labels.now (signed_decimal (value_of sample.now))) }
 {
     let mut buffer = Buffer::new();
     let number = buffer.format(sample.number());
@@ -352,7 +355,8 @@ fn put_rate(
     labels: &[u8],
     entry: &Entry,
 ) -> Result<(), AllocError>
-    ensures { OnOk result (text.new.items ≡ text.old.items ++ rate_line labels.now (rate_of entry.now.items)) }
+    ensures { OnOk result (text.new.items ≡ text.old.items ++ rate_line labels.now
+        (rate_of entry.now.items)) }
 {
     let Some(thousandths) = entry.totals().thousandths() else {
         return Ok(());
@@ -371,7 +375,8 @@ fn put_alarms(
     labels: &[u8],
     entry: &Entry,
 ) -> Result<(), AllocError>
-    ensures { OnOk result (text.new.items ≡ text.old.items ++ flat_map (alarm_line labels.now) entry.now.alarms) }
+    ensures { OnOk result (text.new.items ≡ text.old.items ++ flat_map (alarm_line labels.now)
+        entry.now.alarms) }
 {
     let alarms = entry.alarms(alloc)?;
     for alarm in &alarms {
@@ -380,7 +385,8 @@ fn put_alarms(
     Ok(())
 }
 
-/// Adds the line of an alarm: its rule's thresholds are labels, and its value says whether it is raised.
+/// Adds the line of an alarm: its rule's thresholds are labels, and its value says whether it is
+/// raised.
 fn put_alarm(
     alloc: Global,
     text: &mut Vec<u8>,
@@ -413,7 +419,8 @@ fn alarm_labels(alloc: Global, labels: &[u8], rule: &Rule) -> Result<Vec<u8>, Al
 /// Adds a threshold in thousandths as one more label.
 #[tactic(auto, unfolding(crate::specs::Prometheus::threshold_text))]
 fn put_threshold(labels: &mut Vec<u8>, label: &str, threshold: i64) -> Result<(), AllocError>
-    ensures { OnOk result (labels.new.items ≡ labels.old.items ++ threshold_text label.now threshold) }
+    ensures { OnOk result (labels.new.items ≡ labels.old.items
+        ++ threshold_text label.now threshold) }
 {
     let mut buffer = Buffer::new();
     labels.extend_from_slice(b",")?;

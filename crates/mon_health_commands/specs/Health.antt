@@ -28,9 +28,9 @@ pub record HappensAt {S : Type 0} (Connected : S → Type 0) (log : S → Option
   pub after : S
   pub happened : GoesOnBy Holds (log before) (log after)
 
--- Stations as the command reaches them. `Reached at seconds Holds` says that a stream was connected to an
--- address within so many seconds and that this holds of what happened at it; `Unreached at seconds kind`
--- that none could be, by an error of this kind.
+-- Stations as the command reaches them. `Reached at seconds Holds` says that a stream was connected
+-- to an address within so many seconds and that this holds of what happened at it;
+-- `Unreached at seconds kind` that none could be, by an error of this kind.
 pub record Stations : Type 1 where
   pub Reached : SocketAddr → ℕ → (List AtStream → Type 0) → Type 0
   pub Unreached : SocketAddr → ℕ → ErrorKind → Type 0
@@ -40,7 +40,8 @@ abbrev pub stations_by : {S : Type 0} → (Connected : SocketAddr → ℕ → S 
     → (Failed : SocketAddr → ℕ → Error → Type 0) → (log : S → Option (List AtStream)) → Stations
 stations_by Connected Failed log = record {
   Reached = λ at seconds Holds. HappensAt (Connected at seconds) log Holds;
-  Unreached = λ at seconds kind. (error : Error) × Failed at seconds error × (error_kind error ≡ kind);
+  Unreached = λ at seconds kind. (error : Error) × Failed at seconds error
+      × (error_kind error ≡ kind);
 }
 
 -- the address of a station, as a word gives it; or it is none
@@ -53,22 +54,27 @@ IsAddress word (Err failure) = (addr_of word ≡ Option.None)
 abbrev pub request_to : List ℕ → List ℕ
 request_to word = get_text word (codes "/healthz")
 
--- What came of asking the station at an address: no stream could be connected; or what happened at it
--- gave this.
+-- What came of asking the station at an address: no stream could be connected; or what happened at
+-- it gave this.
 abbrev pub IsOutcome : Stations → (word : List ℕ) → SocketAddr → Result ℕ Trouble → Type 0
-IsOutcome stations word at outcome = stations.Reached at limit (λ log. IsExchange (request_to word) log outcome)
+IsOutcome stations word at outcome = stations.Reached at limit
+    (λ log. IsExchange (request_to word) log outcome)
     ⊎ ((kind : ErrorKind) × stations.Unreached at limit kind × (outcome ≡ Err (Broken kind)))
 
 -- the station at an address answers with status 200; or it does not, which the failure says
 abbrev pub IsAsked : Stations → (word : List ℕ) → Addr → Result Unit Failure → Type 0
-IsAsked stations word addr (Ok done) = (at : SocketAddr) × (addr_in at ≡ Some addr) × IsOutcome stations word at (Ok 200)
+IsAsked stations word addr (Ok done) = (at : SocketAddr) × (addr_in at ≡ Some addr)
+    × IsOutcome stations word at (Ok 200)
 IsAsked stations word addr (Err failure) = IsMemory failure
     ⊎ ((at : SocketAddr) × (addr_in at ≡ Some addr)
-    × (((trouble : Trouble) × IsOutcome stations word at (Err trouble) × IsTroubled word trouble failure)
-    ⊎ ((status : ℕ) × (status ≢ 200) × IsOutcome stations word at (Ok status) × IsTroubled word (Status status) failure)))
+    × (((trouble : Trouble) × IsOutcome stations word at (Err trouble)
+    × IsTroubled word trouble failure)
+    ⊎ ((status : ℕ) × (status ≢ 200) × IsOutcome stations word at (Ok status)
+    × IsTroubled word (Status status) failure)))
 
--- The command `healthz`: the station at an address is asked for /healthz, and "healthy" is printed if it
--- answers with status 200.
+-- The command `healthz`: the station at an address is asked for /healthz, and "healthy" is printed
+-- if it answers with status 200.
 abbrev pub IsHealthz : Stations → (word : List ℕ) → List AtHost → Result Unit Failure → Type 0
-IsHealthz stations word = Then (Quietly (IsAddress word)) (λ at. Then (Quietly (IsAsked stations word at))
+IsHealthz stations word = Then (Quietly (IsAddress word)) (λ at. Then
+    (Quietly (IsAsked stations word at))
     (λ done. IsPrint (codes "healthy\n")))

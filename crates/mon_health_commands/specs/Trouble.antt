@@ -10,7 +10,9 @@ use Rattle.mon_faults.specs.Fault.{innermost_of}
 use Rattle.mon_faults.specs.declared.fault.Fault.{Fault}
 use Rattle.mon_faults.specs.declared.fault.Fault.TheVariants.{App}
 use Rattle.mon_health_commands.specs.declared.trouble.Trouble.{Trouble}
-use Rattle.mon_health_commands.specs.declared.trouble.Trouble.TheVariants.{Broken, Closed, Malformed, Scattered, Status}
+use Rattle.mon_health_commands.specs.declared.trouble.Trouble.TheVariants.{Broken, Closed}
+use Rattle.mon_health_commands.specs.declared.trouble.Trouble.TheVariants.{Malformed, Scattered}
+use Rattle.mon_health_commands.specs.declared.trouble.Trouble.TheVariants.{Status}
 
 -- what is said of a call that failed
 abbrev pub broken_text : ErrorKind → List ℕ

@@ -29,7 +29,8 @@ pub(crate) fn exchange<S: Stream>(
     requires empty { seen.old.items ≡ [] }
     requires capacity { 8192 ≤ vec_capacity seen.old }
     requires buffer { length buffer.old ≡ 8192 }
-    ensures { GoesOnBy (λ log. IsExchange request.now log result) (S.log stream.old) (S.log stream.new) }
+    ensures { GoesOnBy (λ log. IsExchange request.now log result) (S.log stream.old)
+        (S.log stream.new) }
 {
     limit_reads(stream)?;
     limit_writes(stream)?;
@@ -39,7 +40,8 @@ pub(crate) fn exchange<S: Stream>(
 
 /// Limits the waits for octets.
 fn limit_reads<S: Stream>(stream: &mut S) -> Result<(), Trouble>
-    ensures { GoesOnBy (λ log. IsLimited (ReadsLimited 2) log result) (S.log stream.old) (S.log stream.new) }
+    ensures { GoesOnBy (λ log. IsLimited (ReadsLimited 2) log result) (S.log stream.old)
+        (S.log stream.new) }
 {
     match stream.limit_reads(LIMIT) {
         Ok(()) => Ok(()),
@@ -49,7 +51,8 @@ fn limit_reads<S: Stream>(stream: &mut S) -> Result<(), Trouble>
 
 /// Limits the waits of sendings.
 fn limit_writes<S: Stream>(stream: &mut S) -> Result<(), Trouble>
-    ensures { GoesOnBy (λ log. IsLimited (WritesLimited 2) log result) (S.log stream.old) (S.log stream.new) }
+    ensures { GoesOnBy (λ log. IsLimited (WritesLimited 2) log result) (S.log stream.old)
+        (S.log stream.new) }
 {
     match stream.limit_writes(LIMIT) {
         Ok(()) => Ok(()),
@@ -59,7 +62,8 @@ fn limit_writes<S: Stream>(stream: &mut S) -> Result<(), Trouble>
 
 /// Sends octets, in as many pieces as the stream takes them.
 fn send<S: Stream>(stream: &mut S, octets: &[u8]) -> Result<(), Trouble>
-    ensures { GoesOnBy (λ log. IsSending octets.now log result) (S.log stream.old) (S.log stream.new) }
+    ensures { GoesOnBy (λ log. IsSending octets.now log result) (S.log stream.old)
+        (S.log stream.new) }
 {
     if octets.is_empty() {
         return Ok(());

@@ -1,5 +1,6 @@
 -- What surroundings in memory have recorded.
-use Rattle.std.specs.Prelude.{◌≡◌, List, Option, Some, None, Bool, true, false, Result, Ok, Err, map, string_bytes}
+use Rattle.std.specs.Prelude.{◌≡◌, List, Option, Some, None, Bool, true, false, Result, Ok, Err}
+use Rattle.std.specs.Prelude.{map, string_bytes}
 use Rattle.std.specs.Result.{result_map_both}
 use Rattle.std.specs.declared.io.ErrorKind.{ErrorKind}
 use Rattle.std.specs.declared.io.ErrorKind.TheVariants.{Unsupported}

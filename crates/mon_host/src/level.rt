@@ -3,7 +3,8 @@
 ghost use Rattle.std.specs.Prelude.{◌≡◌};
 ghost use Rattle.mon_host.specs.Level.{mark};
 
-/// How grave a line on standard error is, by the levels that systemd's journal reads (sd-daemon(3)).
+/// How grave a line on standard error is, by the levels that systemd's journal reads
+/// (sd-daemon(3)).
 #[derive(Clone, Copy, Debug, PartialEq, Eq)]
 pub enum Level {
     /// The program ends by it, or the newest windows are on no disk.

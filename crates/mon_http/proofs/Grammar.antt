@@ -1,4 +1,5 @@
--- A request of the grammar ends where its head ends, and has as many lines as it has fields, and two.
+-- A request of the grammar ends where its head ends, and has as many lines as it has fields, and
+-- two.
 use native.Mathlib.Omega.{arith}
 use Rattle.std.proofs.Common.{◌≡◌, ◌≤◌, ◌<◌, ◌+◌, inl, ◌∙◌, ap, sym, subst, refl, ℕ, zero, suc, Bool, true, false, ◌&&◌, ◌||◌, ◌==◌, List, [], ◌∷◌, ◌++◌, Option, Some, option_map, length, take, cond, take_all, take_at}
 use Rattle.std.proofs.lemmas.Bool.Decides.{nat_tests}
@@ -14,7 +15,8 @@ use Rattle.mon_http.proofs.Fronts.{head_at}
 use Rattle.mon_http.proofs.Verdicts.{good_verdict, lines_append}
 use Rattle.mon_http.proofs.Talks.{head_found}
 
--- the text is a head, from a line that has no octet but CR so far if `blank`, and has that number of lines
+-- the text is a head, from a line that has no octet but CR so far if `blank`, and has that number
+-- of lines
 abbrev Ends : Bool → List ℕ → ℕ → Type 0
 Ends blank text lines = (head_length blank text ≡ Some (length text)) × (line_count text ≡ lines)
 

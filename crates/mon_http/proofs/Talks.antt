@@ -135,7 +135,8 @@ module _ (names : List (List ℕ)) where
       goes_on k (skip_line_ends (octets ++ more)) v rest true (judged_more octets more v front x) f
       (subst (λ (s : List ℕ). Talk names moments (k + 1) s rest true) (rest_more octets more v front x) after)
 
-  -- what a history comes to: nothing is skipped at the front of what is unread; where it closes, all is said; else what is unread goes on
+  -- what a history comes to: nothing is skipped at the front of what is unread; where it closes,
+  -- all is said; else what is unread goes on
   record Says (moments : ℕ → Moment) (k : ℕ) (got put : List ℕ) (c : Conversation) : Type 0 where
     front : skip_line_ends c.unread ≡ c.unread
     closed : c.closing ≡ true → (more : List ℕ) → Talk names moments 0 (skip_line_ends (got ++ more)) (put ++ c.unsent) true

@@ -1,5 +1,7 @@
 -- Which format of the figures a request accepts (RFC 9110, sections 12.4.2 and 12.5.1).
-use Rattle.std.specs.Prelude.{ℕ, ◌+◌, ◌-◌, ◌*◌, Bool, true, false, not, ◌&&◌, ◌||◌, List, [], ◌∷◌, map, fold, length, take, drop, slice_index, Option, Some, None, codes, ◌==◌, nat_le, nat_lt, bytes_eq, flat_map, if◌then◌else◌}
+use Rattle.std.specs.Prelude.{ℕ, ◌+◌, ◌-◌, ◌*◌, Bool, true, false, not, ◌&&◌, ◌||◌, List, [], ◌∷◌}
+use Rattle.std.specs.Prelude.{map, fold, length, take, drop, slice_index, Option, Some, None, codes}
+use Rattle.std.specs.Prelude.{◌==◌, nat_le, nat_lt, bytes_eq, flat_map, if◌then◌else◌}
 use Rattle.std.specs.List.{list_all}
 use Rattle.std.specs.Option.{is_some}
 use Rattle.std.specs.Borrow.{Bor}
@@ -50,14 +52,16 @@ parameters_of range = if has_octet 59 range then parts 59 (after_first 59 range)
 -- Two tokens with an octet between them.
 abbrev pub is_pair : (between : ℕ) → List ℕ → Bool
 is_pair between text =
-    has_octet between text && (is_token (before between between text) && is_token (after_first between text))
+    has_octet between text && (is_token (before between between text)
+    && is_token (after_first between text))
 
--- A type and a subtype (RFC 9110, section 8.3.1). The asterisk of `*/*` and `text/*` is a token too.
+-- A type and a subtype (RFC 9110, section 8.3.1). The asterisk of `*/*` and `text/*` is a token
+-- too.
 abbrev pub is_kind : List ℕ → Bool
 is_kind text = is_pair 47 text
 
--- A parameter (RFC 9110, section 5.6.6), or nothing, which may be where one could be. Its value is a
--- token here: a field with a quoted string counts as one that is not by the grammar.
+-- A parameter (RFC 9110, section 5.6.6), or nothing, which may be where one could be. Its value is
+-- a token here: a field with a quoted string counts as one that is not by the grammar.
 abbrev pub is_parameter : List ℕ → Bool
 is_parameter text = (length text == 0) || is_pair 61 text
 
@@ -106,7 +110,8 @@ quality_of range = quality_by (value_in (codes "q") (parameters_of range))
 -- a media range with its parameters and weight
 abbrev pub is_range : List ℕ → Bool
 is_range text =
-    is_kind (kind_of text) && (list_all is_parameter (parameters_of text) && is_some (quality_of text))
+    is_kind (kind_of text) && (list_all is_parameter (parameters_of text)
+    && is_some (quality_of text))
 
 -- an element of the list: a media range, or nothing, which is ignored (RFC 9110, section 5.6.1.2)
 abbrev pub is_element : List ℕ → Bool

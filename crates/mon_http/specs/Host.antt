@@ -1,5 +1,6 @@
 -- The host that a request is for: what is one, and which are served (RFC 9110, section 7.2).
-use Rattle.std.specs.Prelude.{ℕ, zero, suc, ◌+◌, Bool, not, ◌&&◌, ◌||◌, List, [], ◌∷◌, length, drop, slice_index, nat_lt, nat_le, ◌==◌, codes, count_by, if◌then◌else◌}
+use Rattle.std.specs.Prelude.{ℕ, zero, suc, ◌+◌, Bool, not, ◌&&◌, ◌||◌, List, [], ◌∷◌, length, drop}
+use Rattle.std.specs.Prelude.{slice_index, nat_lt, nat_le, ◌==◌, codes, count_by, if◌then◌else◌}
 use Rattle.std.specs.List.{list_all, list_any}
 use Rattle.std.specs.Char.{is_ascii_alphanumeric, is_ascii_digit, is_ascii_hexdigit}
 use Rattle.http1.specs.Fields.{Header, is_named}
@@ -9,18 +10,22 @@ use Rattle.mon_http.specs.Route.{authority_of, before, is_absolute}
 -- an octet of a name that stands for itself: unreserved or a sub-delimiter (RFC 3986, section 2)
 abbrev pub is_name_octet : ℕ → Bool
 is_name_octet b =
-    is_ascii_alphanumeric b || (b == 45) || (b == 46) || (b == 95) || (b == 126) || (b == 33) || (b == 36) || (b == 38)
-    || (b == 39) || (b == 40) || (b == 41) || (b == 42) || (b == 43) || (b == 44) || (b == 59) || (b == 61)
+    is_ascii_alphanumeric b || (b == 45) || (b == 46) || (b == 95) || (b == 126) || (b == 33)
+    || (b == 36) || (b == 38)
+    || (b == 39) || (b == 40) || (b == 41) || (b == 42) || (b == 43) || (b == 44) || (b == 59)
+    || (b == 61)
 
 -- A registered name (RFC 3986, section 3.2.2), after a `%` of which this many digits are missing.
 abbrev pub is_name_from : ℕ → List ℕ → Bool
 is_name_from missing [] = missing == 0
-is_name_from zero (b ∷ bs) = if b == 37 then is_name_from 2 bs else is_name_octet b && is_name_from 0 bs
+is_name_from zero (b ∷ bs) = if b == 37 then is_name_from 2 bs
+    else is_name_octet b && is_name_from 0 bs
 is_name_from (suc missing) (b ∷ bs) = is_ascii_hexdigit b && is_name_from missing bs
 
 -- nothing, or a colon and digits
 abbrev pub is_port : List ℕ → Bool
-is_port text = (length text == 0) || ((slice_index text 0 == 58) && list_all is_ascii_digit (drop 1 text))
+is_port text = (length text == 0) || ((slice_index text 0 == 58)
+    && list_all is_ascii_digit (drop 1 text))
 
 -- an octet of an IPv6 address
 abbrev pub is_literal_octet : ℕ → Bool

@@ -1,8 +1,10 @@
 -- What is served at which request target.
-use Rattle.std.specs.Prelude.{ℕ, Bool, true, false, List, [], ◌∷◌, Option, Some, None, take, drop, length, codes, ◌&&◌, ◌||◌, ◌==◌, nat_le, bytes_eq, if◌then◌else◌}
+use Rattle.std.specs.Prelude.{ℕ, Bool, true, false, List, [], ◌∷◌, Option, Some, None, take, drop}
+use Rattle.std.specs.Prelude.{length, codes, ◌&&◌, ◌||◌, ◌==◌, nat_le, bytes_eq, if◌then◌else◌}
 use Rattle.http1.specs.Text.{eq_ignore_case}
 use Rattle.mon_http.specs.declared.route.Route.{Route}
-use Rattle.mon_http.specs.declared.route.Route.TheVariants.{Metrics, OpenMetrics, Report, Page, Health}
+use Rattle.mon_http.specs.declared.route.Route.TheVariants.{Metrics, OpenMetrics, Report, Page}
+use Rattle.mon_http.specs.declared.route.Route.TheVariants.{Health}
 
 -- the octets before the first that is one of these two
 abbrev pub before : ℕ → ℕ → List ℕ → List ℕ
@@ -24,7 +26,8 @@ authority_of target = before 47 63 (drop 7 target)
 -- a target in origin form: an absolute one without its scheme and authority, else the target itself
 abbrev pub origin_form : List ℕ → List ℕ
 origin_form target =
-    if is_absolute target then or_root (drop (length (authority_of target)) (drop 7 target)) else target
+    if is_absolute target then or_root (drop (length (authority_of target)) (drop 7 target))
+    else target
 
 -- the path of a request target, without its query (RFC 3986, section 3.4)
 abbrev pub path_of : List ℕ → List ℕ

@@ -9,4 +9,5 @@ after n place = option_map (λ k. n + k) place
 -- no head ends within the first n octets; the line there has no octet but CR so far if `blank`
 abbrev pub IsScanned : List ℕ → ℕ → Bool → Type 0
 IsScanned octets n blank =
-    (more : List ℕ) → head_length false (octets ++ more) ≡ after n (head_length blank (drop n octets ++ more))
+    (more : List ℕ) → head_length false (octets ++ more) ≡ after n
+    (head_length blank (drop n octets ++ more))

@@ -292,7 +292,8 @@ fn quality_by(q: Option<&[u8]>) -> Option<u32>
     }
 }
 
-/// Returns the quality of a media range in thousandths, or `None` if its weight is no quality value.
+/// Returns the quality of a media range in thousandths, or `None` if its weight is no quality
+/// value.
 fn quality_of(range: &[u8]) -> Option<u32>
     ensures { result ≡ quality_of range.now }
 {

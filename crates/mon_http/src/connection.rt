@@ -46,9 +46,14 @@ impl Model for Connection {
 
     ghost Value = { Conversation };
 
-    ghost view = { λ c. record { unread = c.input.items; unsent = drop c.sent c.output.items; closing = c.is_closing } };
+    ghost view = { λ c. record {
+      unread = c.input.items;
+      unsent = drop c.sent c.output.items;
+      closing = c.is_closing;
+    } };
 
-    ghost invariant = { λ c. (vec_len c.input ≤ 8192) × (8192 ≤ vec_capacity c.input) × (c.sent ≤ vec_len c.output)
+    ghost invariant = { λ c. (vec_len c.input ≤ 8192) × (8192 ≤ vec_capacity c.input)
+        × (c.sent ≤ vec_len c.output)
         × (c.scanned ≤ vec_len c.input) × (skip_line_ends c.input.items ≡ c.input.items)
         × IsScanned c.input.items c.scanned c.is_blank };
 }
@@ -191,17 +196,20 @@ impl Connection {
         self.is_closing = !keep_alive;
     }
 
-    /// Judges what came, once all that was pending is sent. A bad head is refused at once; a request is
-    /// left for [`Connection::answer`]. Hosts of these names are served, `localhost` and addresses.
+    /// Judges what came, once all that was pending is sent. A bad head is refused at once; a
+    /// request is left for [`Connection::answer`]. Hosts of these names are served, `localhost` and
+    /// addresses.
     ///
     /// # Errors
     /// `AllocError` if there is no memory for a refusal; nothing changes then.
     pub fn step(&mut self, date: Option<HttpDate>, names: &[String]) -> Result<Step, AllocError>
         requires open { self.old.closing ≡ false }
         requires sent { self.old.unsent ≡ [] }
-        ensures done { IfOk result (λ step. IsStep (map string_bytes names.now) date self.old step self.new) }
+        ensures done { IfOk result (λ step. IsStep (map string_bytes names.now) date self.old step
+            self.new) }
         ensures kept { OnErr result (self.new ≡ self.old) }
-        ensures cause { OnErr result ((refusal : RefusalData) × IsJudged (map string_bytes names.now) self.old.unread (Verdicts.Refused refusal)) }
+        ensures cause { OnErr result ((refusal : RefusalData)
+            × IsJudged (map string_bytes names.now) self.old.unread (Verdicts.Refused refusal)) }
     {
         match self.progress(names) {
             None => Ok(Step::Wait),
@@ -228,9 +236,11 @@ impl Connection {
     ) -> Result<(), AllocError>
         requires open { self.old.closing ≡ false }
         requires sent { self.old.unsent ≡ [] }
-        requires asked { IsJudged (map string_bytes names.now) self.old.unread (Verdicts.Asked request) }
+        requires asked { IsJudged (map string_bytes names.now) self.old.unread
+            (Verdicts.Asked request) }
         requires fits { IsTrue (fits request.route answer) }
-        ensures answered { OnOk result (self.new ≡ with_reply date request (reply_of answer.entry) self.old) }
+        ensures answered { OnOk result (self.new ≡ with_reply date request (reply_of answer.entry)
+            self.old) }
         ensures kept { OnErr result (self.new ≡ self.old) }
     {
         // They are only what the request was judged by: nothing is looked up in them again.

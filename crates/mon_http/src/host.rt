@@ -151,7 +151,8 @@ fn is_dotted(name: &[u8]) -> bool
 
 /// Returns `true` if the name is one of these, in any case.
 fn is_one_of(name: &[u8], names: &[String]) -> bool
-    ensures { result ≡ list_any (λ known. eq_ignore_case name.now known) (map string_bytes names.now) }
+    ensures { result ≡ list_any (λ known. eq_ignore_case name.now known)
+        (map string_bytes names.now) }
 {
     match names {
         [] => false,
@@ -159,8 +160,8 @@ fn is_one_of(name: &[u8], names: &[String]) -> bool
     }
 }
 
-/// Returns `true` if a host is served: it is an address, or nothing, or `localhost`, or one of these
-/// names.
+/// Returns `true` if a host is served: it is an address, or nothing, or `localhost`, or one of
+/// these names.
 pub(crate) fn is_served_host(names: &[String], host: &[u8]) -> bool
     ensures { result ≡ is_served_host (map string_bytes names.now) host.now }
 {

@@ -1,7 +1,8 @@
-//! HTTP/1.1 for a station that is scraped and looked at (RFC 9110 and RFC 9112): octets in, octets out.
+//! HTTP/1.1 for a station that is scraped and looked at (RFC 9110 and RFC 9112): octets in, octets
+//! out.
 //!
-//! It has no socket and no clock. A caller hands it the octets that it received, makes what a request asks for,
-//! and sends what is pending.
+//! It has no socket and no clock. A caller hands it the octets that it received, makes what a
+//! request asks for, and sends what is pending.
 #![tactic(auto)]
 
 mod accept;

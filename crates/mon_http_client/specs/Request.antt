@@ -9,12 +9,14 @@ request_line method path = method ++ codes " " ++ path ++ codes " HTTP/1.1\r\n"
 unfoldable pub field_text : (name value : List ℕ) → List ℕ
 field_text name value = name ++ codes ": " ++ value ++ codes "\r\n"
 
--- The request line, and the fields that each request has: its host (RFC 9110, section 7.2), what sends it
--- (section 10.1.5), and that the connection closes after the response (RFC 9112, section 9.6).
+-- The request line, and the fields that each request has: its host (RFC 9110, section 7.2), what
+-- sends it (section 10.1.5), and that the connection closes after the response (RFC 9112, section
+-- 9.6).
 unfoldable pub head_text : (method host path : List ℕ) → List ℕ
 head_text method host path =
     request_line method path ++ field_text (codes "Host") host
-    ++ field_text (codes "User-Agent") (codes "snmpmon") ++ field_text (codes "Connection") (codes "close")
+    ++ field_text (codes "User-Agent") (codes "snmpmon") ++ field_text (codes "Connection")
+    (codes "close")
 
 -- a GET of a path (RFC 9110, section 9.3.1)
 unfoldable pub get_text : (host path : List ℕ) → List ℕ
@@ -31,4 +33,5 @@ length_field len = field_text (codes "Content-Length") (decimal len)
 -- a POST of a body of JSON to a path (RFC 9110, section 9.3.3)
 unfoldable pub post_text : (host path body : List ℕ) → List ℕ
 post_text host path body =
-    head_text (codes "POST") host path ++ type_field ++ length_field (length body) ++ codes "\r\n" ++ body
+    head_text (codes "POST") host path ++ type_field ++ length_field (length body) ++ codes "\r\n"
+    ++ body

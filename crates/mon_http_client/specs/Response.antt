@@ -1,5 +1,7 @@
--- What a client reads of the octets that come: heads of interim responses, and the head of the response.
-use Rattle.std.specs.Prelude.{◌≡◌, ◌≤◌, ◌<◌, ◌+◌, ◌⊎◌, ℕ, false, List, [], Option, Some, None, Result, Ok, Err, length, take, drop, ◌==◌, nat_lt, if◌then◌else◌}
+-- What a client reads of the octets that come: heads of interim responses, and the head of the
+-- response.
+use Rattle.std.specs.Prelude.{◌≡◌, ◌≤◌, ◌<◌, ◌+◌, ◌⊎◌, ℕ, false, List, [], Option, Some, None}
+use Rattle.std.specs.Prelude.{Result, Ok, Err, length, take, drop, ◌==◌, nat_lt, if◌then◌else◌}
 use Rattle.httparse.specs.declared.Error.{Error}
 use Rattle.httparse.specs.declared.Status.{Status}
 use Rattle.httparse.specs.declared.Status.TheVariants.{Complete, Partial}
@@ -19,13 +21,15 @@ most_octets = 8192
 abbrev pub most_fields : ℕ
 most_fields = 32
 
--- the head is one of the grammar (RFC 9112, sections 4 and 5) with at most 32 fields, and has this status
+-- the head is one of the grammar (RFC 9112, sections 4 and 5) with at most 32 fields, and has this
+-- status
 abbrev pub HasStatus : List ℕ → ℕ → Type 0
 HasStatus head status =
-    (h : ResponseHead) × ReadsResponse head h [] × (length h.fields ≤ most_fields) × (status ≡ status_code h)
+    (h : ResponseHead) × ReadsResponse head h [] × (length h.fields ≤ most_fields)
+    × (status ≡ status_code h)
 
--- the head is no response: it is none of the grammar, has more fields, or a status that none has (RFC
--- 9110, section 15)
+-- the head is no response: it is none of the grammar, has more fields, or a status that none has
+-- (RFC 9110, section 15)
 abbrev pub IsBad : List ℕ → Type 0
 IsBad head = (status : ℕ) → HasStatus head status → (status < 100) ⊎ (599 < status)
 
@@ -43,14 +47,17 @@ IsHead head Interim = IsInterim head
 IsHead head (Final status) = IsFinal head status
 IsHead head Bad = IsBad head
 
--- What octets come to, before which `past` octets of interim responses came. They are all that came, or
--- the first of it that are looked at.
+-- What octets come to, before which `past` octets of interim responses came. They are all that
+-- came, or the first of it that are looked at.
 pub data ReadsFrom : ℕ → List ℕ → Progress → Type 0 where
-  waits : (past : ℕ) (octets : List ℕ) → head_length false octets ≡ None → past + length octets < most_octets
+  waits : (past : ℕ) (octets : List ℕ) → head_length false octets ≡ None
+      → past + length octets < most_octets
       → ReadsFrom past octets More
-  overflows : (past : ℕ) (octets : List ℕ) → head_length false octets ≡ None → most_octets ≤ past + length octets
+  overflows : (past : ℕ) (octets : List ℕ) → head_length false octets ≡ None
+      → most_octets ≤ past + length octets
       → ReadsFrom past octets Refused
-  fails : (past : ℕ) (octets : List ℕ) (n : ℕ) → head_length false octets ≡ Some n → IsBad (take n octets)
+  fails : (past : ℕ) (octets : List ℕ) (n : ℕ) → head_length false octets ≡ Some n
+      → IsBad (take n octets)
       → ReadsFrom past octets Refused
   ends : (past : ℕ) (octets : List ℕ) (n status : ℕ) → head_length false octets ≡ Some n
       → IsFinal (take n octets) status → ReadsFrom past octets (Response status (past + n))
@@ -71,4 +78,5 @@ whole_of (Err fault) len = None
 abbrev pub head_of : Option ℕ → Head
 head_of None = Bad
 head_of (Some status) =
-    if nat_lt status 100 then Bad else if nat_lt status 200 then Interim else if nat_lt 599 status then Bad else Final status
+    if nat_lt status 100 then Bad else if nat_lt status 200 then Interim else if nat_lt 599 status
+    then Bad else Final status

@@ -1,24 +1,29 @@
 -- The target that a URL names (RFC 9110, section 4.2.1; RFC 3986, section 3).
-use Rattle.std.specs.Prelude.{ℕ, ◌-◌, Bool, ◌&&◌, ◌||◌, not, List, [], ◌∷◌, Option, Some, None, Result, Ok, Err, take, drop, length, codes, ◌==◌, bytes_eq, nat_lt, if◌then◌else◌}
+use Rattle.std.specs.Prelude.{ℕ, ◌-◌, Bool, ◌&&◌, ◌||◌, not, List, [], ◌∷◌, Option, Some, None}
+use Rattle.std.specs.Prelude.{Result, Ok, Err, take, drop, length, codes, ◌==◌, bytes_eq, nat_lt}
+use Rattle.std.specs.Prelude.{if◌then◌else◌}
 use Rattle.std.specs.List.{list_any}
 use Rattle.std.specs.Char.{is_ascii_alphanumeric, is_ascii_hexdigit}
 use Rattle.mon_udp.specs.declared.addr.Addr.{Addr}
 use Rattle.mon_udp.specs.Addr.{addr_of}
 use Rattle.mon_http_client.specs.declared.target.TargetFault.{TargetFault}
-use Rattle.mon_http_client.specs.declared.target.TargetFault.TheVariants.{Https, Scheme, UserInfo, Ipv6, Address, Port, Fragment, Path}
+use Rattle.mon_http_client.specs.declared.target.TargetFault.TheVariants.{Https, Scheme, UserInfo}
+use Rattle.mon_http_client.specs.declared.target.TargetFault.TheVariants.{Ipv6, Address, Port}
+use Rattle.mon_http_client.specs.declared.target.TargetFault.TheVariants.{Fragment, Path}
 
 -- the octets before the first slash
 abbrev pub before_slash : List ℕ → List ℕ
 before_slash [] = []
 before_slash (octet ∷ octets) = if octet == 47 then [] else octet ∷ before_slash octets
 
--- an octet of a path or a query by itself: an unreserved character, a sub-delimiter, `:` or `@`, a slash or
--- a question mark (RFC 3986, sections 2.2, 2.3, 3.3 and 3.4)
+-- an octet of a path or a query by itself: an unreserved character, a sub-delimiter, `:` or `@`, a
+-- slash or a question mark (RFC 3986, sections 2.2, 2.3, 3.3 and 3.4)
 abbrev pub is_path_octet : ℕ → Bool
-is_path_octet octet = is_ascii_alphanumeric octet || list_any (λ b. b == octet) (codes "-._~!$&'()*+,;=:@/?")
+is_path_octet octet = is_ascii_alphanumeric octet || list_any (λ b. b == octet)
+    (codes "-._~!$&'()*+,;=:@/?")
 
--- Octets of a path or a query, of which the first `owed` are hexadecimal digits after a percent sign, which
--- has two of them (RFC 3986, section 2.1).
+-- Octets of a path or a query, of which the first `owed` are hexadecimal digits after a percent
+-- sign, which has two of them (RFC 3986, section 2.1).
 abbrev pub passes : ℕ → List ℕ → Bool
 passes owed [] = owed == 0
 passes owed (octet ∷ octets) =
@@ -51,12 +56,14 @@ path_in rest =
     else Ok (or_root rest)
 
 -- a host, its address, and a path
-abbrev pub with_path : List ℕ → Addr → Result (List ℕ) TargetFault → Result (List ℕ × Addr × List ℕ) TargetFault
+abbrev pub with_path : List ℕ → Addr → Result (List ℕ) TargetFault
+    → Result (List ℕ × Addr × List ℕ) TargetFault
 with_path host address (Ok path) = Ok (host, address, path)
 with_path host address (Err fault) = Err fault
 
 -- a host with its address, and the path of what follows it
-abbrev pub with_address : List ℕ → Result Addr TargetFault → List ℕ → Result (List ℕ × Addr × List ℕ) TargetFault
+abbrev pub with_address : List ℕ → Result Addr TargetFault → List ℕ
+    → Result (List ℕ × Addr × List ℕ) TargetFault
 with_address host (Ok address) rest = with_path host address (path_in rest)
 with_address host (Err fault) rest = Err fault
 

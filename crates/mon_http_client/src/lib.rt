@@ -1,5 +1,5 @@
-//! An HTTP/1.1 client's side, without a socket (RFC 9110 and RFC 9112): the text of a request, the target
-//! that a URL names, and what octets that came come to.
+//! An HTTP/1.1 client's side, without a socket (RFC 9110 and RFC 9112): the text of a request, the
+//! target that a URL names, and what octets that came come to.
 #![tactic(auto)]
 
 pub mod laws;

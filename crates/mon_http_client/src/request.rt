@@ -18,9 +18,11 @@ fn put(text: &mut Vec<u8>, octets: &[u8]) -> Result<(), AllocError>
 /// Adds the request line.
 #[tactic(auto, unfolding(crate::specs::Request::request_line))]
 fn put_line(text: &mut Vec<u8>, method: &[u8], path: &[u8]) -> Result<(), AllocError>
-    ensures added { OnOk result (text.new.items ≡ text.old.items ++ request_line method.now path.now) }
+    ensures added { OnOk result (text.new.items ≡ text.old.items
+        ++ request_line method.now path.now) }
     ensures capacity { vec_capacity text.old ≤ vec_capacity text.new }
-    ensures full { OnErr result (vec_capacity text.old < length text.old.items + length (request_line method.now path.now)) }
+    ensures full { OnErr result (vec_capacity text.old < length text.old.items
+        + length (request_line method.now path.now)) }
 {
     put(text, method)?;
     put(text, b" ")?;
@@ -33,7 +35,8 @@ fn put_line(text: &mut Vec<u8>, method: &[u8], path: &[u8]) -> Result<(), AllocE
 fn put_field(text: &mut Vec<u8>, name: &[u8], value: &[u8]) -> Result<(), AllocError>
     ensures added { OnOk result (text.new.items ≡ text.old.items ++ field_text name.now value.now) }
     ensures capacity { vec_capacity text.old ≤ vec_capacity text.new }
-    ensures full { OnErr result (vec_capacity text.old < length text.old.items + length (field_text name.now value.now)) }
+    ensures full { OnErr result (vec_capacity text.old < length text.old.items
+        + length (field_text name.now value.now)) }
 {
     put(text, name)?;
     put(text, b": ")?;
@@ -44,9 +47,11 @@ fn put_field(text: &mut Vec<u8>, name: &[u8], value: &[u8]) -> Result<(), AllocE
 /// Adds the request line and the fields that every request has.
 #[tactic(auto, unfolding(crate::specs::Request::head_text))]
 fn put_head(text: &mut Vec<u8>, method: &[u8], host: &[u8], path: &[u8]) -> Result<(), AllocError>
-    ensures added { OnOk result (text.new.items ≡ text.old.items ++ head_text method.now host.now path.now) }
+    ensures added { OnOk result (text.new.items ≡ text.old.items
+        ++ head_text method.now host.now path.now) }
     ensures capacity { vec_capacity text.old ≤ vec_capacity text.new }
-    ensures full { OnErr result (vec_capacity text.old < length text.old.items + length (head_text method.now host.now path.now)) }
+    ensures full { OnErr result (vec_capacity text.old < length text.old.items
+        + length (head_text method.now host.now path.now)) }
 {
     put_line(text, method, path)?;
     put_field(text, b"Host", host)?;
@@ -62,7 +67,8 @@ fn put_head(text: &mut Vec<u8>, method: &[u8], host: &[u8], path: &[u8]) -> Resu
 pub fn put_get(text: &mut Vec<u8>, host: &[u8], path: &[u8]) -> Result<(), AllocError>
     ensures added { OnOk result (text.new.items ≡ text.old.items ++ get_text host.now path.now) }
     ensures capacity { vec_capacity text.old ≤ vec_capacity text.new }
-    ensures full { OnErr result (vec_capacity text.old < length text.old.items + length (get_text host.now path.now)) }
+    ensures full { OnErr result (vec_capacity text.old < length text.old.items
+        + length (get_text host.now path.now)) }
 {
     put_head(text, b"GET", host, path)?;
     put(text, b"\r\n")
@@ -83,7 +89,8 @@ fn put_type(text: &mut Vec<u8>) -> Result<(), AllocError>
 fn put_length(text: &mut Vec<u8>, len: usize) -> Result<(), AllocError>
     ensures added { OnOk result (text.new.items ≡ text.old.items ++ length_field len) }
     ensures capacity { vec_capacity text.old ≤ vec_capacity text.new }
-    ensures full { OnErr result (vec_capacity text.old < length text.old.items + length (length_field len)) }
+    ensures full { OnErr result (vec_capacity text.old < length text.old.items
+        + length (length_field len)) }
 {
     let mut digits = Buffer::new();
     put_field(text, b"Content-Length", digits.format(len).as_bytes())
@@ -95,9 +102,11 @@ fn put_length(text: &mut Vec<u8>, len: usize) -> Result<(), AllocError>
 /// `AllocError` if there is no memory for it.
 #[tactic(auto, unfolding(crate::specs::Request::post_text))]
 pub fn put_post(text: &mut Vec<u8>, host: &[u8], path: &[u8], body: &[u8]) -> Result<(), AllocError>
-    ensures added { OnOk result (text.new.items ≡ text.old.items ++ post_text host.now path.now body.now) }
+    ensures added { OnOk result (text.new.items ≡ text.old.items
+        ++ post_text host.now path.now body.now) }
     ensures capacity { vec_capacity text.old ≤ vec_capacity text.new }
-    ensures full { OnErr result (vec_capacity text.old < length text.old.items + length (post_text host.now path.now body.now)) }
+    ensures full { OnErr result (vec_capacity text.old < length text.old.items
+        + length (post_text host.now path.now body.now)) }
 {
     put_head(text, b"POST", host, path)?;
     put_type(text)?;

@@ -155,8 +155,8 @@ fn target_in(rest: &[u8]) -> Result<Target<'_>, TargetFault>
     }
 }
 
-/// Reads a URL of the form `http://ADDRESS:PORT/PATH`: an IPv4 address in numbers, a port, and a path and
-/// a query by RFC 3986, which may be absent.
+/// Reads a URL of the form `http://ADDRESS:PORT/PATH`: an IPv4 address in numbers, a port, and a
+/// path and a query by RFC 3986, which may be absent.
 ///
 /// # Errors
 /// The first [`TargetFault`] that it has.

@@ -3,7 +3,8 @@ use Rattle.std.specs.Prelude.{ℕ, Bool, ◌&&◌, ◌==◌, List, Option, optio
 use Rattle.std.specs.Str.{bytes_eq}
 use Rattle.mon_labels.specs.declared.interface.InterfaceLabels.{InterfaceLabels}
 
--- an interface: the engine id of its agent, its ifIndex, and its ifName, its ifAlias and its speed in bits a second, if they are given
+-- an interface: the engine id of its agent, its ifIndex, and its ifName, its ifAlias and its speed
+-- in bits a second, if they are given
 pub record Described : Type 0 where
   pub engine : List ℕ
   pub index : ℕ

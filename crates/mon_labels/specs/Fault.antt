@@ -1,7 +1,9 @@
 -- The faults of labels.
 use Rattle.std.specs.Prelude.{ℕ, List, codes}
 use Rattle.mon_labels.specs.declared.fault.LabelsFault.{LabelsFault}
-use Rattle.mon_labels.specs.declared.fault.LabelsFault.TheVariants.{OutOfMemory, NotToml, UnknownKey, Missing, BadValue, Twice, TooMany}
+use Rattle.mon_labels.specs.declared.fault.LabelsFault.TheVariants.{OutOfMemory, NotToml}
+use Rattle.mon_labels.specs.declared.fault.LabelsFault.TheVariants.{UnknownKey, Missing, BadValue}
+use Rattle.mon_labels.specs.declared.fault.LabelsFault.TheVariants.{Twice, TooMany}
 
 -- the number of a fault
 abbrev pub number_of : LabelsFault → ℕ

@@ -1,7 +1,8 @@
 -- The keys of a text of labels.
 use Rattle.std.specs.Prelude.{ℕ, List, codes}
 use Rattle.mon_labels.specs.declared.key.Key.{Key}
-use Rattle.mon_labels.specs.declared.key.Key.TheVariants.{Interface, Engine, Index, IfName, IfAlias, Speed}
+use Rattle.mon_labels.specs.declared.key.Key.TheVariants.{Interface, Engine, Index, IfName, IfAlias}
+use Rattle.mon_labels.specs.declared.key.Key.TheVariants.{Speed}
 
 -- how a key is written
 abbrev pub key_name : Key → List ℕ

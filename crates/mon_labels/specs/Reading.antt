@@ -1,7 +1,9 @@
 -- What a text of labels says: an interface after another, the first fault deciding.
-use Rattle.std.specs.Prelude.{◌≡◌, ◌⊎◌, ◌≤◌, ℕ, ◌+◌, nat_le, List, [], ◌∷◌, ◌++◌, length, Option, Some, None, Result, Ok, Err, if◌then◌else◌}
+use Rattle.std.specs.Prelude.{◌≡◌, ◌⊎◌, ◌≤◌, ℕ, ◌+◌, nat_le, List, [], ◌∷◌, ◌++◌, length, Option}
+use Rattle.std.specs.Prelude.{Some, None, Result, Ok, Err, if◌then◌else◌}
 use Rattle.std.specs.List.{list_any}
-use Rattle.toml.specs.Data.{Data, Items, no_items, item, Members, get_member, as_array, as_str, as_table}
+use Rattle.toml.specs.Data.{Data, Items, no_items, item, Members, get_member, as_array, as_str}
+use Rattle.toml.specs.Data.{as_table}
 use Rattle.toml.specs.Parse.{parse_document}
 use Rattle.mon_oid.specs.Steps.{◌>>=◌}
 use Rattle.mon_labels.specs.declared.key.Key.TheVariants as key
@@ -11,7 +13,8 @@ use Rattle.mon_labels.specs.declared.fault.LabelsFault.{LabelsFault}
 use Rattle.mon_labels.specs.declared.fault.LabelsFault.TheVariants as fault
 use Rattle.mon_labels.specs.Described.{Described, is_of}
 use Rattle.mon_labels.specs.Key.{key_name}
-use Rattle.mon_labels.specs.Table.{engine_in, index_in, needed_at, only, optional_at, or_bad, speed_in}
+use Rattle.mon_labels.specs.Table.{engine_in, index_in, needed_at, only, optional_at, or_bad}
+use Rattle.mon_labels.specs.Table.{speed_in}
 
 -- the interface of a table
 unfoldable pub interface_of : Place → Members → Result Described LabelsFault
@@ -26,11 +29,13 @@ interface_of p t = do
 
 -- the interface of this number in the list, which must be a table
 unfoldable pub entry : ℕ → Data → Result Described LabelsFault
-entry n d = or_bad (place.Interface n) key.Interface (as_table d) >>= interface_of (place.Interface n)
+entry n d = or_bad (place.Interface n) key.Interface (as_table d) >>= interface_of
+    (place.Interface n)
 
 -- the interface of this number, unless one before it has its index at its engine
 abbrev pub unless_twice : ℕ → List Described → Described → Result Described LabelsFault
-unless_twice n before d = if list_any (is_of d.engine d.index) before then Err (fault.Twice n) else Ok d
+unless_twice n before d = if list_any (is_of d.engine d.index) before then Err (fault.Twice n)
+    else Ok d
 
 -- the interface of this number after those before it
 unfoldable pub entry_after : ℕ → List Described → Data → Result Described LabelsFault
@@ -39,7 +44,8 @@ entry_after n before d = entry n d >>= unless_twice n before
 -- the interfaces from this number on, after those before them
 unfoldable pub entries : ℕ → List Described → Items → Result (List Described) LabelsFault
 entries n before no_items = Ok before
-entries n before (item d ds) = entry_after n before d >>= (λ i. entries (n + 1) (before ++ i ∷ []) ds)
+entries n before (item d ds) = entry_after n before d >>= (λ i. entries (n + 1) (before ++ i ∷ [])
+    ds)
 
 -- how many items there are
 abbrev pub count : Items → ℕ

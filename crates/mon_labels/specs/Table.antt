@@ -1,5 +1,7 @@
 -- What the keys of a table give, and which fault comes first.
-use Rattle.std.specs.Prelude.{◌≡◌, ◌⊎◌, Bool, false, ◌||◌, ◌&&◌, ℕ, ℤ, pos, negsuc, nat_le, List, [], ◌∷◌, length, Option, Some, None, option_map, option_and_then, Result, Ok, Err, if◌then◌else◌}
+use Rattle.std.specs.Prelude.{◌≡◌, ◌⊎◌, Bool, false, ◌||◌, ◌&&◌, ℕ, ℤ, pos, negsuc, nat_le, List}
+use Rattle.std.specs.Prelude.{[], ◌∷◌, length, Option, Some, None, option_map, option_and_then}
+use Rattle.std.specs.Prelude.{Result, Ok, Err, if◌then◌else◌}
 use Rattle.std.specs.Str.{bytes_eq}
 use Rattle.hex.specs.Hex.{decode_of}
 use Rattle.hex.specs.declared.error.FromHexError.{FromHexError}
@@ -16,21 +18,25 @@ or_bad p k None = Err (fault.BadValue p k)
 or_bad p k (Some a) = Ok a
 
 -- what the value of a key gives that must be there
-abbrev pub needed : {A : Type 0} → Place → Key → (Data → Option A) → Option Data → Result A LabelsFault
+abbrev pub needed : {A : Type 0} → Place → Key → (Data → Option A) → Option Data
+    → Result A LabelsFault
 needed p k f None = Err (fault.Missing p k)
 needed p k f (Some d) = or_bad p k (f d)
 
 -- what a key of a table gives that must be there
-abbrev pub needed_at : {A : Type 0} → Place → Key → (Data → Option A) → Members → Result A LabelsFault
+abbrev pub needed_at : {A : Type 0} → Place → Key → (Data → Option A) → Members
+    → Result A LabelsFault
 needed_at p k f t = needed p k f (get_member (key_name k) t)
 
 -- what the value of a key gives, or nothing where it is left out
-abbrev pub optional : {A : Type 0} → Place → Key → (Data → Option A) → Option Data → Result (Option A) LabelsFault
+abbrev pub optional : {A : Type 0} → Place → Key → (Data → Option A) → Option Data
+    → Result (Option A) LabelsFault
 optional p k f None = Ok None
 optional p k f (Some d) = or_bad p k (option_map Some (f d))
 
 -- what a key of a table gives, or nothing where it is left out
-abbrev pub optional_at : {A : Type 0} → Place → Key → (Data → Option A) → Members → Result (Option A) LabelsFault
+abbrev pub optional_at : {A : Type 0} → Place → Key → (Data → Option A) → Members
+    → Result (Option A) LabelsFault
 optional_at p k f t = optional p k f (get_member (key_name k) t)
 
 -- the name is that of one of the keys

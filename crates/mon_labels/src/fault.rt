@@ -33,8 +33,8 @@ impl fmt::Display for Place {
 pub enum LabelsFault {
     /// Memory was refused.
     OutOfMemory,
-    /// The text is not TOML. This many octets are in front of what stopped the reader, at most all of
-    /// the text. That the number is the right one is tested, and no clause says it.
+    /// The text is not TOML. This many octets are in front of what stopped the reader, at most all
+    /// of the text. That the number is the right one is tested, and no clause says it.
     NotToml(usize),
     /// The table at this place has a key that is not asked for there.
     UnknownKey(Place),
@@ -83,7 +83,8 @@ impl LabelsFault {
     }
 }
 
-/// What is wrong, where, and what must be there: `interface[2].index: a number from 1 to 2147483647 is wanted`.
+/// What is wrong, where, and what must be there:
+/// `interface[2].index: a number from 1 to 2147483647 is wanted`.
 impl fmt::Display for LabelsFault {
     fn fmt<W: fmt::Write>(&self, f: &mut fmt::Formatter<W>) -> fmt::Result {
         match self {

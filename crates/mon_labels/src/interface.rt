@@ -54,7 +54,8 @@ pub(crate) fn find_interface<'a>(
     engine: &[u8],
     index: u32,
 ) -> Option<&'a InterfaceLabels>
-    ensures { option_map (λ l. l.now) result ≡ find (λ l. is_of engine.now index (described l)) interfaces.now }
+    ensures { option_map (λ l. l.now) result ≡ find (λ l. is_of engine.now index (described l))
+        interfaces.now }
 {
     interfaces.iter().find(|labels| labels.is_of(engine, index))
 }

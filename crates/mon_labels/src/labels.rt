@@ -36,9 +36,9 @@ impl Labels {
         }
     }
 
-    /// Returns the labels of these instances, in their order: the address of the first target that is polled for
-    /// the instance and that target's label, and the ifName, the ifAlias and the speed of the interface at
-    /// its engine, if its name is a column of ifTable or ifXTable.
+    /// Returns the labels of these instances, in their order: the address of the first target that
+    /// is polled for the instance and that target's label, and the ifName, the ifAlias and the
+    /// speed of the interface at its engine, if its name is a column of ifTable or ifXTable.
     ///
     /// # Errors
     /// `AllocError` if there is no memory for them.
@@ -48,7 +48,9 @@ impl Labels {
         instances: &[Watched],
         reached: Reached<'_>,
     ) -> Result<Vec<InstanceLabels>, AllocError>
-        ensures { IfOk result (λ v. map given v.items ≡ given_from self.now.interfaces.items reached.entry.targets.now reached.entry.addresses.now reached.entry.devices.now 0 instances.now) }
+        ensures { IfOk result (λ v. map given v.items ≡ given_from self.now.interfaces.items
+            reached.entry.targets.now reached.entry.addresses.now reached.entry.devices.now 0
+            instances.now) }
     {
         let mut all = Vec::with_capacity(alloc, instances.len())?;
         for (place, watched) in instances.iter().enumerate() {
@@ -79,7 +81,8 @@ impl Labels {
 
     /// Returns the interface of an instance, if there is one.
     fn interface_for(&self, instance: &Instance) -> Option<&InterfaceLabels>
-        ensures { option_map (λ l. l.now) result ≡ interface_for self.now.interfaces.items instance.now }
+        ensures { option_map (λ l. l.now) result ≡ interface_for self.now.interfaces.items
+            instance.now }
     {
         match interface_of(instance.name.parts()) {
             None => None,
@@ -99,7 +102,8 @@ fn of_device(
     device: Option<&String>,
 ) -> Result<InstanceLabels, AllocError>
     ensures { IfOk result (λ l. given l
-        ≡ labels_by (option_map (λ t. string_bytes t.now) address.entry) (option_map (λ t. string_bytes t.now) device.entry) None) }
+        ≡ labels_by (option_map (λ t. string_bytes t.now) address.entry)
+        (option_map (λ t. string_bytes t.now) device.entry) None) }
 {
     Ok(InstanceLabels {
         target: copied(alloc, address)?,
@@ -118,7 +122,8 @@ fn of_interface(
     labels: &InterfaceLabels,
 ) -> Result<InstanceLabels, AllocError>
     ensures { IfOk result (λ l. given l
-        ≡ labels_by (option_map (λ t. string_bytes t.now) address.entry) (option_map (λ t. string_bytes t.now) device.entry) (Some labels.now)) }
+        ≡ labels_by (option_map (λ t. string_bytes t.now) address.entry)
+        (option_map (λ t. string_bytes t.now) device.entry) (Some labels.now)) }
 {
     Ok(InstanceLabels {
         target: copied(alloc, address)?,
@@ -131,7 +136,8 @@ fn of_interface(
 
 /// Returns a copy of a text, if there is one.
 fn copied(alloc: Global, text: Option<&String>) -> Result<Option<String>, AllocError>
-    ensures { IfOk result (λ t. option_map string_bytes t ≡ option_map (λ t. string_bytes t.now) text.entry) }
+    ensures { IfOk result (λ t. option_map string_bytes t ≡ option_map (λ t. string_bytes t.now)
+        text.entry) }
 {
     match text {
         None => Ok(None),
@@ -141,7 +147,8 @@ fn copied(alloc: Global, text: Option<&String>) -> Result<Option<String>, AllocE
 
 /// Returns the address of the first target that is polled for the instance of this number.
 fn address_of<'a>(reached: Reached<'a>, instance: usize) -> Option<&'a String>
-    ensures { option_map (λ t. string_bytes t.now) result ≡ address_of reached.entry.targets.now reached.entry.addresses.now instance }
+    ensures { option_map (λ t. string_bytes t.now) result ≡ address_of reached.entry.targets.now
+        reached.entry.addresses.now instance }
 {
     match target_for(reached.targets, instance) {
         None => None,
@@ -151,7 +158,8 @@ fn address_of<'a>(reached: Reached<'a>, instance: usize) -> Option<&'a String>
 
 /// Returns the label of the first target that is polled for the instance of this number.
 fn device_of<'a>(reached: Reached<'a>, instance: usize) -> Option<&'a String>
-    ensures { option_map (λ t. string_bytes t.now) result ≡ device_of reached.entry.targets.now reached.entry.devices.now instance }
+    ensures { option_map (λ t. string_bytes t.now) result ≡ device_of reached.entry.targets.now
+        reached.entry.devices.now instance }
 {
     match target_for(reached.targets, instance) {
         None => None,
@@ -161,7 +169,8 @@ fn device_of<'a>(reached: Reached<'a>, instance: usize) -> Option<&'a String>
 
 /// Returns the label at a place, if there is one.
 fn label_at(devices: &[Option<String>], place: usize) -> Option<&String>
-    ensures { option_map (λ t. string_bytes t.now) result ≡ option_and_then text_if (slice_get devices.now place) }
+    ensures { option_map (λ t. string_bytes t.now) result ≡ option_and_then text_if
+        (slice_get devices.now place) }
 {
     match devices.get(place) {
         None => None,

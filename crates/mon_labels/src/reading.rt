@@ -16,12 +16,13 @@ use std::alloc::Global;
 use toml::{Table, Value};
 
 /// The most interfaces of a text.
-const MOST_INTERFACES: usize = 4096;
+const MAX_INTERFACES: usize = 4096;
 
 /// Reads an interface.
 #[tactic(auto, unfolding(crate::specs::Reading::interface_of))]
 fn read_interface(reader: &Reader<'_>) -> Read<InterfaceLabels>
-    ensures { Reads described (interface_of reader.now.place (table_view reader.now.table.now)) result }
+    ensures { Reads described (interface_of reader.now.place (table_view reader.now.table.now))
+        result }
 {
     reader.only(&[
         Key::Engine,
@@ -67,7 +68,8 @@ fn unless_twice(
     done: &[InterfaceLabels],
     labels: InterfaceLabels,
 ) -> Read<InterfaceLabels>
-    ensures { Reads described (unless_twice number (map described done.now) (described labels)) result }
+    ensures { Reads described (unless_twice number (map described done.now) (described labels))
+        result }
 {
     if is_there(done, labels.engine.as_slice(), labels.index) {
         return Err(LabelsFault::Twice(number));
@@ -106,7 +108,7 @@ fn read_entries(alloc: Global, values: &[Value]) -> Read<Vec<InterfaceLabels>>
 fn few(values: &[Value]) -> Read<&[Value]>
     ensures { Reads (λ vs. items_view vs.now) (few (items_view values.now)) result }
 {
-    if values.len() > MOST_INTERFACES {
+    if values.len() > MAX_INTERFACES {
         return Err(LabelsFault::TooMany);
     }
     Ok(values)
@@ -130,7 +132,8 @@ fn list_of(table: &Table) -> Read<&[Value]>
 #[tactic(auto, unfolding(crate::specs::Reading::labels_of))]
 fn read_tree(reader: &Reader<'_>) -> Read<Vec<InterfaceLabels>>
     requires { reader.now.place ≡ Place.Top }
-    ensures { Reads (λ v. map described v.items) (labels_of (table_view reader.now.table.now)) result }
+    ensures { Reads (λ v. map described v.items) (labels_of (table_view reader.now.table.now))
+        result }
 {
     reader.only(&[Key::Interface])?;
     let values = list_of(reader.table)?;
@@ -151,14 +154,15 @@ fn tree(alloc: Global, text: &str) -> Read<Table>
     }
 }
 
-/// Reads labels of interfaces from a text in TOML 1.1: a list `interface` of at most 4,096 tables, which may be
-/// left out. Of each table the keys, in the order in which they are read: `engine`, the engine id of its agent in hex
-/// digits, 5 to 32 octets; `index`, its ifIndex, 1 to 2147483647; and the texts `ifName` and `ifAlias` and the number
-/// `speed`, its bits a second, at least 1, which may be left out. Unknown keys are refused first.
+/// Reads labels of interfaces from a text in TOML 1.1: a list `interface` of at most 4,096 tables,
+/// which may be left out. Of each table the keys, in the order in which they are read: `engine`,
+/// the engine id of its agent in hex digits, 5 to 32 octets; `index`, its ifIndex, 1 to 2147483647;
+/// and the texts `ifName` and `ifAlias` and the number `speed`, its bits a second, at least 1,
+/// which may be left out. Unknown keys are refused first.
 ///
 /// # Errors
-/// The first fault: `NotToml`; `UnknownKey`, `Missing` and `BadValue` with their place; `Twice` for an interface whose
-/// index at its engine is that of one before it; `TooMany`; `OutOfMemory`.
+/// The first fault: `NotToml`; `UnknownKey`, `Missing` and `BadValue` with their place; `Twice` for
+/// an interface whose index at its engine is that of one before it; `TooMany`; `OutOfMemory`.
 pub fn read_labels(alloc: Global, text: &str) -> Result<Labels, LabelsFault>
     ensures read { IfOk result (λ labels. Says text.now (map described labels.interfaces.items)) }
     ensures refused { IfErr result (IsRefusal text.now) }

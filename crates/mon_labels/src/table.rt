@@ -42,14 +42,16 @@ fn is_one_of(name: &str, keys: &[Key]) -> bool
 }
 
 fn found<'t>(table: &'t Table, keys: &[Key]) -> Option<&'t String>
-    ensures { option_copied result ≡ find (λ n. not (is_one_of keys.now (string_bytes n))) (keys_of table.now.entries) }
+    ensures { option_copied result ≡ find (λ n. not (is_one_of keys.now (string_bytes n)))
+        (keys_of table.now.entries) }
 {
     table.keys().find(|name| !is_one_of(name.as_str(), keys))
 }
 
 /// Returns the first key of a table, in the order of its octets, that is none of these.
 fn first_unknown<'t>(table: &'t Table, keys: &[Key]) -> Option<&'t String>
-    ensures { option_map (λ n. string_bytes n.now) result ≡ first_unknown keys.now (table_view table.now) }
+    ensures { option_map (λ n. string_bytes n.now) result ≡ first_unknown keys.now
+        (table_view table.now) }
 {
     found(table, keys)
 }
@@ -75,22 +77,26 @@ impl<'t> Reader<'t> {
 
     /// Returns the value at a key, which must be there.
     fn need(&self, key: Key) -> Read<&'t Value>
-        ensures there { IfOk result (λ v. get_member (key_name key) (table_view self.now.table.now) ≡ Some (view v.now)) }
-        ensures missing { IfErr result (λ e. (get_member (key_name key) (table_view self.now.table.now) ≡ None) × (e ≡ LabelsFault.Missing self.now.place key)) }
+        ensures there { IfOk result (λ v. get_member (key_name key) (table_view self.now.table.now)
+            ≡ Some (view v.now)) }
+        ensures missing { IfErr result (λ e. (get_member (key_name key)
+            (table_view self.now.table.now) ≡ None) × (e ≡ LabelsFault.Missing self.now.place key)) }
     {
         find(self.table, key).ok_or(LabelsFault::Missing(self.place, key))
     }
 
     /// Returns the ifIndex.
     pub(crate) fn index(&self) -> Read<u32>
-        ensures { result ≡ needed_at self.now.place Key.Index index_in (table_view self.now.table.now) }
+        ensures { result ≡ needed_at self.now.place Key.Index index_in
+            (table_view self.now.table.now) }
     {
         index_in(self.need(Key::Index)?).ok_or(self.bad(Key::Index))
     }
 
     /// Returns the octets of the engine id.
     pub(crate) fn engine(&self) -> Read<Vec<u8>>
-        ensures { Reads (λ v. v.items) (needed_at self.now.place Key.Engine engine_in (table_view self.now.table.now)) result }
+        ensures { Reads (λ v. v.items) (needed_at self.now.place Key.Engine engine_in
+            (table_view self.now.table.now)) result }
     {
         match self.need(Key::Engine)?.as_str() {
             Some(text) => decode_engine(self.alloc, text, self.place),
@@ -100,7 +106,8 @@ impl<'t> Reader<'t> {
 
     /// Returns the speed, or nothing if the key is left out.
     pub(crate) fn speed(&self) -> Read<Option<u64>>
-        ensures { result ≡ optional_at self.now.place Key.Speed speed_in (table_view self.now.table.now) }
+        ensures { result ≡ optional_at self.now.place Key.Speed speed_in
+            (table_view self.now.table.now) }
     {
         match find(self.table, Key::Speed) {
             Some(value) => match speed_in(value) {
@@ -113,7 +120,8 @@ impl<'t> Reader<'t> {
 
     /// Returns the text at a key, or nothing if the key is left out.
     pub(crate) fn text(&self, key: Key) -> Read<Option<String>>
-        ensures { Reads (option_map string_bytes) (optional_at self.now.place key as_str (table_view self.now.table.now)) result }
+        ensures { Reads (option_map string_bytes) (optional_at self.now.place key as_str
+            (table_view self.now.table.now)) result }
     {
         match find(self.table, key) {
             Some(value) => match value.as_str() {

@@ -60,7 +60,8 @@ is_listing known names rows text same meant order is = record {
     own [] = refl
     own (r ∷ rows) = ap (λ (l : List (List ℕ)). r.1.now ∷ l) (own rows)
 
--- of rising names the one at a place, of which all before it were found, is the first without an identifier
+-- of rising names the one at a place, of which all before it were found, is the first without an
+-- identifier
 pub is_first : (known : List Definition) (names : List Name) (rows : List Lent) (i : ℕ) (d : Name) (fault : NamesFault) → IsSorted text_cmp names → i < length names
     → map (λ r. r.1.now) rows ≡ map (λ n. n.now) (take i names) → All (λ r. IsMeant known (seen r)) rows → IsFaultOfNameText fault known (get_or names i d).now
     → fault ≢ reason.OutOfMemory → IsFirstUnnamed known (map (λ n. n.now) names) (get_or names i d).now fault

@@ -39,31 +39,37 @@ row_lines rows = flat_map row_line rows
 abbrev pub names_in : List Definition → List (List ℕ)
 names_in definitions = map (λ d. d.name) definitions
 
--- The listing of names: a line for each, with the identifier that it means, by identifier and then by name.
-pub record IsListing (known : List Definition) (names : List (List ℕ)) (text : List ℕ) : Type 0 where
-  pub rows : List Row
-  pub same : IsPermutation names (map (λ r. r.1) rows)
-  pub meant : All (IsMeant known) rows
-  pub order : IsSorted row_cmp rows
-  pub is : text ≡ row_lines rows
+-- The listing of names: a line for each, with the identifier that it means, by identifier and then
+-- by name.
+pub record IsListing (known : List Definition) (names : List (List ℕ)) (text : List ℕ) : Type 0
+  where
+    pub rows : List Row
+    pub same : IsPermutation names (map (λ r. r.1) rows)
+    pub meant : All (IsMeant known) rows
+    pub order : IsSorted row_cmp rows
+    pub is : text ≡ row_lines rows
 
 -- a name of these that means no identifier, for this reason, where each of them that comes before
 -- it by bytes means one; that memory was refused is no such reason
-pub record IsFirstUnnamed (known : List Definition) (names : List (List ℕ)) (name : List ℕ) (fault : NamesFault) : Type 0 where
+pub record IsFirstUnnamed (known : List Definition) (names : List (List ℕ)) (name : List ℕ)
+    (fault : NamesFault) : Type 0 where
   pub listed : Contains names name
   pub unmeant : IsFaultOfNameText fault known name
   pub own : fault ≢ reason.OutOfMemory
-  pub lesser : (other : List ℕ) → Contains names other → slice_cmp nat_cmp other name ≡ Less → (q : List ℕ) × IsMeant known (q, other)
+  pub lesser : (other : List ℕ) → Contains names other → slice_cmp nat_cmp other name ≡ Less
+      → (q : List ℕ) × IsMeant known (q, other)
 
 -- why names are not listed
 abbrev pub IsListFault : List Definition → List (List ℕ) → ListFault → Type 0
 IsListFault known names OutOfMemory = Unit {0}
 IsListFault known names (Unnamed name fault) = IsFirstUnnamed known names name.now fault
 
--- why names are not listed where one of them is not found: memory was refused, or the reason is the name's
+-- why names are not listed where one of them is not found: memory was refused, or the reason is the
+-- name's
 abbrev pub IsFaultAt : List ℕ → NamesFault → ListFault → Type 0
 IsFaultAt name why OutOfMemory = why ≡ reason.OutOfMemory
-IsFaultAt name why (Unnamed lent fault) = (lent.now ≡ name) × (fault ≡ why) × (why ≢ reason.OutOfMemory)
+IsFaultAt name why (Unnamed lent fault) = (lent.now ≡ name) × (fault ≡ why)
+    × (why ≢ reason.OutOfMemory)
 
 -- a row with its name as it is lent
 abbrev pub seen : List ℕ × Bor (List ℕ) → Row

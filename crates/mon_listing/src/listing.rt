@@ -38,7 +38,8 @@ impl<T: Drop> From<AllocFailed<T>> for ListFault<'_> {
     }
 }
 
-/// The names of definitions with the identifiers that they mean, a line each, `NAME IDENTIFIER`, by identifier and then by name.
+/// The names of definitions with the identifiers that they mean, a line each, `NAME IDENTIFIER`, by
+/// identifier and then by name.
 ///
 /// # Errors
 /// `OutOfMemory`; `Unnamed` where a name means no identifier.
@@ -47,7 +48,8 @@ pub fn list<'a>(
     known: &Names,
     definitions: &'a [Definition],
 ) -> Result<String, ListFault<'a>>
-    ensures lines { IfOk result (λ text. IsListing known.now (names_in definitions.now) (string_bytes text)) }
+    ensures lines { IfOk result (λ text. IsListing known.now (names_in definitions.now)
+        (string_bytes text)) }
     ensures fault { IfErr result (IsListFault known.now (names_in definitions.now)) }
 {
     let names = sorted_names(alloc, definitions)?;
@@ -63,7 +65,8 @@ fn sorted_names<'a>(
     alloc: Global,
     definitions: &'a [Definition],
 ) -> Result<Vec<&'a str>, AllocError>
-    ensures same { IfOk result (λ names. IsPermutation (names_in definitions.now) (map (λ n. n.now) names.items)) }
+    ensures same { IfOk result (λ names. IsPermutation (names_in definitions.now)
+        (map (λ n. n.now) names.items)) }
     ensures order { IfOk result (λ names. IsSorted text_cmp names.items) }
 {
     let mut names = names_of(alloc, definitions)?;
@@ -89,7 +92,8 @@ fn rows_of<'a>(
     names: &[&'a str],
 ) -> Result<Vec<(Oid, &'a str)>, ListFault<'a>>
     requires { IsSorted text_cmp names.now }
-    ensures same { IfOk result (λ rows. IsPermutation (map (λ n. n.now) names.now) (map (λ r. r.1.now) rows.items)) }
+    ensures same { IfOk result (λ rows. IsPermutation (map (λ n. n.now) names.now)
+        (map (λ r. r.1.now) rows.items)) }
     ensures meant { IfOk result (λ rows. All (λ r. IsMeant known.now (seen r)) rows.items) }
     ensures order { IfOk result (λ rows. IsSorted shown_cmp rows.items) }
     ensures fault { IfErr result (IsListFault known.now (map (λ n. n.now) names.now)) }
@@ -149,7 +153,8 @@ fn lines_of(alloc: Global, rows: &[(Oid, &str)]) -> Result<String, AllocError>
 /// Adds the line of a name that means an identifier.
 #[tactic(auto, unfolding(crate::specs::Listing::row_line))]
 fn put_row(alloc: Global, lines: &mut String, oid: &Oid, name: &str) -> Result<(), AllocError>
-    ensures { OnOk result (string_bytes lines.new ≡ string_bytes lines.old ++ row_line (oid.now, name.now)) }
+    ensures { OnOk result (string_bytes lines.new ≡ string_bytes lines.old
+        ++ row_line (oid.now, name.now)) }
 {
     let dotted = oid.text(alloc)?;
     write!(lines, "{name} {dotted}\n")

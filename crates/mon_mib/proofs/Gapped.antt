@@ -23,7 +23,8 @@ use Rattle.mon_mib.specs.Search.{Sought, IsSeenIn, known_in}
 use Rattle.mon_mib.proofs.Under.{begins, one, rises, upward}
 
 module _ (held : Held) (sees : List ℕ → Type 0) (o : Object) where
-  -- From a start on what is in view is from here on, and what is from here on is from that start on.
+  -- From a start on what is in view is from here on, and what is from here on is from that start
+  -- on.
   pub record IsRest (start rest : Start) : Type 0 where
     pub inside : (i : ℕ) → IsFrom rest i → IsFrom start i
     pub all : (i : ℕ) → Contains (instances held o) i → IsFrom start i → sees (prefix_of o ++ i ∷ []) → IsFrom rest i

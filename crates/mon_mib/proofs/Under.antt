@@ -1,4 +1,5 @@
--- Going over the objects in order, and over each one's instances from a start on, finds the least name.
+-- Going over the objects in order, and over each one's instances from a start on, finds the least
+-- name.
 use Rattle.std.proofs.Common.{zero, suc, ◌≡◌, ◌≢◌, ℕ, ◌+◌, ◌<◌, ◌≤◌, true, List, [], ◌∷◌, ◌++◌, length, take, drop, get_or, refl, sym, ◌∙◌, ap, subst, arith, add-one, inl, inr}
 use Rattle.std.specs.Prelude.{IsTrue, Option, Some, None}
 use Rattle.std.specs.List.{AllPairs, Contains, list_all}

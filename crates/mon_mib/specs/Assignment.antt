@@ -1,5 +1,6 @@
 -- What the bindings of a Set change (RFC 3416 section 4.2.5).
-use Rattle.std.specs.Prelude.{◌≡◌, ◌≢◌, ℕ, ◌+◌, ◌<◌, List, [], ◌∷◌, ◌++◌, length, drop, slice_index_or, Contains, All, AllPairs, Any, false}
+use Rattle.std.specs.Prelude.{◌≡◌, ◌≢◌, ℕ, ◌+◌, ◌<◌, List, [], ◌∷◌, ◌++◌, length, drop}
+use Rattle.std.specs.Prelude.{slice_index_or, Contains, All, AllPairs, Any, false}
 use Rattle.mon_ber.specs.declared.value.Value.{Value}
 use Rattle.mon_ber.specs.declared.value.Value.TheVariants as ber
 use Rattle.mon_pdu.specs.declared.message.Binding.{Binding}
@@ -28,10 +29,14 @@ scalar_of Location = SysLocation
 -- The change that a value asks for, of the object's variable of an instance. Where the status
 -- stays, so does the time of its change (ifLastChange, RFC 2863 section 6).
 abbrev pub IsChange : Known → Object → ℕ → Value → Change → Type 0
-IsChange k o i v (set.SysText which text) = (o ≡ served.Scalar (scalar_of which)) × (v ≡ ber.Octets text)
-IsChange k o i v (set.Admin index status since) = (o ≡ served.Column IfAdminStatus) × (index ≡ i) × (v ≡ ber.Integer (admin_number status))
-    × ((k.held.status i).admin ≡ status → since ≡ (k.held.status i).since) × ((k.held.status i).admin ≢ status → since ≡ up_time k.moment)
-IsChange k o i v (set.Alias index text) = (o ≡ served.Column IfAlias) × (index ≡ i) × (v ≡ ber.Octets text)
+IsChange k o i v (set.SysText which text) = (o ≡ served.Scalar (scalar_of which))
+    × (v ≡ ber.Octets text)
+IsChange k o i v (set.Admin index status since) = (o ≡ served.Column IfAdminStatus) × (index ≡ i)
+    × (v ≡ ber.Integer (admin_number status))
+    × ((k.held.status i).admin ≡ status → since ≡ (k.held.status i).since)
+    × ((k.held.status i).admin ≢ status → since ≡ up_time k.moment)
+IsChange k o i v (set.Alias index text) = (o ≡ served.Column IfAlias) × (index ≡ i)
+    × (v ≡ ber.Octets text)
 
 -- the change that a binding asks for, whose name is a variable's
 pub record IsAskedChange (k : Known) (b : Binding) (c : Change) : Type 0 where
@@ -60,7 +65,8 @@ pub record IsNumberedAssignment (k : Known) (bindings : List Binding) (s : Step)
 pub record IsSetPlan (k : Known) (bindings : List Binding) (steps : List Step) : Type 0 where
   pub rising : AllPairs (λ s t. s.index < t.index) steps
   pub each : All (IsNumberedAssignment k bindings) steps
-  pub all : (j : ℕ) (b : Binding) → IsLast bindings j b → (s : Step) × Contains steps s × (s.index ≡ j + 1)
+  pub all : (j : ℕ) (b : Binding) → IsLast bindings j b → (s : Step) × Contains steps s
+      × (s.index ≡ j + 1)
 
 -- no two change the same thing
 abbrev pub AreApart : List Step → Type 0

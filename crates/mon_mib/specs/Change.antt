@@ -1,5 +1,6 @@
 -- Changes of what a device holds.
-use Rattle.std.specs.Prelude.{ℕ, ◌+◌, ◌-◌, ◌^◌, min, Bool, true, false, List, Contains, nat_eq, if◌then◌else◌}
+use Rattle.std.specs.Prelude.{ℕ, ◌+◌, ◌-◌, ◌^◌, min, Bool, true, false, List, Contains, nat_eq}
+use Rattle.std.specs.Prelude.{if◌then◌else◌}
 use Rattle.mon_mib.specs.declared.facts.SysText.{SysText}
 use Rattle.mon_mib.specs.declared.facts.SysText.TheVariants.{Contact, SystemName, Location}
 use Rattle.mon_mib.specs.declared.change.Change.{Change}
@@ -25,13 +26,17 @@ put same key value before other = if same key other then value else before other
 -- the change is made, and all else is as before
 abbrev pub changed : Change → Held → Held
 changed (set.SysText which text) h = record h { sys_text = put same_text which text h.sys_text }
-changed (set.Admin index status since) h = record h { status = put nat_eq index (record { admin = status; since = since }) h.status }
+changed (set.Admin index status since) h = record h {
+  status = put nat_eq index
+      (record { admin = status; since = since }) h.status;
+}
 changed (set.Alias index text) h = record h { alias = put nat_eq index text h.alias }
 
 -- the change that undoes a change: the same thing becomes what it was before
 abbrev pub undoing : Change → Held → Change
 undoing (set.SysText which text) h = set.SysText which (h.sys_text which)
-undoing (set.Admin index status since) h = set.Admin index (h.status index).admin (h.status index).since
+undoing (set.Admin index status since) h = set.Admin index (h.status index).admin
+    (h.status index).since
 undoing (set.Alias index text) h = set.Alias index (h.alias index)
 
 -- whether both change the same thing

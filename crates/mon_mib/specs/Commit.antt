@@ -16,7 +16,8 @@ changes (s ∷ ss) h = changes ss (changed s.change h)
 -- the assignments that undo these, in the same order
 abbrev pub undoings : List Step → Held → List Step
 undoings [] h = []
-undoings (s ∷ ss) h = record { index = s.index; change = undoing s.change h } ∷ undoings ss (changed s.change h)
+undoings (s ∷ ss) h = record { index = s.index; change = undoing s.change h }
+    ∷ undoings ss (changed s.change h)
 
 -- a count of failures after one more for each of these
 abbrev pub failures_after : List ℕ → ℕ → ℕ
@@ -26,7 +27,8 @@ failures_after (n ∷ ns) count = failures_after ns (one_failure count)
 -- some of these assignments, the last of them first
 abbrev pub AreSomeBackwards : List Step → List Step → Type 0
 AreSomeBackwards [] some = some ≡ []
-AreSomeBackwards (s ∷ ss) some = AreSomeBackwards ss some ⊎ ((later : List Step) × (some ≡ later ++ s ∷ []) × AreSomeBackwards ss later)
+AreSomeBackwards (s ∷ ss) some = AreSomeBackwards ss some ⊎ ((later : List Step)
+    × (some ≡ later ++ s ∷ []) × AreSomeBackwards ss later)
 
 -- what devices of one kind hold, and which changes they refuse
 module _ {D : Type 0} (held : D → Held) (refuses : D → Change → Type 0) where
@@ -49,8 +51,8 @@ module _ {D : Type 0} (held : D → Held) (refuses : D → Change → Type 0) wh
     pub is : failed.index ≡ number
     pub refused : Refused (changes done before) failed.change
 
-  -- Of the assignments that were made, some remain, those of the bindings of these numbers, the last
-  -- first: of each the undoing was refused. All else is as before.
+  -- Of the assignments that were made, some remain, those of the bindings of these numbers, the
+  -- last first: of each the undoing was refused. All else is as before.
   pub record IsLeft (done : List Step) (before after : Held) (standing : List ℕ) : Type 0 where
     pub left : List Step
     pub some : left ≢ []
@@ -65,25 +67,31 @@ module _ {D : Type 0} (held : D → Held) (refuses : D → Change → Type 0) wh
   abbrev pub IsUndone : List Step → Held → Held → ℕ → Commit → Type 0
   IsUndone done before after number Done = ⊥
   IsUndone done before after number (CommitFailed failed) = (failed ≡ number) × (after ≡ before)
-  IsUndone done before after number (UndoFailed failed standing) = (failed ≡ number) × IsLeft done before after standing.items
+  IsUndone done before after number (UndoFailed failed standing) = (failed ≡ number)
+      × IsLeft done before after standing.items
 
   -- what assigning has come to
-  pub record IsCommitProgress (steps : List Step) (before : Held) (number : ℕ) (P : List Step → Type 0) : Type 0 where
+  pub record IsCommitProgress (steps : List Step) (before : Held) (number : ℕ)
+      (P : List Step → Type 0) : Type 0 where
     pub done : List Step
     pub failed : IsFailedAfter done steps before number
     pub holds : P done
 
-  -- what assigning gave, and what the device holds after it: every change, what it held before, or what could not be undone
+  -- what assigning gave, and what the device holds after it: every change, what it held before, or
+  -- what could not be undone
   abbrev pub IsCommitted : List Step → Held → Held → Commit → Type 0
   IsCommitted steps before after Done = after ≡ changes steps before
-  IsCommitted steps before after (CommitFailed failed) = IsCommitProgress steps before failed (λ _. after ≡ before)
-  IsCommitted steps before after (UndoFailed failed standing) = IsCommitProgress steps before failed (λ done. IsLeft done before after standing.items)
+  IsCommitted steps before after (CommitFailed failed) = IsCommitProgress steps before failed
+      (λ _. after ≡ before)
+  IsCommitted steps before after (UndoFailed failed standing) = IsCommitProgress steps before failed
+      (λ done. IsLeft done before after standing.items)
 
 -- the count of failures then
 abbrev pub failures_by_then : Commit → ℕ → ℕ
 failures_by_then Done count = count
 failures_by_then (CommitFailed failed) count = one_failure count
-failures_by_then (UndoFailed failed standing) count = failures_after standing.items (one_failure count)
+failures_by_then (UndoFailed failed standing) count = failures_after standing.items
+    (one_failure count)
 
 -- only the failures of the undoing
 abbrev pub undo_failures : Commit → ℕ → ℕ

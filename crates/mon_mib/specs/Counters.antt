@@ -1,12 +1,20 @@
 -- The counters of the snmp group (RFC 3418 section 2).
 use Rattle.std.specs.Prelude.{ℕ, ◌+◌, ◌%◌, ◌^◌}
 use Rattle.mon_mib.specs.declared.counters.Counter.{Counter}
-use Rattle.mon_mib.specs.declared.counters.Counter.TheVariants.{InPackets, BadVersions, BadCommunities, ParseErrors, SilentDrops}
+use Rattle.mon_mib.specs.declared.counters.Counter.TheVariants.{InPackets, BadVersions}
+use Rattle.mon_mib.specs.declared.counters.Counter.TheVariants.{BadCommunities, ParseErrors}
+use Rattle.mon_mib.specs.declared.counters.Counter.TheVariants.{SilentDrops}
 use Rattle.mon_mib.specs.declared.counters.Counters.{Counters}
 
 -- before the first message
 abbrev pub no_counts : Counters
-no_counts = record { in_packets = 0; bad_versions = 0; bad_communities = 0; parse_errors = 0; silent_drops = 0 }
+no_counts = record {
+  in_packets = 0;
+  bad_versions = 0;
+  bad_communities = 0;
+  parse_errors = 0;
+  silent_drops = 0;
+}
 
 -- what a counter has come to
 abbrev pub counter_value : Counters → Counter → ℕ

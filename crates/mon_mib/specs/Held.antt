@@ -10,8 +10,8 @@ use Rattle.mon_mib.specs.declared.facts.SysText.{SysText}
 use Rattle.mon_mib.specs.declared.facts.IfText.{IfText}
 use Rattle.mon_mib.specs.declared.facts.IfText.TheVariants.{Descr, Phys, ShortName, Alias}
 
--- The indexes of its interfaces, its texts, and of each interface its status, its alias, its other texts, and its numbers
--- at a time. Texts of the device, statuses and aliases can be changed.
+-- The indexes of its interfaces, its texts, and of each interface its status, its alias, its other
+-- texts, and its numbers at a time. Texts of the device, statuses and aliases can be changed.
 pub record Held : Type 0 where
   pub indexes : List ℕ
   pub sys_text : SysText → List ℕ

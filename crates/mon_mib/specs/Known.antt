@@ -3,7 +3,8 @@
 use Rattle.std.specs.Prelude.{ℕ, ◌+◌, ◌/◌, ◌%◌, ◌^◌, min, pos, List, [], ◌∷◌, ◌++◌, length, map}
 use Rattle.std.specs.List.{flat_map}
 use Rattle.mon_ber.specs.declared.value.Value.{Value}
-use Rattle.mon_ber.specs.declared.value.Value.TheVariants.{Integer, Octets, Name, Counter32, Gauge32, TimeTicks, Counter64}
+use Rattle.mon_ber.specs.declared.value.Value.TheVariants.{Integer, Octets, Name, Counter32}
+use Rattle.mon_ber.specs.declared.value.Value.TheVariants.{Gauge32, TimeTicks, Counter64}
 use Rattle.mon_pdu.specs.declared.message.Binding.{Binding}
 use Rattle.mon_mib.specs.declared.settings.Settings.{Settings}
 use Rattle.mon_mib.specs.declared.counters.Counters.{Counters}
@@ -11,9 +12,54 @@ use Rattle.mon_mib.specs.declared.facts.Facts.{Facts}
 use Rattle.mon_mib.specs.declared.facts.SysText.TheVariants.{Contact, SystemName, Location}
 use Rattle.mon_mib.specs.declared.facts.IfText.TheVariants.{Descr, Phys, ShortName, Alias}
 use Rattle.mon_mib.specs.declared.scalar.Scalar.{Scalar}
-use Rattle.mon_mib.specs.declared.scalar.Scalar.TheVariants.{SysDescr, SysObjectId, SysUpTime, SysContact, SysName, SysLocation, SysServices, IfNumber, SnmpInPkts, SnmpInBadVersions, SnmpInBadCommunityNames, SnmpInAsnParseErrs, SnmpSilentDrops, SnmpEngineId, SnmpEngineBoots, SnmpEngineTime, SnmpEngineMaxMessageSize}
+use Rattle.mon_mib.specs.declared.scalar.Scalar.TheVariants.{
+  SysDescr,
+  SysObjectId,
+  SysUpTime,
+  SysContact,
+  SysName,
+  SysLocation,
+  SysServices,
+  IfNumber,
+  SnmpInPkts,
+  SnmpInBadVersions,
+  SnmpInBadCommunityNames,
+  SnmpInAsnParseErrs,
+  SnmpSilentDrops,
+  SnmpEngineId,
+  SnmpEngineBoots,
+  SnmpEngineTime,
+  SnmpEngineMaxMessageSize,
+}
 use Rattle.mon_mib.specs.declared.column.Column.{Column}
-use Rattle.mon_mib.specs.declared.column.Column.TheVariants.{IfIndex, IfDescr, IfType, IfMtu, IfSpeed, IfPhysAddress, IfAdminStatus, IfOperStatus, IfLastChange, IfInOctets, IfInUcastPkts, IfInDiscards, IfInErrors, IfInUnknownProtos, IfOutOctets, IfOutUcastPkts, IfOutDiscards, IfOutErrors, IfName, IfHcInOctets, IfHcInUcastPkts, IfHcOutOctets, IfHcOutUcastPkts, IfHighSpeed, IfAlias, IfCounterDiscontinuityTime}
+use Rattle.mon_mib.specs.declared.column.Column.TheVariants.{
+  IfIndex,
+  IfDescr,
+  IfType,
+  IfMtu,
+  IfSpeed,
+  IfPhysAddress,
+  IfAdminStatus,
+  IfOperStatus,
+  IfLastChange,
+  IfInOctets,
+  IfInUcastPkts,
+  IfInDiscards,
+  IfInErrors,
+  IfInUnknownProtos,
+  IfOutOctets,
+  IfOutUcastPkts,
+  IfOutDiscards,
+  IfOutErrors,
+  IfName,
+  IfHcInOctets,
+  IfHcInUcastPkts,
+  IfHcOutOctets,
+  IfHcOutUcastPkts,
+  IfHighSpeed,
+  IfAlias,
+  IfCounterDiscontinuityTime,
+}
 use Rattle.mon_mib.specs.declared.object.Object.{Object}
 use Rattle.mon_mib.specs.declared.object.Object.TheVariants as served
 use Rattle.mon_mib.specs.Objects.{prefix_of, objects}
@@ -30,7 +76,13 @@ pub record Known : Type 0 where
 
 -- what the agent knows, of settings, counters and what the device holds
 abbrev pub known_of : Settings → Counters → Held → ℕ → Known
-known_of settings counters held moment = record { settings = settings; counters = counters; held = held; moment = moment }
+known_of settings counters held moment = record {
+  settings = settings;
+  counters = counters;
+  held =
+      held;
+  moment = moment;
+}
 
 -- the values of the scalars
 abbrev pub scalar_value : Known → Scalar → Value
@@ -52,8 +104,9 @@ scalar_value k SnmpEngineBoots = Integer k.settings.boots
 scalar_value k SnmpEngineTime = Integer (pos (engine_time k.moment))
 scalar_value k SnmpEngineMaxMessageSize = Integer k.settings.limit
 
--- the values of the columns, from an interface's facts: ifSpeed is at most 4294967295, ifHighSpeed is in millions, rounded,
--- and a 32-bit counter is the 64-bit one modulo 2^32 (RFC 2863 sections 3.1.6 and 3.1.7)
+-- the values of the columns, from an interface's facts: ifSpeed is at most 4294967295, ifHighSpeed
+-- is in millions, rounded, and a 32-bit counter is the 64-bit one modulo 2^32 (RFC 2863 sections
+-- 3.1.6 and 3.1.7)
 abbrev pub column_value : Known → Facts → ℕ → Column → Value
 column_value k f i IfIndex = Integer (pos i)
 column_value k f i IfDescr = Octets (text_at k.held i Descr)
@@ -92,7 +145,8 @@ abbrev pub instances : Held → Object → List ℕ
 instances h (served.Scalar s) = 0 ∷ []
 instances h (served.Column c) = h.indexes
 
--- the variable of an object and an instance: its name is the object's with the instance after it (RFC 2578 section 7.7)
+-- the variable of an object and an instance: its name is the object's with the instance after it
+-- (RFC 2578 section 7.7)
 abbrev pub variable : Known → Object → ℕ → Binding
 variable k o i = record { name = prefix_of o ++ i ∷ []; value = variable_value k o i }
 

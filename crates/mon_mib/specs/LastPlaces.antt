@@ -10,7 +10,9 @@ use Rattle.mon_pdu.specs.declared.message.Binding.{Binding}
 abbrev pub place_of : BTreeMap (Bor (List ℕ)) ℕ → List ℕ → Option ℕ
 place_of places name = get_by (λ k. slice_cmp nat_cmp name k.now) places
 
--- for each name and place: the map holds a later place for the name exactly if a binding after the place has it
+-- for each name and place: the map holds a later place for the name exactly if a binding after the
+-- place has it
 abbrev pub AreLastPlaces : List Binding → BTreeMap (Bor (List ℕ)) ℕ → Type 0
 AreLastPlaces bindings places = (name : List ℕ) (place : ℕ)
-    → IsSomeAnd (place_of places name) (λ last. place < last) ↔ Any (λ b. b.name ≡ name) (drop (place + 1) bindings)
+    → IsSomeAnd (place_of places name) (λ last. place < last)
+    ↔ Any (λ b. b.name ≡ name) (drop (place + 1) bindings)

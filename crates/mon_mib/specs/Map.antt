@@ -24,4 +24,9 @@ known_by held map moment = known_of map.settings map.counters (held map.device) 
 
 -- it, with other counters
 abbrev pub with_counters : {D : Type 0} → Mib D → Counters → Mib D
-with_counters map counters = record { settings = map.settings; counters = counters; device = map.device }
+with_counters map counters = record {
+  settings = map.settings;
+  counters = counters;
+  device =
+      map.device;
+}

@@ -23,7 +23,8 @@ pub record IsLater (sees : List ℕ → Type 0) (x : List ℕ) (b : Binding) : T
   pub in_view : sees b.name
 
 -- the least of the variables in view that are beyond the name
-pub record IsLeast (os : List Object) (k : Known) (sees : List ℕ → Type 0) (x : List ℕ) (b : Binding) : Type 0 where
+pub record IsLeast (os : List Object) (k : Known) (sees : List ℕ → Type 0) (x : List ℕ)
+    (b : Binding) : Type 0 where
   pub variable : IsVariable os k b
   pub later : IsLater sees x b
   pub least : (c : Binding) → IsVariable os k c → IsLater sees x c → name_cmp c.name b.name ≢ Less

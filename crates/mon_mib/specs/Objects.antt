@@ -1,4 +1,5 @@
--- The served objects, in the order of their names (RFC 3418 section 2, RFC 2863 section 6, RFC 3411 section 5).
+-- The served objects, in the order of their names (RFC 3418 section 2, RFC 2863 section 6, RFC 3411
+-- section 5).
 use Rattle.std.specs.Prelude.{ℕ, Bool, true, ◌&&◌, List, [], ◌∷◌}
 use Rattle.std.specs.List.{list_all}
 use Rattle.mon_ber.specs.declared.tag.Tag.{Tag}
@@ -7,14 +8,59 @@ use Rattle.mon_mib.specs.Order.{is_before}
 use Rattle.mon_mib.specs.declared.max_access.MaxAccess.{MaxAccess}
 use Rattle.mon_mib.specs.declared.max_access.MaxAccess.TheVariants.{ReadOnly, ReadWrite}
 use Rattle.mon_mib.specs.declared.scalar.Scalar.{Scalar}
-use Rattle.mon_mib.specs.declared.scalar.Scalar.TheVariants.{SysDescr, SysObjectId, SysUpTime, SysContact, SysName, SysLocation, SysServices, IfNumber, SnmpInPkts, SnmpInBadVersions, SnmpInBadCommunityNames, SnmpInAsnParseErrs, SnmpSilentDrops, SnmpEngineId, SnmpEngineBoots, SnmpEngineTime, SnmpEngineMaxMessageSize}
+use Rattle.mon_mib.specs.declared.scalar.Scalar.TheVariants.{
+  SysDescr,
+  SysObjectId,
+  SysUpTime,
+  SysContact,
+  SysName,
+  SysLocation,
+  SysServices,
+  IfNumber,
+  SnmpInPkts,
+  SnmpInBadVersions,
+  SnmpInBadCommunityNames,
+  SnmpInAsnParseErrs,
+  SnmpSilentDrops,
+  SnmpEngineId,
+  SnmpEngineBoots,
+  SnmpEngineTime,
+  SnmpEngineMaxMessageSize,
+}
 use Rattle.mon_mib.specs.declared.column.Column.{Column}
-use Rattle.mon_mib.specs.declared.column.Column.TheVariants.{IfIndex, IfDescr, IfType, IfMtu, IfSpeed, IfPhysAddress, IfAdminStatus, IfOperStatus, IfLastChange, IfInOctets, IfInUcastPkts, IfInDiscards, IfInErrors, IfInUnknownProtos, IfOutOctets, IfOutUcastPkts, IfOutDiscards, IfOutErrors, IfName, IfHcInOctets, IfHcInUcastPkts, IfHcOutOctets, IfHcOutUcastPkts, IfHighSpeed, IfAlias, IfCounterDiscontinuityTime}
+use Rattle.mon_mib.specs.declared.column.Column.TheVariants.{
+  IfIndex,
+  IfDescr,
+  IfType,
+  IfMtu,
+  IfSpeed,
+  IfPhysAddress,
+  IfAdminStatus,
+  IfOperStatus,
+  IfLastChange,
+  IfInOctets,
+  IfInUcastPkts,
+  IfInDiscards,
+  IfInErrors,
+  IfInUnknownProtos,
+  IfOutOctets,
+  IfOutUcastPkts,
+  IfOutDiscards,
+  IfOutErrors,
+  IfName,
+  IfHcInOctets,
+  IfHcInUcastPkts,
+  IfHcOutOctets,
+  IfHcOutUcastPkts,
+  IfHighSpeed,
+  IfAlias,
+  IfCounterDiscontinuityTime,
+}
 use Rattle.mon_mib.specs.declared.object.Object.{Object}
 use Rattle.mon_mib.specs.declared.object.Object.TheVariants as served
 
--- What the standards give of an object: what the names of its variables begin with, the tag of their values (SYNTAX), and what
--- may be done with them (MAX-ACCESS) (RFC 2578 section 7).
+-- What the standards give of an object: what the names of its variables begin with, the tag of
+-- their values (SYNTAX), and what may be done with them (MAX-ACCESS) (RFC 2578 section 7).
 pub record Row : Type 0 where
   pub prefix : List ℕ
   pub syntax : Tag
@@ -46,7 +92,8 @@ scalar_row SnmpSilentDrops = read_only tag.Counter32 (1 ∷ 3 ∷ 6 ∷ 1 ∷ 2 
 scalar_row SnmpEngineId = read_only tag.OctetString (1 ∷ 3 ∷ 6 ∷ 1 ∷ 6 ∷ 3 ∷ 10 ∷ 2 ∷ 1 ∷ 1 ∷ [])
 scalar_row SnmpEngineBoots = read_only tag.Integer (1 ∷ 3 ∷ 6 ∷ 1 ∷ 6 ∷ 3 ∷ 10 ∷ 2 ∷ 1 ∷ 2 ∷ [])
 scalar_row SnmpEngineTime = read_only tag.Integer (1 ∷ 3 ∷ 6 ∷ 1 ∷ 6 ∷ 3 ∷ 10 ∷ 2 ∷ 1 ∷ 3 ∷ [])
-scalar_row SnmpEngineMaxMessageSize = read_only tag.Integer (1 ∷ 3 ∷ 6 ∷ 1 ∷ 6 ∷ 3 ∷ 10 ∷ 2 ∷ 1 ∷ 4 ∷ [])
+scalar_row SnmpEngineMaxMessageSize = read_only tag.Integer (1 ∷ 3 ∷ 6 ∷ 1 ∷ 6 ∷ 3 ∷ 10 ∷ 2 ∷ 1 ∷ 4
+    ∷ [])
 
 -- the columns
 abbrev pub column_row : Column → Row
@@ -70,12 +117,16 @@ column_row IfOutDiscards = read_only tag.Counter32 (1 ∷ 3 ∷ 6 ∷ 1 ∷ 2 �
 column_row IfOutErrors = read_only tag.Counter32 (1 ∷ 3 ∷ 6 ∷ 1 ∷ 2 ∷ 1 ∷ 2 ∷ 2 ∷ 1 ∷ 20 ∷ [])
 column_row IfName = read_only tag.OctetString (1 ∷ 3 ∷ 6 ∷ 1 ∷ 2 ∷ 1 ∷ 31 ∷ 1 ∷ 1 ∷ 1 ∷ 1 ∷ [])
 column_row IfHcInOctets = read_only tag.Counter64 (1 ∷ 3 ∷ 6 ∷ 1 ∷ 2 ∷ 1 ∷ 31 ∷ 1 ∷ 1 ∷ 1 ∷ 6 ∷ [])
-column_row IfHcInUcastPkts = read_only tag.Counter64 (1 ∷ 3 ∷ 6 ∷ 1 ∷ 2 ∷ 1 ∷ 31 ∷ 1 ∷ 1 ∷ 1 ∷ 7 ∷ [])
-column_row IfHcOutOctets = read_only tag.Counter64 (1 ∷ 3 ∷ 6 ∷ 1 ∷ 2 ∷ 1 ∷ 31 ∷ 1 ∷ 1 ∷ 1 ∷ 10 ∷ [])
-column_row IfHcOutUcastPkts = read_only tag.Counter64 (1 ∷ 3 ∷ 6 ∷ 1 ∷ 2 ∷ 1 ∷ 31 ∷ 1 ∷ 1 ∷ 1 ∷ 11 ∷ [])
+column_row IfHcInUcastPkts = read_only tag.Counter64 (1 ∷ 3 ∷ 6 ∷ 1 ∷ 2 ∷ 1 ∷ 31 ∷ 1 ∷ 1 ∷ 1 ∷ 7
+    ∷ [])
+column_row IfHcOutOctets = read_only tag.Counter64 (1 ∷ 3 ∷ 6 ∷ 1 ∷ 2 ∷ 1 ∷ 31 ∷ 1 ∷ 1 ∷ 1 ∷ 10
+    ∷ [])
+column_row IfHcOutUcastPkts = read_only tag.Counter64 (1 ∷ 3 ∷ 6 ∷ 1 ∷ 2 ∷ 1 ∷ 31 ∷ 1 ∷ 1 ∷ 1 ∷ 11
+    ∷ [])
 column_row IfHighSpeed = read_only tag.Gauge32 (1 ∷ 3 ∷ 6 ∷ 1 ∷ 2 ∷ 1 ∷ 31 ∷ 1 ∷ 1 ∷ 1 ∷ 15 ∷ [])
 column_row IfAlias = read_write tag.OctetString (1 ∷ 3 ∷ 6 ∷ 1 ∷ 2 ∷ 1 ∷ 31 ∷ 1 ∷ 1 ∷ 1 ∷ 18 ∷ [])
-column_row IfCounterDiscontinuityTime = read_only tag.TimeTicks (1 ∷ 3 ∷ 6 ∷ 1 ∷ 2 ∷ 1 ∷ 31 ∷ 1 ∷ 1 ∷ 1 ∷ 19 ∷ [])
+column_row IfCounterDiscontinuityTime = read_only tag.TimeTicks
+    (1 ∷ 3 ∷ 6 ∷ 1 ∷ 2 ∷ 1 ∷ 31 ∷ 1 ∷ 1 ∷ 1 ∷ 19 ∷ [])
 
 -- what is given of an object
 abbrev pub row_of : Object → Row

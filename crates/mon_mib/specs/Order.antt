@@ -15,7 +15,8 @@ abbrev pub start_of : List ℕ → List ℕ → Start
 start_of [] [] = First
 start_of [] (x ∷ xs) = Above x
 start_of (p ∷ ps) [] = First
-start_of (p ∷ ps) (x ∷ xs) = if nat_lt p x then Nowhere else (if nat_lt x p then First else start_of ps xs)
+start_of (p ∷ ps) (x ∷ xs) = if nat_lt p x then Nowhere else
+    (if nat_lt x p then First else start_of ps xs)
 
 -- i is one of those
 abbrev pub IsFrom : Start → ℕ → Type 0
@@ -27,4 +28,5 @@ IsFrom Nowhere i = ⊥
 abbrev pub is_before : List ℕ → List ℕ → Bool
 is_before [] qs = false
 is_before (p ∷ ps) [] = false
-is_before (p ∷ ps) (q ∷ qs) = if nat_lt p q then true else (if nat_lt q p then false else is_before ps qs)
+is_before (p ∷ ps) (q ∷ qs) = if nat_lt p q then true else (if nat_lt q p then false
+    else is_before ps qs)

@@ -5,7 +5,8 @@ use Rattle.mon_mib.specs.Assignment.{AreApart}
 
 -- there is capacity to undo each step, and to list it as remaining, and no two change the same
 -- thing
-pub record HasRoomToUndo (steps undos : List Step) (standing : List ℕ) (undo_room standing_room : ℕ) : Type 0 where
+pub record HasRoomToUndo (steps undos : List Step) (standing : List ℕ) (undo_room standing_room : ℕ)
+    : Type 0 where
   pub apart : AreApart steps
   pub no_undos : undos ≡ []
   pub none_standing : standing ≡ []

@@ -1,6 +1,6 @@
 -- What a search is made in.
 use Rattle.std.specs.Prelude.{ℕ, List}
-use Rattle.mon_vacm.specs.declared.family.Family.{Family}
+use Rattle.mon_vacm.specs.declared.family.ViewTreeFamily.{ViewTreeFamily}
 use Rattle.mon_vacm.specs.View.{IsInView}
 use Rattle.mon_mib.specs.declared.mib.Mib.{Mib}
 use Rattle.mon_mib.specs.Held.{Held}
@@ -10,7 +10,7 @@ use Rattle.mon_mib.specs.Map.{known_by}
 -- an agent's map at a moment, and a view by its name and the families of views
 pub record Sought (D : Type 0) : Type 0 where
   pub map : Mib D
-  pub families : List Family
+  pub families : List ViewTreeFamily
   pub view : List ℕ
   pub moment : ℕ
 

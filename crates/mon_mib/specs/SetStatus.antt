@@ -1,7 +1,9 @@
 -- The numbers of error statuses (RFC 3416 section 3), and of the faults of a Set.
 use Rattle.std.specs.Prelude.{ℕ, ℤ, pos, List, codes}
 use Rattle.mon_mib.specs.declared.set_status.SetStatus.{SetStatus}
-use Rattle.mon_mib.specs.declared.set_status.SetStatus.TheVariants.{NoAccess, WrongType, WrongLength, WrongValue, NoCreation, NotWritable}
+use Rattle.mon_mib.specs.declared.set_status.SetStatus.TheVariants.{NoAccess, WrongType}
+use Rattle.mon_mib.specs.declared.set_status.SetStatus.TheVariants.{WrongLength, WrongValue}
+use Rattle.mon_mib.specs.declared.set_status.SetStatus.TheVariants.{NoCreation, NotWritable}
 use Rattle.mon_mib.specs.declared.set_fault.SetFault.{SetFault}
 use Rattle.mon_mib.specs.declared.set_fault.SetFault.TheVariants.{OutOfMemory, Refused}
 

@@ -22,7 +22,9 @@ IsServed k o i (Found v) = Contains (instances k.held o) i × (v ≡ variable_va
 IsServed k o i NoInstance = ¬ (Contains (instances k.held o) i)
 IsServed k o i NoObject = ⊥
 
--- What follows a name: a variable, whose name has taken the place of that name, or none, and the name has stayed.
+-- What follows a name: a variable, whose name has taken the place of that name, or none, and the
+-- name has stayed.
 abbrev pub IsNextShown : Known → (List ℕ → Type 0) → List ℕ → List ℕ → Option Shown → Type 0
 IsNextShown k sees x now None = IsNext objects k sees x None × (now ≡ x)
-IsNextShown k sees x now (Some it) = (v : Value) × (got_of it ≡ Found v) × IsNext objects k sees x (Some (record { name = now; value = v }))
+IsNextShown k sees x now (Some it) = (v : Value) × (got_of it ≡ Found v)
+    × IsNext objects k sees x (Some (record { name = now; value = v }))

@@ -1,5 +1,6 @@
 -- The simulated device.
-use Rattle.std.specs.Prelude.{◌≡◌, ℕ, ◌<◌, length, slice_index_or, Bool, true, ◌+◌, ◌*◌, ◌%◌, ◌^◌, List, [], map, find, Option, Some, None, nat_eq, nat_lt, pos}
+use Rattle.std.specs.Prelude.{◌≡◌, ℕ, ◌<◌, length, slice_index_or, Bool, true, ◌+◌, ◌*◌, ◌%◌, ◌^◌}
+use Rattle.std.specs.Prelude.{List, [], map, find, Option, Some, None, nat_eq, nat_lt, pos}
 use Rattle.mon_mib.specs.declared.facts.Facts.{Facts}
 use Rattle.mon_mib.specs.declared.facts.SysText.{SysText}
 use Rattle.mon_mib.specs.declared.facts.SysText.TheVariants.{Contact, SystemName, Location}
@@ -61,7 +62,8 @@ interface_facts p moment = record {
 
 -- Its numbers, except those of its status; nobody asks for those of an absent interface.
 abbrev pub sim_facts : Option Interface → ℕ → Facts
-sim_facts (Some p) moment = record (interface_facts p moment) { admin = admin.Up; oper = oper.Up; last_change = 0 }
+sim_facts (Some p) moment = record (interface_facts p moment)
+    { admin = admin.Up; oper = oper.Up; last_change = 0 }
 sim_facts None moment = record {
   kind = pos 0;
   mtu = pos 0;

@@ -1,5 +1,6 @@
 -- What is found of a value for an object, before it is known of which name.
-use Rattle.std.specs.Prelude.{◌≡◌, ◌≢◌, ℕ, ◌+◌, ◌<◌, ◌≤◌, List, [], ◌∷◌, length, take, Contains, All, AllPairs, Option, Some, None, Result, Ok, Err}
+use Rattle.std.specs.Prelude.{◌≡◌, ◌≢◌, ℕ, ◌+◌, ◌<◌, ◌≤◌, List, [], ◌∷◌, length, take, Contains}
+use Rattle.std.specs.Prelude.{All, AllPairs, Option, Some, None, Result, Ok, Err}
 use Rattle.mon_ber.specs.declared.value.Value.{Value}
 use Rattle.mon_ber.specs.declared.value.Value.TheVariants as ber
 use Rattle.mon_ber.specs.declared.tag.Tag.TheVariants as tag
@@ -13,7 +14,9 @@ use Rattle.mon_mib.specs.declared.column.Column.TheVariants.{IfAdminStatus, IfAl
 use Rattle.mon_mib.specs.declared.object.Object.{Object}
 use Rattle.mon_mib.specs.declared.object.Object.TheVariants as served
 use Rattle.mon_mib.specs.declared.set_status.SetStatus.{SetStatus}
-use Rattle.mon_mib.specs.declared.set_status.SetStatus.TheVariants.{NoAccess, WrongType, WrongLength, WrongValue, NoCreation, NotWritable}
+use Rattle.mon_mib.specs.declared.set_status.SetStatus.TheVariants.{NoAccess, WrongType}
+use Rattle.mon_mib.specs.declared.set_status.SetStatus.TheVariants.{WrongLength, WrongValue}
+use Rattle.mon_mib.specs.declared.set_status.SetStatus.TheVariants.{NoCreation, NotWritable}
 use Rattle.mon_mib.specs.declared.binding_fault.BindingFault.{BindingFault}
 use Rattle.mon_mib.specs.declared.binding_fault.BindingFault.TheVariants.{OutOfMemory, Refused}
 use Rattle.mon_mib.specs.declared.set_fault.SetFault.{SetFault}
@@ -22,9 +25,11 @@ use Rattle.mon_mib.specs.declared.step.Step.{Step}
 use Rattle.mon_mib.specs.declared.writable.Writable.{Writable}
 use Rattle.mon_mib.specs.declared.writable.Writable.TheVariants as writable
 use Rattle.mon_mib.specs.Objects.{syntax_of}
-use Rattle.mon_mib.specs.Assignment.{IsChange, IsAskedChange, IsLast, IsNumberedAssignment, scalar_of}
+use Rattle.mon_mib.specs.Assignment.{IsChange, IsAskedChange, IsLast, IsNumberedAssignment}
+use Rattle.mon_mib.specs.Assignment.{scalar_of}
 use Rattle.mon_mib.specs.Known.{Known, instances}
-use Rattle.mon_mib.specs.Refusal.{longest, octet_count, IsNoStatus, IsAccepted, IsBindingRefused, order}
+use Rattle.mon_mib.specs.Refusal.{longest, octet_count, IsNoStatus, IsAccepted, IsBindingRefused}
+use Rattle.mon_mib.specs.Refusal.{order}
 use Rattle.mon_mib.specs.Status.{admin_number}
 
 -- the object that a Set may change
@@ -52,10 +57,12 @@ IsBadText v most other = ⊥
 -- why a value is no administrative status
 abbrev pub IsBadStatus : Value → SetStatus → Type 0
 IsBadStatus v WrongType = tag_of v ≢ tag.Integer
-IsBadStatus v WrongValue = (tag_of v ≡ tag.Integer) × ((s : AdminStatus) → v ≢ ber.Integer (admin_number s))
+IsBadStatus v WrongValue = (tag_of v ≡ tag.Integer) × ((s : AdminStatus)
+    → v ≢ ber.Integer (admin_number s))
 IsBadStatus v other = ⊥
 
--- what each refusal says of a value of an object, for the name with these numbers after the object's own
+-- what each refusal says of a value of an object, for the name with these numbers after the
+-- object's own
 abbrev pub IsGroundAt : Known → Object → List ℕ → Value → SetStatus → Type 0
 IsGroundAt k o rest v NoAccess = ⊥
 IsGroundAt k o rest v NotWritable = ⊥
@@ -65,9 +72,10 @@ IsGroundAt k o rest v WrongValue = IsNoStatus o v
 IsGroundAt k o rest v NoCreation = (i : ℕ) → rest ≡ i ∷ [] → Contains (instances k.held o) i → ⊥
 
 -- the first of them
-pub record IsRefusedAt (k : Known) (o : Object) (rest : List ℕ) (v : Value) (r : SetStatus) : Type 0 where
-  pub ground : IsGroundAt k o rest v r
-  pub first : (q : SetStatus) → order q < order r → ¬ (IsGroundAt k o rest v q)
+pub record IsRefusedAt (k : Known) (o : Object) (rest : List ℕ) (v : Value) (r : SetStatus) : Type 0
+  where
+    pub ground : IsGroundAt k o rest v r
+    pub first : (q : SetStatus) → order q < order r → ¬ (IsGroundAt k o rest v q)
 
 -- none, and the change
 pub record IsMade (k : Known) (o : Object) (rest : List ℕ) (v : Value) (c : Change) : Type 0 where
@@ -95,9 +103,11 @@ fault_at OutOfMemory index = fault.OutOfMemory
 fault_at (Refused status) index = fault.Refused status index
 
 -- what is so after the bindings before a place
-pub record IsPlannedTo (k : Known) (sees : List ℕ → Type 0) (bindings : List Binding) (n : ℕ) (steps : List Step) : Type 0 where
+pub record IsPlannedTo (k : Known) (sees : List ℕ → Type 0) (bindings : List Binding) (n : ℕ)
+    (steps : List Step) : Type 0 where
   pub accepted : All (IsAccepted k sees) (take n bindings)
   pub below : All (λ s. s.index ≤ n) steps
   pub rising : AllPairs (λ s t. s.index < t.index) steps
   pub each : All (IsNumberedAssignment k bindings) steps
-  pub all : (j : ℕ) (b : Binding) → j < n → IsLast bindings j b → (s : Step) × Contains steps s × (s.index ≡ j + 1)
+  pub all : (j : ℕ) (b : Binding) → j < n → IsLast bindings j b
+      → (s : Step) × Contains steps s × (s.index ≡ j + 1)

@@ -21,4 +21,5 @@ module _ {D : Type 0} (held : D → Held) (refuses : D → Change → Type 0) (f
 
   -- a change was undone, or it remains and is listed
   abbrev pub IsUndoneOrStands : Step → D → D → List ℕ → List ℕ → Type 0
-  IsUndoneOrStands undo old new before after = IsBack undo old new before after ⊎ IsListedStanding undo old new before after
+  IsUndoneOrStands undo old new before after = IsBack undo old new before after
+      ⊎ IsListedStanding undo old new before after

@@ -5,7 +5,8 @@ ghost use Rattle.mon_mib.specs.Standing.{as_row};
 use crate::row::{Row, read_only, read_write};
 use mon_ber::Tag;
 
-/// The served columns of ifTable and ifXTable (RFC 2863 section 6): a variable for each interface, whose instance is its ifIndex.
+/// The served columns of ifTable and ifXTable (RFC 2863 section 6): a variable for each interface,
+/// whose instance is its ifIndex.
 #[derive(Clone, Copy, PartialEq, Eq)]
 pub enum Column {
     /// ifIndex: the interface's number, from 1 on.

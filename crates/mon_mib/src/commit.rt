@@ -1,4 +1,5 @@
-//! The second phase of a Set: assigning, and undoing what was assigned where one fails (RFC 3416 section 4.2.5).
+//! The second phase of a Set: assigning, and undoing what was assigned where one fails (RFC 3416
+//! section 4.2.5).
 
 ghost use Rattle.std.specs.Prelude.{◌≡◌, ℕ, ◌+◌, ◌<◌, ◌≤◌, List, [], ◌∷◌, ◌++◌, IfErr, OnOk, OnErr, vec_len, vec_capacity};
 ghost use Rattle.mon_mib.specs.declared.step.Step.{Step as AnyStep};
@@ -30,7 +31,8 @@ pub enum Commit {
 
 /// Assigns one after another. Where one fails, those before are undone.
 pub(crate) fn assign_all<D: Device>(device: &mut D, plan: SetPlan) -> Commit
-    ensures outcome { IsCommitted D.held D.refuses plan (D.held device.old) (D.held device.new) result }
+    ensures outcome { IsCommitted D.held D.refuses plan (D.held device.old) (D.held device.new)
+        result }
     ensures failures { D.failed device.new ≡ failures_by_then result (D.failed device.old) }
 {
     let SetPlan {
@@ -52,7 +54,8 @@ pub(crate) fn assign_all<D: Device>(device: &mut D, plan: SetPlan) -> Commit
 fn assign_one<D: Device>(device: &mut D, step: Step, undos: &mut Vec<Step>) -> Result<(), usize>
     requires { vec_len undos.old < vec_capacity undos.old }
     ensures made { OnOk result (D.held device.new ≡ changed step.change (D.held device.old)) }
-    ensures undo { OnOk result (undos.new.items ≡ undos.old.items ++ record { index = step.index; change = undoing step.change (D.held device.old) } ∷ []) }
+    ensures undo { OnOk result (undos.new.items ≡ undos.old.items
+        ++ record { index = step.index; change = undoing step.change (D.held device.old) } ∷ []) }
     ensures quiet { OnOk result (D.failed device.new ≡ D.failed device.old) }
     ensures kept { OnErr result (D.held device.new ≡ D.held device.old) }
     ensures number { IfErr result (λ failed. failed ≡ step.index) }
@@ -82,7 +85,8 @@ fn undo_all<D: Device>(
 ) -> Commit
     requires room { vec_len undos ≤ vec_capacity standing }
     requires none { standing.items ≡ [] }
-    ensures outcome { (done : List AnyStep) (before : Held) → AreApart done → undos.items ≡ undoings done before → D.held device.old ≡ changes done before
+    ensures outcome { (done : List AnyStep) (before : Held) → AreApart done
+        → undos.items ≡ undoings done before → D.held device.old ≡ changes done before
         → IsUndone D.held D.refuses done before (D.held device.new) failed result }
     ensures failures { D.failed device.new ≡ undo_failures result (D.failed device.old) }
 {
@@ -101,7 +105,8 @@ fn undo_all<D: Device>(
 /// Undoes one assignment, or lists the binding's number.
 fn undo_one<D: Device>(device: &mut D, undo: Step, standing: &mut Vec<usize>)
     requires { vec_len standing.old < vec_capacity standing.old }
-    ensures how { IsUndoneOrStands D.held D.refuses D.failed undo device.old device.new standing.old.items standing.new.items }
+    ensures how { IsUndoneOrStands D.held D.refuses D.failed undo device.old device.new
+        standing.old.items standing.new.items }
     ensures len { vec_len standing.new ≤ vec_len standing.old + 1 }
     ensures capacity { vec_capacity standing.old ≤ vec_capacity standing.new }
 {

@@ -16,7 +16,8 @@ pub enum Counter {
     SilentDrops,
 }
 
-/// The counters of the snmp group, each a Counter32, which goes from 4294967295 to 0 (RFC 3418 section 2).
+/// The counters of the snmp group, each a Counter32, which goes from 4294967295 to 0 (RFC 3418
+/// section 2).
 #[derive(Clone, Copy, Debug, PartialEq, Eq)]
 pub struct Counters {
     /// snmpInPkts: messages received.

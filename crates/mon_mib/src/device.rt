@@ -8,7 +8,8 @@ use crate::facts::{Facts, IfText, SysText};
 use crate::fault::DeviceFault;
 use crate::moment::Moment;
 
-/// A device with interfaces, whose indexes stay the same (ifIndex, RFC 2863 section 6), and of which some things can be changed.
+/// A device with interfaces, whose indexes stay the same (ifIndex, RFC 2863 section 6), and of
+/// which some things can be changed.
 pub trait Device {
     /// What it holds: texts, the indexes of its interfaces, and the facts of each at every time.
     ghost held: { Self → Held };
@@ -35,13 +36,15 @@ pub trait Device {
 
     /// Returns the numbers of an interface at a time, or `None` for an index that the device lacks.
     fn facts(&self, index: u32, moment: Moment) -> Option<Facts>
-        ensures there { Contains (held self.now).indexes index → result ≡ Some (facts_at (held self.now) index moment) }
+        ensures there { Contains (held self.now).indexes index
+            → result ≡ Some (facts_at (held self.now) index moment) }
         ensures found { IfSome result (λ _. Contains (held self.now).indexes index) }
         ensures range { IfSome result (λ _. index < 2 ^ 31) };
 
     /// A text of an interface, empty for an index that the device lacks.
     fn text(&self, index: u32, which: IfText) -> &[u8]
-        ensures there { Contains (held self.now).indexes index → result.now ≡ text_at (held self.now) index which }
+        ensures there { Contains (held self.now).indexes index
+            → result.now ≡ text_at (held self.now) index which }
         ensures lacking { ¬ (Contains (held self.now).indexes index) → result.now ≡ [] };
 
     /// Makes a change, and returns the one that undoes it. A change that fails leaves everything,

@@ -67,13 +67,17 @@ impl<D: Device + Drop> Device for FuseDevice<D> {
 
     /// Changes as the other device does, except the changes that must fail. Each is counted.
     fn apply(&mut self, change: Change) -> Result<Change, DeviceFault>
-        ensures made { OnOk result (D.held self.new.device ≡ changed change (D.held self.old.device)) }
+        ensures made { OnOk result (D.held self.new.device ≡ changed change
+            (D.held self.old.device)) }
         ensures undo { IfOk result (λ undo. undo ≡ undoing change (D.held self.old.device)) }
         ensures there { OnOk result (IsOf (D.held self.old.device).indexes change) }
-        ensures quiet { OnOk result (all_failures (D.failed self.new.device) self.new.blown ≡ all_failures (D.failed self.old.device) self.old.blown) }
+        ensures quiet { OnOk result (all_failures (D.failed self.new.device) self.new.blown
+            ≡ all_failures (D.failed self.old.device) self.old.blown) }
         ensures kept { OnErr result (D.held self.new.device ≡ D.held self.old.device) }
-        ensures refused { OnErr result (IsBlown self.old.fuses self.old.applies ⊎ D.refuses self.old.device change) }
-        ensures counted { OnErr result (all_failures (D.failed self.new.device) self.new.blown ≡ one_failure (all_failures (D.failed self.old.device) self.old.blown)) }
+        ensures refused { OnErr result (IsBlown self.old.fuses self.old.applies
+            ⊎ D.refuses self.old.device change) }
+        ensures counted { OnErr result (all_failures (D.failed self.new.device) self.new.blown
+            ≡ one_failure (all_failures (D.failed self.old.device) self.old.blown)) }
 
         // It fails where its fuse is blown, and the next change is the next number.
         ensures blown { IsBlown self.old.fuses self.old.applies → result ≡ Err DeviceFault.Failed }

@@ -6,7 +6,8 @@ ghost use Rattle.mon_mib.specs.Order.{IsFrom};
 use crate::object::Object;
 use crate::start::Start;
 
-/// Instances of an object that a view hides: from a start on up to the least one in view, or all where none is.
+/// Instances of an object that a view hides: from a start on up to the least one in view, or all
+/// where none is.
 #[derive(Clone, Copy)]
 pub(crate) struct Gap {
     pub object: Object,

@@ -22,8 +22,8 @@ const FIRST_OF_SNMP: usize = 26;
 /// The place of the first object under snmpEngine.
 const FIRST_OF_ENGINE: usize = 39;
 
-/// The place among the served objects that the object of a name has, if the name is under one. Callers
-/// look whether it is under that one, so only their speed depends on the numbers here.
+/// The place among the served objects that the object of a name has, if the name is under one.
+/// Callers look whether it is under that one, so only their speed depends on the numbers here.
 pub(crate) fn guess_place(name: &[u32]) -> usize {
     match number_at(name, 6) {
         1 => place_in(&SYSTEM, number_at(name, 7)),

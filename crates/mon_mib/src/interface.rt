@@ -7,7 +7,8 @@ use crate::status::Status;
 use mon_ber::Octets;
 use std::mem;
 
-/// A count that grows by the same number each second, from 2^64 - 1 to 0 (Counter64, RFC 2578 section 7.1.10).
+/// A count that grows by the same number each second, from 2^64 - 1 to 0 (Counter64, RFC 2578
+/// section 7.1.10).
 #[derive(Clone, Copy, Debug, PartialEq, Eq)]
 pub struct Growth {
     /// The count at the agent's start.

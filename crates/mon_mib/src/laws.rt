@@ -1,10 +1,11 @@
-//! Laws of the served objects, of the map of variables, and of changes. Each is a function that does nothing.
+//! Laws of the served objects, of the map of variables, and of changes. Each is a function that
+//! does nothing.
 
 ghost use Rattle.std.specs.Prelude.{◌≡◌, ◌↔◌, ◌++◌, ◌∷◌, [], ℕ, List, Option, Contains, AllPairs, IsTrue, false};
 ghost use Rattle.std.specs.declared.cmp.Ordering.TheVariants.{Less};
 ghost use Rattle.mon_pdu.specs.declared.message.Binding.{Binding};
 ghost use Rattle.mon_ber.specs.Grammar.{tag_of};
-ghost use Rattle.mon_vacm.specs.declared.family.Family.{Family};
+ghost use Rattle.mon_vacm.specs.declared.family.ViewTreeFamily.{ViewTreeFamily};
 ghost use Rattle.mon_vacm.specs.View.{IsInView};
 ghost use Rattle.mon_mib.specs.declared.got.Got.{Got as AnyGot};
 ghost use Rattle.mon_mib.specs.declared.object.Object.{Object as AnyObject};
@@ -24,13 +25,15 @@ pub fn start()
 
 /// All names under a prefix come before all names under a later one.
 pub fn apart()
-    ensures { (p q rest others : List ℕ) → IsTrue (is_before p q) → name_cmp (p ++ rest) (q ++ others) ≡ Less }
+    ensures { (p q rest others : List ℕ) → IsTrue (is_before p q)
+        → name_cmp (p ++ rest) (q ++ others) ≡ Less }
 {}
 
 /// The served objects are in the order of their names, and none's name begins another's: each name
 /// under an object comes before each name under a later one.
 pub fn objects_rise()
-    ensures { AllPairs (λ o q. (rest others : List ℕ) → name_cmp (prefix_of o ++ rest) (prefix_of q ++ others) ≡ Less) objects }
+    ensures { AllPairs (λ o q. (rest others : List ℕ) → name_cmp (prefix_of o ++ rest)
+        (prefix_of q ++ others) ≡ Less) objects }
 {}
 
 /// The list of all variables has those of the objects, and no others.
@@ -45,7 +48,8 @@ pub fn typed()
 
 /// A name is that of one variable at most.
 pub fn one_variable()
-    ensures { (k : Known) (a b : Binding) → IsVariable objects k a → IsVariable objects k b → a.name ≡ b.name → a ≡ b }
+    ensures { (k : Known) (a b : Binding) → IsVariable objects k a → IsVariable objects k b
+        → a.name ≡ b.name → a ≡ b }
 {}
 
 /// Only one answer is right for Get of a name.
@@ -55,13 +59,15 @@ pub fn one_got()
 
 /// Only one answer is right for the successor of a name.
 pub fn one_next()
-    ensures { (k : Known) (families : List Family) (view x : List ℕ) (r s : Option Binding)
-        → IsNext objects k (IsInView families view) x r → IsNext objects k (IsInView families view) x s → r ≡ s }
+    ensures { (k : Known) (families : List ViewTreeFamily) (view x : List ℕ) (r s : Option Binding)
+        → IsNext objects k (IsInView families view) x r → IsNext objects k (IsInView families view)
+        x s → r ≡ s }
 {}
 
 /// The list of all variables is in the order of their names, where the indexes rise.
 pub fn variables_rise()
-    ensures { (k : Known) → AreIndexes k.held.indexes → AllPairs (λ a b. name_cmp a.name b.name ≡ Less) (vars k) }
+    ensures { (k : Known) → AreIndexes k.held.indexes → AllPairs
+        (λ a b. name_cmp a.name b.name ≡ Less) (vars k) }
 {}
 
 /// The undoing of a change puts back what was there.
@@ -71,5 +77,6 @@ pub fn undone()
 
 /// Changes of different things can be made in either order.
 pub fn swapped()
-    ensures { (c d : AnyChange) (h : Held) → same_target c d ≡ false → changed c (changed d h) ≡ changed d (changed c h) }
+    ensures { (c d : AnyChange) (h : Held) → same_target c d ≡ false
+        → changed c (changed d h) ≡ changed d (changed c h) }
 {}

@@ -1,7 +1,7 @@
-//! The management information of an agent: 43 served objects, and the map of their variables over a device.
-//! It follows RFC 3416 section 4.2, RFC 3418, RFC 2863 and RFC 3411 section 5.
-//! To the layer above: Get and the successor of a name are exact by the map, and a Set assigns all
-//! or nothing or says what remains assigned, for every device that meets its trait.
+//! The management information of an agent: 43 served objects, and the map of their variables over a
+//! device. It follows RFC 3416 section 4.2, RFC 3418, RFC 2863 and RFC 3411 section 5. To the layer
+//! above: Get and the successor of a name are exact by the map, and a Set assigns all or nothing or
+//! says what remains assigned, for every device that meets its trait.
 #![tactic(auto)]
 
 mod admin_status;

@@ -274,7 +274,8 @@ fn found<'a>(value: Value) -> Shown<'a>
 
 /// Returns the served object that a name is under, and what of the name follows the object's own.
 pub(crate) fn find_object(name: &[u32]) -> Option<(Object, &[u32])>
-    ensures some { IfSome result (λ found. Contains objects found.0 × (name.now ≡ prefix_of found.0 ++ found.1.now)) }
+    ensures some { IfSome result (λ found. Contains objects found.0
+        × (name.now ≡ prefix_of found.0 ++ found.1.now)) }
     ensures none { IfNone result (¬ (IsServedName name.now)) }
 {
     match object_at(guess_place(name), name) {
@@ -285,7 +286,8 @@ pub(crate) fn find_object(name: &[u32]) -> Option<(Object, &[u32])>
 
 /// The object at a place, if the name is under it, and what of the name follows the object's own.
 fn object_at(place: usize, name: &[u32]) -> Option<(Object, &[u32])>
-    ensures { IfSome result (λ found. Contains objects found.0 × (name.now ≡ prefix_of found.0 ++ found.1.now)) }
+    ensures { IfSome result (λ found. Contains objects found.0
+        × (name.now ≡ prefix_of found.0 ++ found.1.now)) }
 {
     let objects = all_objects();
     if place >= objects.len() {
@@ -300,7 +302,8 @@ fn object_at(place: usize, name: &[u32]) -> Option<(Object, &[u32])>
 
 /// What `find_object` returns, by a search among all objects.
 fn search_object(name: &[u32]) -> Option<(Object, &[u32])>
-    ensures some { IfSome result (λ found. Contains objects found.0 × (name.now ≡ prefix_of found.0 ++ found.1.now)) }
+    ensures some { IfSome result (λ found. Contains objects found.0
+        × (name.now ≡ prefix_of found.0 ++ found.1.now)) }
     ensures none { IfNone result (¬ (IsServedName name.now)) }
 {
     let object = all_objects()[candidate_place(name)];
@@ -310,23 +313,27 @@ fn search_object(name: &[u32]) -> Option<(Object, &[u32])>
     Some((object, rest))
 }
 
-/// The place of the one served object that a name can be under: all names under the objects before it come before the
-/// name, and the objects after it come after the name.
+/// The place of the one served object that a name can be under: all names under the objects before
+/// it come before the name, and the objects after it come after the name.
 pub(crate) fn candidate_place(name: &[u32]) -> usize
     ensures within { result < length objects }
-    ensures earlier { AllWithin (λ o. (rest : List ℕ) → name_cmp (prefix_of o ++ rest) name.now ≡ Less) objects 0 result }
-    ensures later { AllWithin (λ o. name_cmp name.now (prefix_of o) ≡ Less) objects (result + 1) (length objects) }
+    ensures earlier { AllWithin (λ o. (rest : List ℕ) → name_cmp (prefix_of o ++ rest) name.now
+        ≡ Less) objects 0 result }
+    ensures later { AllWithin (λ o. name_cmp name.now (prefix_of o) ≡ Less) objects (result + 1)
+        (length objects) }
 {
     let reached = all_objects().partition_point(|object| object.prefix().cmp(&name).is_le());
     reached.saturating_sub(1)
 }
 
-/// The place of the one served object that a name can be under, as of `candidate_place`. The object at
-/// the guessed place is tried first.
+/// The place of the one served object that a name can be under, as of `candidate_place`. The object
+/// at the guessed place is tried first.
 pub(crate) fn find_place(name: &[u32]) -> usize
     ensures within { result < length objects }
-    ensures earlier { AllWithin (λ o. (rest : List ℕ) → name_cmp (prefix_of o ++ rest) name.now ≡ Less) objects 0 result }
-    ensures later { AllWithin (λ o. name_cmp name.now (prefix_of o) ≡ Less) objects (result + 1) (length objects) }
+    ensures earlier { AllWithin (λ o. (rest : List ℕ) → name_cmp (prefix_of o ++ rest) name.now
+        ≡ Less) objects 0 result }
+    ensures later { AllWithin (λ o. name_cmp name.now (prefix_of o) ≡ Less) objects (result + 1)
+        (length objects) }
 {
     let objects = all_objects();
     let guess = guess_place(name);

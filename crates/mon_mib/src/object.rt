@@ -125,7 +125,8 @@ impl Object {
         }
     }
 
-    /// The name of the object's variable of an instance. It is always given, since it takes no heap memory.
+    /// The name of the object's variable of an instance. It is always given, since it takes no heap
+    /// memory.
     pub fn name(self, alloc: Global, instance: u32) -> Result<Oid, AllocError>
         ensures gives { IfOk result (λ name. name ≡ prefix_of self ++ instance ∷ []) }
         ensures always { IsOk result }

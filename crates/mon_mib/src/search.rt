@@ -28,8 +28,8 @@ use mon_vacm::{Access, Policy};
 use std::alloc::{AllocError, Global};
 use std::marker::Model;
 
-/// A search in a map at a moment, within a granted view. It keeps the gaps that it has found, so that of all variables that
-/// the view hides each is tried once.
+/// A search in a map at a moment, within a granted view. It keeps the gaps that it has found, so
+/// that of all variables that the view hides each is tried once.
 #[derive(Drop)]
 pub struct Search<'a, D: Device + Drop> {
     mib: &'a Mib<D>,
@@ -47,9 +47,16 @@ impl<'a, D: Device + Drop> Model for Search<'a, D> {
 
     ghost Value = { Sought D };
 
-    ghost view = { λ s. record { map = s.mib.now; families = s.policy.now.families; view = view_of s.access; moment = s.moment } };
+    ghost view = { λ s. record {
+      map = s.mib.now;
+      families = s.policy.now.families;
+      view = view_of
+          s.access;
+      moment = s.moment;
+    } };
 
-    ghost invariant = { λ s. AreGaps (D.held s.mib.now.device) (IsInView s.policy.now.families (view_of s.access)) s.gaps.items };
+    ghost invariant = { λ s. AreGaps (D.held s.mib.now.device)
+        (IsInView s.policy.now.families (view_of s.access)) s.gaps.items };
 }
 
 impl<'a, D: Device + Drop> Search<'a, D> {
@@ -61,7 +68,12 @@ impl<'a, D: Device + Drop> Search<'a, D> {
         access: Access<'a>,
         moment: Moment,
     ) -> Self
-        ensures { let sought : Sought D = record { map = mib.now; families = policy.now.families; view = view_of access.entry; moment = moment } in
+        ensures { let sought : Sought D = record {
+          map = mib.now;
+          families = policy.now.families;
+          view = view_of access.entry;
+          moment = moment;
+        } in
             result ≡ sought }
     {
         Search {
@@ -80,10 +92,12 @@ impl<'a, D: Device + Drop> Search<'a, D> {
         self.mib.settings()
     }
 
-    /// Returns what is at a name, as `Mib::get` does; under a name that the view hides there is no object.
+    /// Returns what is at a name, as `Mib::get` does; under a name that the view hides there is no
+    /// object.
     pub fn get(&self, alloc: Global, name: &Oid) -> Result<Got, AllocError>
         ensures { let sees = IsSeenIn self.now in
-            IfOk result (λ got. (¬ (sees name.now) × (got ≡ NoObject)) ⊎ (sees name.now × IsGot (known_in D.held self.now) name.now got)) }
+            IfOk result (λ got. (¬ (sees name.now) × (got ≡ NoObject))
+            ⊎ (sees name.now × IsGot (known_in D.held self.now) name.now got)) }
     {
         if !self.policy.sees(self.access, name) {
             return Ok(Got::NoObject);
@@ -94,7 +108,8 @@ impl<'a, D: Device + Drop> Search<'a, D> {
     /// Returns what `get` does, with octets lent where the agent keeps them.
     pub fn show(&self, alloc: Global, name: &Oid) -> Result<Shown<'_>, AllocError>
         ensures { let sees = IsSeenIn self.now in
-            IfOk result (λ shown. (¬ (sees name.now) × (got_of shown ≡ NoObject)) ⊎ (sees name.now × IsGot (known_in D.held self.now) name.now (got_of shown))) }
+            IfOk result (λ shown. (¬ (sees name.now) × (got_of shown ≡ NoObject))
+            ⊎ (sees name.now × IsGot (known_in D.held self.now) name.now (got_of shown))) }
     {
         if !self.policy.sees(self.access, name) {
             return Ok(Shown::Other(Got::NoObject));
@@ -104,7 +119,8 @@ impl<'a, D: Device + Drop> Search<'a, D> {
 
     /// Returns the least variable in view that exceeds a name, as `Mib::next` does.
     pub fn next(&mut self, alloc: Global, name: &Oid) -> Result<Option<Binding>, AllocError>
-        ensures next { IfOk result (IsNext objects (known_in D.held self.old) (IsSeenIn self.old) name.now) }
+        ensures next { IfOk result (IsNext objects (known_in D.held self.old) (IsSeenIn self.old)
+            name.now) }
         ensures stays { self.new ≡ self.old }
     {
         let mut own = name.try_clone(alloc)?;
@@ -117,10 +133,11 @@ impl<'a, D: Device + Drop> Search<'a, D> {
         }
     }
 
-    /// Puts the name of the least variable in view that exceeds a name in its place, and returns its
-    /// value, with octets lent where the agent keeps them. If there is none, the name stays.
+    /// Puts the name of the least variable in view that exceeds a name in its place, and returns
+    /// its value, with octets lent where the agent keeps them. If there is none, the name stays.
     pub fn step(&mut self, alloc: Global, name: &mut Oid) -> Result<Option<Shown<'a>>, AllocError>
-        ensures next { IfOk result (IsNextShown (known_in D.held self.old) (IsSeenIn self.old) name.old name.new) }
+        ensures next { IfOk result (IsNextShown (known_in D.held self.old) (IsSeenIn self.old)
+            name.old name.new) }
         ensures stays { self.new ≡ self.old }
     {
         let Some((object, instance)) = self.find(alloc, name)? else {
@@ -133,9 +150,11 @@ impl<'a, D: Device + Drop> Search<'a, D> {
 
     /// The object and instance of the least variable in view that exceeds a name.
     fn find(&mut self, alloc: Global, name: &Oid) -> Result<Option<(Object, u32)>, AllocError>
-        ensures next { IfOk result (λ found. IsNext objects (known_in D.held self.old) (IsSeenIn self.old) name.now
+        ensures next { IfOk result (λ found. IsNext objects (known_in D.held self.old)
+            (IsSeenIn self.old) name.now
             (option_map (λ p. variable (known_in D.held self.old) p.0 p.1) found)) }
-        ensures there { IfOk result (λ found. IfSome found (λ p. Contains (instances (D.held self.old.map.device) p.0) p.1)) }
+        ensures there { IfOk result (λ found. IfSome found (λ p. Contains
+            (instances (D.held self.old.map.device) p.0) p.1)) }
         ensures stays { self.new ≡ self.old }
     {
         let place = find_place(name.parts());
@@ -155,23 +174,27 @@ impl<'a, D: Device + Drop> Search<'a, D> {
         object: Object,
         name: &Oid,
     ) -> Result<Option<u32>, AllocError>
-        ensures next { IfOk result (λ found. IsNext (object ∷ []) (known_in D.held self.old) (IsSeenIn self.old) name.now
+        ensures next { IfOk result (λ found. IsNext (object ∷ []) (known_in D.held self.old)
+            (IsSeenIn self.old) name.now
             (option_map (variable (known_in D.held self.old) object) found)) }
-        ensures there { IfOk result (λ found. IfSome found (λ i. Contains (instances (D.held self.old.map.device) object) i)) }
+        ensures there { IfOk result (λ found. IfSome found (λ i. Contains
+            (instances (D.held self.old.map.device) object) i)) }
         ensures stays { self.new ≡ self.old }
     {
         let start = find_start(object.prefix(), name.parts());
         self.least_in_view(alloc, object, start)
     }
 
-    /// The least instance of an object in view from a start on. Where the view hides some before it, that is one more gap.
+    /// The least instance of an object in view from a start on. Where the view hides some before
+    /// it, that is one more gap.
     fn least_in_view(
         &mut self,
         alloc: Global,
         object: Object,
         start: Start,
     ) -> Result<Option<u32>, AllocError>
-        ensures least { IfOk result (IsLeastInView (D.held self.old.map.device) (IsSeenIn self.old) object start) }
+        ensures least { IfOk result (IsLeastInView (D.held self.old.map.device) (IsSeenIn self.old)
+            object start) }
         ensures stays { self.new ≡ self.old }
     {
         if let Some(gap) = self.find_gap(object, start) {
@@ -196,7 +219,8 @@ impl<'a, D: Device + Drop> Search<'a, D> {
         object: Object,
         start: Start,
     ) -> Result<(Option<u32>, bool), AllocError>
-        ensures { IfOk result (λ found. IsLeastInView (D.held self.now.map.device) (IsSeenIn self.now) object start found.0) }
+        ensures { IfOk result (λ found. IsLeastInView (D.held self.now.map.device)
+            (IsSeenIn self.now) object start found.0) }
     {
         let mut hides = false;
         let mut rest = start;
@@ -222,7 +246,8 @@ impl<'a, D: Device + Drop> Search<'a, D> {
 
     /// Returns `true` if an object's variable of an instance is in view.
     fn sees(&self, alloc: Global, object: Object, instance: u32) -> Result<bool, AllocError>
-        ensures { IfOk result (λ seen. IsTrue seen ↔ IsSeenIn self.now (prefix_of object ++ instance ∷ [])) }
+        ensures { IfOk result (λ seen. IsTrue seen ↔ IsSeenIn self.now
+            (prefix_of object ++ instance ∷ [])) }
     {
         let own = object.name(alloc, instance)?;
         Ok(self.policy.sees(self.access, &own))
@@ -230,7 +255,8 @@ impl<'a, D: Device + Drop> Search<'a, D> {
 
     /// A gap in which an object's instances from a start on begin, if one is known.
     fn find_gap(&self, object: Object, start: Start) -> Option<Gap>
-        ensures { IfSome result (λ gap. IsLeastInView (D.held self.now.map.device) (IsSeenIn self.now) object start gap.least) }
+        ensures { IfSome result (λ gap. IsLeastInView (D.held self.now.map.device)
+            (IsSeenIn self.now) object start gap.least) }
     {
         for gap in &self.gaps {
             if gap.covers(object, start) {

@@ -27,7 +27,8 @@ impl Model for SetPlan {
 
     ghost view = { λ p. p.steps.items };
 
-    ghost invariant = { λ p. HasRoomToUndo p.steps.items p.undos.items p.standing.items (vec_capacity p.undos) (vec_capacity p.standing) };
+    ghost invariant = { λ p. HasRoomToUndo p.steps.items p.undos.items p.standing.items
+        (vec_capacity p.undos) (vec_capacity p.standing) };
 }
 
 impl SetPlan {

@@ -1,4 +1,5 @@
-//! A Set in two phases: which bindings are refused and what the others change, and then the changes (RFC 3416 section 4.2.5).
+//! A Set in two phases: which bindings are refused and what the others change, and then the changes
+//! (RFC 3416 section 4.2.5).
 
 ghost use Rattle.std.specs.Prelude.{◌≡◌, ℕ, ◌↔◌, ◌++◌, ◌∷◌, [], ◌^◌, ◌<◌, ◌≤◌, length, IfOk, IfErr, IfSome, IfNone, IsSomeAnd, IsTrue, All, Contains};
 ghost use Rattle.mon_mib.specs.declared.binding_fault.BindingFault.{BindingFault as AnyFault};
@@ -43,11 +44,12 @@ const ALIAS_MAX: usize = 64;
 impl<D: Device + Drop> Mib<D> {
     ghost use Rattle.mon_mib.specs.Map.{known_by, map_counters, map_device, map_settings};
 
-    /// What a Set of these bindings is to assign, or the first of its bindings that is refused (RFC 3416 section 4.2.5).
-    /// For each binding in order: `NoAccess` for a name outside the view, `NotWritable` for one
-    /// under no object that a Set may change, `WrongType`, `WrongLength` and `WrongValue` for the
-    /// value, `NoCreation` for a name with no such instance. Of several bindings of one name only
-    /// the last is assigned. The plan owns the new texts and the capacity for undoing.
+    /// What a Set of these bindings is to assign, or the first of its bindings that is refused (RFC
+    /// 3416 section 4.2.5). For each binding in order: `NoAccess` for a name outside the view,
+    /// `NotWritable` for one under no object that a Set may change, `WrongType`, `WrongLength` and
+    /// `WrongValue` for the value, `NoCreation` for a name with no such instance. Of several
+    /// bindings of one name only the last is assigned. The plan owns the new texts and the capacity
+    /// for undoing.
     pub fn test_set(
         &self,
         alloc: Global,
@@ -79,8 +81,10 @@ impl<D: Device + Drop> Mib<D> {
     /// the last first. If an undoing fails too, the others are still undone. It allocates nothing:
     /// the plan has the capacity.
     pub fn commit(&mut self, plan: SetPlan) -> Commit
-        ensures outcome { IsCommitted D.held D.refuses plan (D.held (map_device self.old)) (D.held (map_device self.new)) result }
-        ensures failures { D.failed (map_device self.new) ≡ failures_by_then result (D.failed (map_device self.old)) }
+        ensures outcome { IsCommitted D.held D.refuses plan (D.held (map_device self.old))
+            (D.held (map_device self.new)) result }
+        ensures failures { D.failed (map_device self.new) ≡ failures_by_then result
+            (D.failed (map_device self.old)) }
         ensures settings { map_settings self.new ≡ map_settings self.old }
         ensures counters { map_counters self.new ≡ map_counters self.old }
     {
@@ -134,7 +138,8 @@ impl<D: Device + Drop> Mib<D> {
         }
     }
 
-    /// The change that a value of a text of the device asks for, for the name with these numbers after the object's own.
+    /// The change that a value of a text of the device asks for, for the name with these numbers
+    /// after the object's own.
     fn assign_sys_text(
         &self,
         alloc: Global,
@@ -195,10 +200,13 @@ impl<D: Device + Drop> Mib<D> {
 
     /// Returns the interface whose index is all of these numbers, and its facts.
     fn row(&self, rest: &[u32], moment: Moment) -> Result<(u32, Facts), SetStatus>
-        ensures found { IfOk result (λ row. (rest.now ≡ row.0 ∷ []) × Contains (D.held (map_device self.now)).indexes row.0) }
-        ensures facts { IfOk result (λ row. row.1 ≡ facts_at (D.held (map_device self.now)) row.0 moment) }
+        ensures found { IfOk result (λ row. (rest.now ≡ row.0 ∷ [])
+            × Contains (D.held (map_device self.now)).indexes row.0) }
+        ensures facts { IfOk result (λ row. row.1 ≡ facts_at (D.held (map_device self.now)) row.0
+            moment) }
         ensures missing { IfErr result (λ status. status ≡ SetStatus.NoCreation) }
-        ensures lacking { IfErr result (λ _. (i : ℕ) → rest.now ≡ i ∷ [] → Contains (D.held (map_device self.now)).indexes i → ⊥) }
+        ensures lacking { IfErr result (λ _. (i : ℕ) → rest.now ≡ i ∷ []
+            → Contains (D.held (map_device self.now)).indexes i → ⊥) }
     {
         let [index] = rest else {
             return Err(SetStatus::NoCreation);
@@ -213,7 +221,8 @@ impl<D: Device + Drop> Mib<D> {
 /// Returns the object that a Set may change and that a name is under, and what of the name follows
 /// the object's own.
 fn find_writable(name: &[u32]) -> Option<(Writable, &[u32])>
-    ensures some { IfSome result (λ found. (name.now ≡ prefix_of (object_of found.0) ++ found.1.now) × IsWritable name.now (object_of found.0)) }
+    ensures some { IfSome result (λ found. (name.now ≡ prefix_of (object_of found.0) ++ found.1.now)
+        × IsWritable name.now (object_of found.0)) }
     ensures none { IfNone result ((o : AnyObject) → IsWritable name.now o → ⊥) }
 {
     let (object, rest) = find_object(name)?;

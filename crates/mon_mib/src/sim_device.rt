@@ -14,8 +14,9 @@ use crate::status::Status;
 use crate::sys_texts::SysTexts;
 use std::marker::Model;
 
-/// A simulated device: interfaces that count evenly, and the texts that can be set. It fails only changes of interfaces
-/// that it lacks. Contracts see the list of the interfaces, the texts, and how many changes have failed.
+/// A simulated device: interfaces that count evenly, and the texts that can be set. It fails only
+/// changes of interfaces that it lacks. Contracts see the list of the interfaces, the texts, and
+/// how many changes have failed.
 pub struct SimDevice {
     interfaces: Vec<Interface>,
     texts: SysTexts,
@@ -39,15 +40,22 @@ impl Model for SimDevice {
 
     ghost Value = { Sim };
 
-    ghost view = { λ d. record { interfaces = d.interfaces.items; texts = d.texts; failures = d.failures } };
+    ghost view = { λ d. record {
+      interfaces = d.interfaces.items;
+      texts = d.texts;
+      failures =
+          d.failures;
+    } };
 
     ghost invariant = { λ d. AreIndexes (indexes_of d.interfaces.items) };
 }
 
 impl SimDevice {
-    /// The device of these interfaces and texts, or `BadIndex` where the indexes do not rise strictly from 1 to 2147483647.
+    /// The device of these interfaces and texts, or `BadIndex` where the indexes do not rise
+    /// strictly from 1 to 2147483647.
     pub fn new(interfaces: Vec<Interface>, texts: SysTexts) -> Result<Self, DeviceFault>
-        ensures made { IfOk result (λ device. device ≡ record { interfaces = interfaces.items; texts = texts; failures = 0 }) }
+        ensures made { IfOk result (λ device. device ≡ record
+            { interfaces = interfaces.items; texts = texts; failures = 0 }) }
         ensures exact { IsOk result ↔ AreIndexes (indexes_of interfaces.items) }
         ensures fault { IfErr result (λ fault. fault ≡ DeviceFault.BadIndex) }
     {
@@ -138,13 +146,15 @@ impl Device for SimDevice {
 }
 
 impl SimDevice {
-    /// The place of the interface of an index, or `BadIndex` where the device lacks it. That is counted as a failure.
+    /// The place of the interface of an index, or `BadIndex` where the device lacks it. That is
+    /// counted as a failure.
     fn place(&mut self, index: u32) -> Result<usize, DeviceFault>
         ensures found { IfOk result (IsPlaceOfIndex self.old.interfaces index) }
         ensures same { OnOk result (self.new ≡ self.old) }
         ensures lacking { OnErr result (¬ (Contains (indexes_of self.old.interfaces) index)) }
         ensures fault { IfErr result (λ fault. fault ≡ DeviceFault.BadIndex) }
-        ensures counted { OnErr result (self.new ≡ record self.old { failures = one_failure self.old.failures }) }
+        ensures counted { OnErr result (self.new ≡ record self.old
+            { failures = one_failure self.old.failures }) }
     {
         let Some(place) = place_of(&self.interfaces, index) else {
             self.failures = self.failures.saturating_add(1);

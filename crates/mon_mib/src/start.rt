@@ -38,8 +38,8 @@ impl Start {
     }
 }
 
-/// From which instance on the names `prefix.i` exceed the name, in the order of RFC 3416 section 4.2.2.
-/// Most names begin with the prefix.
+/// From which instance on the names `prefix.i` exceed the name, in the order of RFC 3416 section
+/// 4.2.2. Most names begin with the prefix.
 pub(crate) fn find_start(prefix: &[u32], name: &[u32]) -> Start
     ensures { result ≡ start_of prefix.now name.now }
 {

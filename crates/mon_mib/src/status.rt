@@ -5,12 +5,14 @@ ghost use Rattle.mon_mib.specs.Held.{at_start};
 
 use crate::admin_status::AdminStatus;
 
-/// What a Set of ifAdminStatus changes of an interface (RFC 2863 section 6). Its operational status is the administrative one.
+/// What a Set of ifAdminStatus changes of an interface (RFC 2863 section 6). Its operational status
+/// is the administrative one.
 #[derive(Clone, Copy, Debug, PartialEq, Eq)]
 pub struct Status {
     /// ifAdminStatus.
     pub(crate) admin: AdminStatus,
-    /// ifLastChange: sysUpTime of the last Set that changed the status, or 0, in hundredths of a second modulo 2^32.
+    /// ifLastChange: sysUpTime of the last Set that changed the status, or 0, in hundredths of a
+    /// second modulo 2^32.
     pub(crate) since: u32,
 }
 

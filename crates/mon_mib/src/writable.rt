@@ -23,7 +23,8 @@ pub(crate) enum Writable {
 
 /// The text of a value of at most this many octets.
 pub(crate) fn read_text(value: &Value, longest: usize) -> Result<&[u8], SetStatus>
-    ensures text { IfOk result (λ text. (value.now ≡ ber.Octets text.now) × (length text.now ≤ longest)) }
+    ensures text { IfOk result (λ text. (value.now ≡ ber.Octets text.now)
+        × (length text.now ≤ longest)) }
     ensures refused { IfErr result (IsBadText value.now longest) }
 {
     let Value::Octets(octets) = value else {

@@ -1,5 +1,5 @@
--- The fingerprint of labels: FNV-1a of 64 bits (RFC 9923) over names and values, as Prometheus takes it of
--- labels that are sorted by their names.
+-- The fingerprint of labels: FNV-1a of 64 bits (RFC 9923) over names and values, as Prometheus
+-- takes it of labels that are sorted by their names.
 use Rattle.std.specs.Prelude.{ℕ, ◌*◌, ◌%◌, ◌^◌, List, [], ◌∷◌, bit_xor}
 
 -- a hash after one more octet

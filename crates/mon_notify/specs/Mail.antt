@@ -1,5 +1,6 @@
 -- Texts that wait to be delivered, in the order in which they came.
-use Rattle.std.specs.Prelude.{ℕ, ◌≤◌, List, [], ◌∷◌, ◌++◌, drop, length, nat_lt, vec_capacity, if◌then◌else◌}
+use Rattle.std.specs.Prelude.{ℕ, ◌≤◌, List, [], ◌∷◌, ◌++◌, drop, length, nat_lt, vec_capacity}
+use Rattle.std.specs.Prelude.{if◌then◌else◌}
 use Rattle.std.specs.Global.{Vec}
 use Rattle.mon_udp.specs.Counts.{next_count}
 
@@ -26,7 +27,12 @@ abbrev pub after_text : List ℕ → Mail → Mail
 after_text text m =
     if nat_lt (length m.waiting) most_texts
     then record { waiting = m.waiting ++ text ∷ []; dropped = m.dropped; too_long = m.too_long }
-    else record { waiting = drop 1 m.waiting ++ text ∷ []; dropped = next_count m.dropped; too_long = m.too_long }
+    else record {
+      waiting = drop 1 m.waiting ++ text ∷ [];
+      dropped = next_count m.dropped;
+      too_long
+          = m.too_long;
+    }
 
 -- a text came: one that is too long is counted
 abbrev pub after_put : List ℕ → Mail → Mail

@@ -7,7 +7,8 @@ use Rattle.httpdate.specs.Text.{two_digits, four_digits, time_of_day}
 -- a date and a time of day, as 1985-04-12T23:20:50Z
 abbrev pub parts_text : Parts → List ℕ
 parts_text p =
-    four_digits p.year ++ codes "-" ++ two_digits p.mon ++ codes "-" ++ two_digits p.day ++ codes "T"
+    four_digits p.year ++ codes "-" ++ two_digits p.mon ++ codes "-" ++ two_digits p.day
+    ++ codes "T"
     ++ time_of_day p ++ codes "Z"
 
 -- the same of a date

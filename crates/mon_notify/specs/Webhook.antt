@@ -1,10 +1,11 @@
--- The JSON object of one change, in the form of Alertmanager's webhook, version 4: a group of one alert,
--- which is grouped by all its labels.
+-- The JSON object of one change, in the form of Alertmanager's webhook, version 4: a group of one
+-- alert, which is grouped by all its labels.
 use Rattle.std.specs.Prelude.{ℕ, List, [], ◌∷◌, ◌++◌, Option, Some, None, codes, map}
 use Rattle.hex.specs.Hex.{encode_lower}
 use Rattle.std.specs.Int.{to_be_bytes, w64}
 use Rattle.httpdate.specs.declared.date.HttpDate.{HttpDate as Date}
-use Rattle.serde_json.specs.Data.{Data, Members, number, unsigned, string, array, object, no_items, item, no_members, member, put}
+use Rattle.serde_json.specs.Data.{Data, Members, number, unsigned, string, array, object, no_items}
+use Rattle.serde_json.specs.Data.{item, no_members, member, put}
 use Rattle.serde_json.specs.Written.{compact_text}
 use Rattle.mon_notify.specs.declared.webhook.Notice.{Notice}
 use Rattle.mon_notify.specs.Fingerprint.{fingerprint}

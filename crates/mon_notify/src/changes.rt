@@ -42,7 +42,8 @@ pub struct DeviceChange<'a> {
 
 /// Adds a label.
 fn add<'a>(labels: &mut Vec<Label<'a>>, name: &'a str, value: &'a str) -> Result<(), AllocError>
-    ensures { OnOk result (map pair_of labels.new.items ≡ map pair_of labels.old.items ++ (name.now, value.now) ∷ []) }
+    ensures { OnOk result (map pair_of labels.new.items ≡ map pair_of labels.old.items
+        ++ (name.now, value.now) ∷ []) }
 {
     Ok(labels.push(Label { name, value })?)
 }
@@ -53,7 +54,8 @@ fn add_if_known<'a>(
     name: &'a str,
     value: Option<&'a str>,
 ) -> Result<(), AllocError>
-    ensures { OnOk result (map pair_of labels.new.items ≡ map pair_of labels.old.items ++ if_known name.now (option_map (λ t. t.now) value.entry)) }
+    ensures { OnOk result (map pair_of labels.new.items ≡ map pair_of labels.old.items
+        ++ if_known name.now (option_map (λ t. t.now) value.entry)) }
 {
     match value {
         Some(value) => add(labels, name, value),

@@ -1,5 +1,5 @@
-//! Notifications of changes by webhook, without a socket: the JSON object of a change, in the form of
-//! Alertmanager's webhook, and the texts that wait to be delivered.
+//! Notifications of changes by webhook, without a socket: the JSON object of a change, in the form
+//! of Alertmanager's webhook, and the texts that wait to be delivered.
 #![tactic(auto)]
 
 mod changes;

@@ -12,8 +12,8 @@ const MAX_TEXTS: usize = 256;
 /// The most octets of a text.
 const MAX_OCTETS: usize = 4096;
 
-/// Texts that wait to be delivered: at most 256, each of at most 4,096 octets. All memory is allocated at
-/// the start.
+/// Texts that wait to be delivered: at most 256, each of at most 4,096 octets. All memory is
+/// allocated at the start.
 #[derive(Drop)]
 pub struct Outbox {
     texts: Vec<Vec<u8>>,
@@ -29,9 +29,14 @@ impl Model for Outbox {
 
     ghost Value = { Mail };
 
-    ghost view = { λ o. record { waiting = map octets_of o.texts.items; dropped = o.dropped; too_long = o.too_long } };
+    ghost view = { λ o. record {
+      waiting = map octets_of o.texts.items;
+      dropped = o.dropped;
+      too_long = o.too_long;
+    } };
 
-    ghost invariant = { λ o. (vec_len o.texts + vec_len o.spare ≡ 256) × (256 ≤ vec_capacity o.texts) × (256 ≤ vec_capacity o.spare)
+    ghost invariant = { λ o. (vec_len o.texts + vec_len o.spare ≡ 256)
+        × (256 ≤ vec_capacity o.texts) × (256 ≤ vec_capacity o.spare)
         × All IsRoomy o.texts.items × All IsRoomy o.spare.items };
 }
 
@@ -80,8 +85,8 @@ impl Outbox {
         })
     }
 
-    /// Puts a text behind those that wait. It allocates nothing. If 256 texts wait, the oldest is dropped and
-    /// counted. A text of more than 4,096 octets is not put, and counted.
+    /// Puts a text behind those that wait. It allocates nothing. If 256 texts wait, the oldest is
+    /// dropped and counted. A text of more than 4,096 octets is not put, and counted.
     pub fn put(&mut self, text: &[u8])
         ensures { self.new ≡ after_put text.now self.old }
     {

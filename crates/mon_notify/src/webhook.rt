@@ -42,7 +42,8 @@ fn put_label(
     members: &mut Map<String, Value>,
     label: &Label,
 ) -> Result<(), AllocError>
-    ensures { OnOk result (members_view members.new.entries ≡ with_member label.now.name.now (string label.now.value.now) (members_view members.old.entries)) }
+    ensures { OnOk result (members_view members.new.entries ≡ with_member label.now.name.now
+        (string label.now.value.now) (members_view members.old.entries)) }
 {
     put(members, alloc, label.name, text_value(alloc, label.value)?)
 }
@@ -54,7 +55,8 @@ fn put_labels(
     labels: &[Label],
 ) -> Result<(), AllocError>
     requires { members_view members.old.entries ≡ no_members }
-    ensures { OnOk result (object (members_view members.new.entries) ≡ labels_data (map pair_of labels.now)) }
+    ensures { OnOk result (object (members_view members.new.entries)
+        ≡ labels_data (map pair_of labels.now)) }
 {
     for i in 0..labels.len() {
         put_label(alloc, members, &labels[i])?;

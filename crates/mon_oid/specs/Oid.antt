@@ -1,8 +1,10 @@
 -- Which lists of numbers are identifiers, and how they are written.
-use Rattle.std.specs.Prelude.{◌≡◌, ℕ, ◌<◌, ◌≤◌, ◌^◌, ◌⊎◌, List, ◌∷◌, ◌++◌, length, map, slice_index, All, decimal}
+use Rattle.std.specs.Prelude.{◌≡◌, ℕ, ◌<◌, ◌≤◌, ◌^◌, ◌⊎◌, List, ◌∷◌, ◌++◌, length, map, slice_index}
+use Rattle.std.specs.Prelude.{All, decimal}
 use Rattle.std.specs.List.{join_with_byte}
 use Rattle.mon_oid.specs.declared.fault.OidFault.{OidFault}
-use Rattle.mon_oid.specs.declared.fault.OidFault.TheVariants.{OutOfMemory, TooShort, TooLong, BadFirst, BadText}
+use Rattle.mon_oid.specs.declared.fault.OidFault.TheVariants.{OutOfMemory, TooShort, TooLong}
+use Rattle.mon_oid.specs.declared.fault.OidFault.TheVariants.{BadFirst, BadText}
 
 -- the first is 0, 1 or 2, and the second is at most 39 under 0 and 1 (X.690 8.19.4)
 pub record IsRooted (parts : List ℕ) : Type 0 where
@@ -45,7 +47,8 @@ abbrev pub IsFaultOfText : OidFault → List ℕ → Type 0
 IsFaultOfText OutOfMemory text = Unit {0}
 IsFaultOfText TooShort text = (parts : List ℕ) × Spells text parts × (length parts < 2)
 IsFaultOfText TooLong text = (parts : List ℕ) × Spells text parts × (128 < length parts)
-IsFaultOfText BadFirst text = (parts : List ℕ) × Spells text parts × (2 ≤ length parts) × (length parts ≤ 128) × ¬ (IsRooted parts)
+IsFaultOfText BadFirst text = (parts : List ℕ) × Spells text parts × (2 ≤ length parts)
+    × (length parts ≤ 128) × ¬ (IsRooted parts)
 IsFaultOfText BadText text = (parts : List ℕ) → ¬ (Spells text parts)
 
 -- why a text spells no numbers

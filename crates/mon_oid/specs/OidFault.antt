@@ -1,7 +1,8 @@
 -- The faults of an identifier.
 use Rattle.std.specs.Prelude.{ℕ, List, codes}
 use Rattle.mon_oid.specs.declared.fault.OidFault.{OidFault}
-use Rattle.mon_oid.specs.declared.fault.OidFault.TheVariants.{OutOfMemory, TooShort, TooLong, BadFirst, BadText}
+use Rattle.mon_oid.specs.declared.fault.OidFault.TheVariants.{OutOfMemory, TooShort, TooLong}
+use Rattle.mon_oid.specs.declared.fault.OidFault.TheVariants.{BadFirst, BadText}
 
 -- the number of a fault
 abbrev pub number_of : OidFault → ℕ

@@ -29,5 +29,6 @@ pub fn extended()
 
 /// An identifier with one more sub-identifier after it is one, up to 128 of them.
 pub fn pushed()
-    ensures { (oid : List ℕ) (part : ℕ) → IsOid oid → length oid < 128 → part < 2 ^ 32 → IsOid (oid ++ part ∷ []) }
+    ensures { (oid : List ℕ) (part : ℕ) → IsOid oid → length oid < 128 → part < 2 ^ 32
+        → IsOid (oid ++ part ∷ []) }
 {}

@@ -80,7 +80,8 @@ impl Oid {
     /// them, none with a leading 0. `BadText` where it spells no numbers, else as `from_parts`.
     pub fn parse(alloc: Global, text: &str) -> Result<Self, OidFault>
         ensures found { IfOk result (λ oid. IsOid oid × Spells text.now oid) }
-        ensures accepted { (parts : List ℕ) → IsOid parts → Spells text.now parts → IsOkUnless result OidFault.OutOfMemory }
+        ensures accepted { (parts : List ℕ) → IsOid parts → Spells text.now parts
+            → IsOkUnless result OidFault.OutOfMemory }
         ensures fault { IfErr result (λ e. IsFaultOfText e text.now) }
     {
         let numbers = dotted_numbers(alloc, text)?;

@@ -1,4 +1,5 @@
--- The parts of an entry that name an instance: what is read was laid out so, and what is laid out so is read.
+-- The parts of an entry that name an instance: what is read was laid out so, and what is laid out
+-- so is read.
 use Rattle.std.proofs.Common.{◌≡◌, ℕ, zero, suc, ◌-◌, ◌<◌, ◌≤◌, ◌^◌, Bool, true, false, List, [], ◌∷◌, ◌++◌, length, Option, Some, None, Result, Ok, Err, refl, sym, ap, subst, ◌∙◌, inl, inr, arith}
 use Rattle.std.specs.Prelude.{nat_lt, ◌||◌, ◌&&◌, if◌then◌else◌, slice_index}
 use Rattle.std.specs.List.{AllByRecursion}

@@ -9,7 +9,8 @@ use Rattle.mon_own_watch.specs.Reading.{named_at}
 
 -- the octets name instances of which no watch can be made, since they do not rise
 abbrev pub IsUnwatched : List ℕ → Type 0
-IsUnwatched octets = (watched : List Watched) × (named_at octets ≡ Ok watched) × ¬ (AreInstances watched)
+IsUnwatched octets = (watched : List Watched) × (named_at octets ≡ Ok watched)
+    × ¬ (AreInstances watched)
 
 -- reading fails so, unless memory ran out; or all is read, and the instances are none of a watch
 abbrev pub IsUnnamed : List ℕ → ImageFault → Type 0

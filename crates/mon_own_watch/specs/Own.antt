@@ -13,8 +13,8 @@ use Rattle.mon_saved.specs.declared.image.Image.{Image}
 use Rattle.mon_saved.specs.Image.{SpellsImage}
 use Rattle.mon_saved.specs.Restored.{IsUnmarked, saved_pairs}
 
--- an instance as its entry says it is watched: of these sizes, and by no discontinuity, which an image
--- does not hold
+-- an instance as its entry says it is watched: of these sizes, and by no discontinuity, which an
+-- image does not hold
 abbrev pub watched_by : Instance → Entry → Watched
 watched_by i e = record { instance = i; discontinuity = None; window = e.window; epoch = e.epoch }
 
@@ -28,8 +28,8 @@ all_by (i ∷ instances) (e ∷ entries) = watched_by i e ∷ all_by instances e
 abbrev pub HasName : Watched → Type 0
 HasName w = IsOid w.instance.name
 
--- All of the octets spell an image of the watch's instances, each of which is watched as its entry says.
--- The watch has no rules.
+-- All of the octets spell an image of the watch's instances, each of which is watched as its entry
+-- says. The watch has no rules.
 pub record NamesWatch (octets : List ℕ) (watch : Watch) : Type 0 where
   pub image : Image
   pub spelled : SpellsImage octets (instances_of watch.instances) image

@@ -1,5 +1,6 @@
 -- Reading what an image names, from left to right, with the first fault that is met.
-use Rattle.std.specs.Prelude.{ℕ, Bool, List, length, slice_index, Option, None, Result, Ok, Err, nat_lt, ◌==◌, ◌||◌, ◌&&◌, if◌then◌else◌}
+use Rattle.std.specs.Prelude.{ℕ, Bool, List, length, slice_index, Option, None, Result, Ok, Err}
+use Rattle.std.specs.Prelude.{nat_lt, ◌==◌, ◌||◌, ◌&&◌, if◌then◌else◌}
 use Rattle.std.specs.Int.{w16, from_be_bytes}
 use Rattle.mon_oid.specs.Steps.{◌>>=◌}
 use Rattle.mon_board.specs.declared.instance.Watched.{Watched}
@@ -8,7 +9,8 @@ use Rattle.mon_fields.specs.declared.fault.LayoutFault.{LayoutFault}
 use Rattle.mon_fields.specs.Reading.{field_at, u32_at, one_by_one}
 use Rattle.mon_saved.specs.declared.fault.ImageFault.{ImageFault}
 use Rattle.mon_saved.specs.declared.fault.ImageFault.TheVariants.{BadVersion, BadImage}
-use Rattle.mon_saved.specs.Reading.{lifted, octet_within, magic_at, incarnation_at, window_at, sizes_at, saved_at}
+use Rattle.mon_saved.specs.Reading.{lifted, octet_within, magic_at, incarnation_at, window_at}
+use Rattle.mon_saved.specs.Reading.{sizes_at, saved_at}
 
 -- an engine id after its length, and what follows it
 unfoldable pub engine_at : List ℕ → Result (List ℕ × List ℕ) ImageFault
@@ -26,7 +28,8 @@ numbers_at n octets = one_by_one next_number None n octets
 
 -- whether the first two numbers are out of the range of an identifier's (RFC 2578 section 3.5)
 unfoldable pub is_unrooted : List ℕ → Bool
-is_unrooted parts = nat_lt 2 (slice_index parts 0) || (nat_lt (slice_index parts 0) 2 && nat_lt 39 (slice_index parts 1))
+is_unrooted parts = nat_lt 2 (slice_index parts 0) || (nat_lt (slice_index parts 0) 2
+    && nat_lt 39 (slice_index parts 1))
 
 -- an identifier after the count of its numbers, and what follows it
 unfoldable pub name_at : List ℕ → Result (List ℕ × List ℕ) ImageFault
@@ -42,7 +45,16 @@ watched_at window octets = do
   engine ← engine_at sizes.1
   name ← name_at engine.1
   samples ← saved_at sizes.0 name.1
-  Ok (record { instance = named engine.0 name.0; discontinuity = None; window = sizes.0.0; epoch = sizes.0.1 }, samples.1)
+  Ok (
+    record {
+      instance = named engine.0 name.0;
+      discontinuity = None;
+      window = sizes.0.0;
+      epoch =
+          sizes.0.1;
+    },
+    samples.1,
+  )
 
 -- a watched instance, whatever was read before it
 abbrev pub next_watched : ℕ → Option Watched → List ℕ → Result (Watched × List ℕ) ImageFault

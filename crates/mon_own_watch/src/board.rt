@@ -11,8 +11,8 @@ use mon_board::Board;
 use mon_saved::{ImageFault, read_image};
 use std::alloc::Global;
 
-/// Returns a board of the watch that the octets of an image, all of them, name themselves in version 1
-/// or 2, with all samples of the image. No sample is marked.
+/// Returns a board of the watch that the octets of an image, all of them, name themselves in
+/// version 1 or 2, with all samples of the image. No sample is marked.
 ///
 /// # Errors
 /// As of `own_watch`.

@@ -14,7 +14,8 @@ ghost use Rattle.mon_own_watch.specs.Own.{HasName, NamesWatch, bare_watch};
 
 /// Octets name at most one watch.
 pub fn one_watch()
-    ensures { (octets : List ℕ) (a b : AnyWatch) → NamesWatch octets a → NamesWatch octets b → a ≡ b }
+    ensures { (octets : List ℕ) (a b : AnyWatch) → NamesWatch octets a → NamesWatch octets b
+        → a ≡ b }
 {
     mon_fields::laws::samples();
 }
@@ -35,6 +36,7 @@ pub fn whole()
 pub fn written()
     ensures { (board : AnyBoard) (incarnation : ℕ) → IsWatch board.watch
         → AllByRecursion HasName board.watch.instances
-        → SpellsImage (written_image board incarnation) (instances_of board.watch.instances) (image_of board incarnation)
+        → SpellsImage (written_image board incarnation) (instances_of board.watch.instances)
+        (image_of board incarnation)
         → NamesWatch (written_image board incarnation) (bare_watch board.watch) }
 {}

@@ -147,19 +147,20 @@ fn named_at(alloc: Global, octets: &[u8]) -> Result<Vec<Watched>, ImageFault>
 
 /// Reads the watch that the octets of an image, all of them, name themselves in version 1 or 2: the
 /// instances of its entries, each with the sizes of its entry. It has no rules, and no instance a
-/// discontinuity. With this watch `read_image` of mon_saved reads the octets, and keeps all of their
-/// samples (`laws::whole`).
+/// discontinuity. With this watch `read_image` of mon_saved reads the octets, and keeps all of
+/// their samples (`laws::whole`).
 ///
 /// # Errors
-/// The first fault from the left: `Truncated` if the octets end too early, `BadVersion` if the version
-/// is neither 1 nor 2, `BadImage` if they are no image, have no instances or more than 256, or name one
-/// by no engine id or no object identifier; `OutOfMemory`. If all are read, `BadImage` if the instances
-/// do not rise.
+/// The first fault from the left: `Truncated` if the octets end too early, `BadVersion` if the
+/// version is neither 1 nor 2, `BadImage` if they are no image, have no instances or more than 256,
+/// or name one by no engine id or no object identifier; `OutOfMemory`. If all are read, `BadImage`
+/// if the instances do not rise.
 pub fn own_watch(alloc: Global, octets: &[u8]) -> Result<Watch, ImageFault>
     // What is returned is named.
     ensures found { IfOk result (λ watch. NamesWatch octets.now watch) }
     // What is named is returned, unless memory runs out.
-    ensures only { (watch : AnyWatch) → NamesWatch octets.now watch → Gives (λ w. w) result (Ok watch) }
+    ensures only { (watch : AnyWatch) → NamesWatch octets.now watch
+        → Gives (λ w. w) result (Ok watch) }
     // The fault is the first from the left, or the instances do not rise.
     ensures fault { IfErr result (IsUnnamed octets.now) }
 {

@@ -1,4 +1,5 @@
--- What crates above may cite: the labels of an instance are those at its place. No other file here is for them.
+-- What crates above may cite: the labels of an instance are those at its place. No other file here
+-- is for them.
 use Rattle.std.proofs.Common.{◌≡◌, ℕ, zero, suc, ◌<◌, List, [], ◌∷◌, length, get_or, slice_get, ap, refl, arith}
 use Rattle.mon_report.specs.Report.{Entry}
 use Rattle.mon_page.specs.declared.extras.InstanceLabels.{InstanceLabels}

@@ -1,5 +1,6 @@
 -- What every format says of an instance.
-use Rattle.std.specs.Prelude.{ℕ, ℤ, Bool, true, false, List, [], ◌∷◌, ◌++◌, Option, Some, None, codes, decimal, if◌then◌else◌}
+use Rattle.std.specs.Prelude.{ℕ, ℤ, Bool, true, false, List, [], ◌∷◌, ◌++◌, Option, Some, None}
+use Rattle.std.specs.Prelude.{codes, decimal, if◌then◌else◌}
 use Rattle.std.specs.Fmt.{signed_decimal}
 use Rattle.std.specs.List.{list_any}
 use Rattle.mon_sample.specs.Kind.{number_of}
@@ -41,7 +42,8 @@ rate_cell (Some q) = rate_text (Some q) ++ codes "/s"
 -- whether an alarm is raised, of those that there are; a dash if there are none
 abbrev pub alarm_cell : List Alarm → List ℕ
 alarm_cell [] = codes "-"
-alarm_cell (a ∷ rest) = if list_any (λ alarm. is_raised alarm.state) (a ∷ rest) then codes "RAISED" else codes "clear"
+alarm_cell (a ∷ rest) = if list_any (λ alarm. is_raised alarm.state) (a ∷ rest) then codes "RAISED"
+    else codes "clear"
 
 -- an alarm is raised
 abbrev pub has_raised : List Alarm → Bool

@@ -19,7 +19,8 @@ abbrev pub day_at : ℕ → Day
 day_at zero = (1970, 1, 1)
 day_at (suc n) = day_after (day_at n)
 
--- the numbers of the second that is this many seconds after the beginning of 1970, without leap seconds
+-- the numbers of the second that is this many seconds after the beginning of 1970, without leap
+-- seconds
 abbrev pub parts_at : ℕ → Parts
 parts_at seconds = record {
   year = (day_at (seconds / 86400)).0;

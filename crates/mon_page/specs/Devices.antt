@@ -1,5 +1,6 @@
 -- The devices of a report: neighbouring instances of one engine id.
-use Rattle.std.specs.Prelude.{ℕ, ◌+◌, ◌-◌, ◌*◌, ◌^◌, max, Bool, true, not, ◌||◌, ◌==◌, List, [], ◌∷◌, Option, Some, None, bytes_eq, take, slice_get, if◌then◌else◌}
+use Rattle.std.specs.Prelude.{ℕ, ◌+◌, ◌-◌, ◌*◌, ◌^◌, max, Bool, true, not, ◌||◌, ◌==◌, List, []}
+use Rattle.std.specs.Prelude.{◌∷◌, Option, Some, None, bytes_eq, take, slice_get, if◌then◌else◌}
 use Rattle.std.specs.List.{list_all, list_any}
 use Rattle.std.specs.Prelude.{find, position}
 use Rattle.mon_sample.specs.Key.{boots_of, time_of}
@@ -31,7 +32,8 @@ device_at engine rows = cut (position (λ r. not (bytes_eq r.entry.engine engine
 abbrev pub devices_from : List Row → ℕ → List Row → List (List Row)
 devices_from rows place [] = []
 devices_from rows place (r ∷ rs) =
-    if begins (row_before place rows) r then device_at r.entry.engine (r ∷ rs) ∷ devices_from rows (place + 1) rs else devices_from rows (place + 1) rs
+    if begins (row_before place rows) r then device_at r.entry.engine (r ∷ rs)
+    ∷ devices_from rows (place + 1) rs else devices_from rows (place + 1) rs
 
 -- the devices, each with its instances
 abbrev pub devices : List Row → List (List Row)
@@ -49,11 +51,13 @@ targets_of (Some f) = f.targets.items
 
 -- a device is up: each target of its engine id is
 abbrev pub is_up : List TargetFigures → List Row → Bool
-is_up targets device = list_all (λ t. t.up || not (bytes_eq t.engine.items (engine_of device))) targets
+is_up targets device = list_all (λ t. t.up || not (bytes_eq t.engine.items (engine_of device)))
+    targets
 
 -- something is wrong in a device: it is down, or an instance is stale or has a raised alarm
 abbrev pub is_wrong : List TargetFigures → List Row → Bool
-is_wrong targets device = not (is_up targets device) || (list_any (λ r. not r.fresh) device || list_any (λ r. has_raised r.entry.alarms) device)
+is_wrong targets device = not (is_up targets device) || (list_any (λ r. not r.fresh) device
+    || list_any (λ r. has_raised r.entry.alarms) device)
 
 -- an instance that was found, else the first
 abbrev pub or_first : Option Row → List Row → Option Row

@@ -15,4 +15,5 @@ labelled (l ∷ labels) (e ∷ es) = (e, Some l) ∷ labelled labels es
 
 -- labels that say nothing
 abbrev pub IsUnlabelled : InstanceLabels → Type 0
-IsUnlabelled l = (l.target ≡ None) × (l.device ≡ None) × (l.if_name ≡ None) × (l.if_alias ≡ None) × (l.speed ≡ None)
+IsUnlabelled l = (l.target ≡ None) × (l.device ≡ None) × (l.if_name ≡ None) × (l.if_alias ≡ None)
+    × (l.speed ≡ None)

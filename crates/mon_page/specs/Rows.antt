@@ -1,5 +1,7 @@
--- What a page has of an instance: what a report says of it, the labels that are given for it, its age, and whether it is fresh.
-use Rattle.std.specs.Prelude.{ℕ, ◌+◌, Bool, List, [], ◌∷◌, Option, Some, None, option_map, slice_get, string_bytes}
+-- What a page has of an instance: what a report says of it, the labels that are given for it, its
+-- age, and whether it is fresh.
+use Rattle.std.specs.Prelude.{ℕ, ◌+◌, Bool, List, [], ◌∷◌, Option, Some, None, option_map}
+use Rattle.std.specs.Prelude.{slice_get, string_bytes}
 use Rattle.mon_report.specs.Report.{Entry}
 use Rattle.mon_page.specs.declared.extras.InstanceLabels.{InstanceLabels}
 use Rattle.mon_page.specs.declared.figures.Figures.{Figures}
@@ -17,7 +19,14 @@ pub record Labels : Type 0 where
 
 -- those that are given
 abbrev pub labels_of : Option InstanceLabels → Labels
-labels_of None = record { target = None; device = None; if_name = None; if_alias = None; speed = None }
+labels_of None = record {
+  target = None;
+  device = None;
+  if_name = None;
+  if_alias = None;
+  speed =
+      None;
+}
 labels_of (Some l) =
     record {
       target = option_map (λ t. string_bytes t) l.target;
@@ -36,12 +45,19 @@ pub record Row : Type 0 where
 
 -- an instance of this age, where those of this limit and above are stale
 abbrev pub row_of : ℕ → Option ℕ → Labelled → Row
-row_of limit age i = record { entry = i.0; labels = labels_of i.1; age = age; fresh = is_fresh limit age }
+row_of limit age i = record {
+  entry = i.0;
+  labels = labels_of i.1;
+  age = age;
+  fresh = is_fresh limit
+      age;
+}
 
 -- instances from a place on, each with the age at its place
 abbrev pub rows_from : ℕ → List ℕ → ℕ → List Labelled → List Row
 rows_from limit ages place [] = []
-rows_from limit ages place (i ∷ is) = row_of limit (slice_get ages place) i ∷ rows_from limit ages (place + 1) is
+rows_from limit ages place (i ∷ is) = row_of limit (slice_get ages place) i
+    ∷ rows_from limit ages (place + 1) is
 
 -- the instances of a report, with the ages that a station has of them
 abbrev pub rows_of : Option Figures → List Labelled → List Row

@@ -1,9 +1,12 @@
 -- Where the instances of a device are shown: in the row of an interface, or among the others.
-use Rattle.std.specs.Prelude.{ℕ, ◌+◌, Bool, true, false, not, ◌&&◌, ◌==◌, List, [], ◌∷◌, ◌++◌, Option, Some, None, take, filter, if◌then◌else◌}
+use Rattle.std.specs.Prelude.{ℕ, ◌+◌, Bool, true, false, not, ◌&&◌, ◌==◌, List, [], ◌∷◌, ◌++◌}
+use Rattle.std.specs.Prelude.{Option, Some, None, take, filter, if◌then◌else◌}
 use Rattle.std.specs.List.{list_any}
 use Rattle.mon_display.specs.Interface.{column_of, interface_of}
 use Rattle.mon_display.specs.declared.interface.Column.{Column}
-use Rattle.mon_display.specs.declared.interface.Column.TheVariants.{InOctets, OutOctets, InErrors, OutErrors, InDiscards, OutDiscards, Other}
+use Rattle.mon_display.specs.declared.interface.Column.TheVariants.{InOctets, OutOctets, InErrors}
+use Rattle.mon_display.specs.declared.interface.Column.TheVariants.{OutErrors, InDiscards}
+use Rattle.mon_display.specs.declared.interface.Column.TheVariants.{OutDiscards, Other}
 use Rattle.mon_page.specs.Rows.{Row}
 
 -- an ifIndex is this one
@@ -43,8 +46,9 @@ comes_in r = is_in (column_of r.entry.name)
 abbrev pub goes_out : Row → Bool
 goes_out r = is_out (column_of r.entry.name)
 
--- whether an instance of this column and ifIndex has a place in the interface's row, by the instances before it: the first that counts octets
--- in, the first that counts octets out, and all that count errors or discards
+-- whether an instance of this column and ifIndex has a place in the interface's row, by the
+-- instances before it: the first that counts octets in, the first that counts octets out, and all
+-- that count errors or discards
 abbrev pub is_free : List Row → ℕ → Column → Bool
 is_free before index InOctets = not (list_any (λ r. is_at index r && comes_in r) before)
 is_free before index OutOctets = not (list_any (λ r. is_at index r && goes_out r) before)
@@ -63,13 +67,16 @@ is_free_at before (Some index) c = is_free before index c
 abbrev pub has_place : List Row → Row → Bool
 has_place before r = is_free_at before (interface_of r.entry.name) (column_of r.entry.name)
 
--- of the instances of a device from a place on those that have a place in a row, or those that have none
+-- of the instances of a device from a place on those that have a place in a row, or those that have
+-- none
 abbrev pub placed_from : Bool → List Row → ℕ → List Row → List Row
 placed_from has device place [] = []
 placed_from true device place (r ∷ rs) =
-    if has_place (take place device) r then r ∷ placed_from true device (place + 1) rs else placed_from true device (place + 1) rs
+    if has_place (take place device) r then r ∷ placed_from true device (place + 1) rs
+    else placed_from true device (place + 1) rs
 placed_from false device place (r ∷ rs) =
-    if has_place (take place device) r then placed_from false device (place + 1) rs else r ∷ placed_from false device (place + 1) rs
+    if has_place (take place device) r then placed_from false device (place + 1) rs
+    else r ∷ placed_from false device (place + 1) rs
 
 -- the instances of a device that are in rows of interfaces
 abbrev pub placed : List Row → List Row
@@ -82,12 +89,14 @@ others device = placed_from false device 0 device
 -- the interface of an instance, unless one before it has the same: the instances of this ifIndex
 abbrev pub interface_at : List Row → List Row → Option ℕ → List (List Row)
 interface_at all before None = []
-interface_at all before (Some index) = if list_any (is_at index) before then [] else filter (is_at index) all ∷ []
+interface_at all before (Some index) = if list_any (is_at index) before then []
+    else filter (is_at index) all ∷ []
 
 -- the interfaces of instances from a place on, each once, with all its instances
 abbrev pub interfaces_from : List Row → ℕ → List Row → List (List Row)
 interfaces_from all place [] = []
-interfaces_from all place (r ∷ rs) = interface_at all (take place all) (interface_of r.entry.name) ++ interfaces_from all (place + 1) rs
+interfaces_from all place (r ∷ rs) = interface_at all (take place all) (interface_of r.entry.name)
+    ++ interfaces_from all (place + 1) rs
 
 -- the interfaces of a device, each with the instances that are in its row
 abbrev pub interfaces : List Row → List (List Row)

@@ -1,5 +1,7 @@
 -- The words of an instance: its value now, a level, a device, an interface, how long something is.
-use Rattle.std.specs.Prelude.{ℕ, ◌-◌, ◌*◌, ◌/◌, ◌%◌, ◌^◌, min, nat_lt, Bool, true, false, ◌||◌, List, ◌++◌, Option, Some, None, is_some, codes, decimal, if◌then◌else◌}
+use Rattle.std.specs.Prelude.{ℕ, ◌-◌, ◌*◌, ◌/◌, ◌%◌, ◌^◌, min, nat_lt, Bool, true, false, ◌||◌}
+use Rattle.std.specs.Prelude.{List, ◌++◌, Option, Some, None, is_some, codes, decimal}
+use Rattle.std.specs.Prelude.{if◌then◌else◌}
 use Rattle.std.specs.List.{flat_map}
 use Rattle.hex.specs.Hex.{encode_lower}
 use Rattle.mon_sample.specs.Key.{kind_of}
@@ -8,7 +10,9 @@ use Rattle.mon_display.specs.Rate.{rate_text}
 use Rattle.mon_display.specs.Interface.{column_of}
 use Rattle.mon_display.specs.Naming.{device_text}
 use Rattle.mon_display.specs.declared.interface.Column.{Column}
-use Rattle.mon_display.specs.declared.interface.Column.TheVariants.{InOctets, OutOctets, InErrors, OutErrors, InDiscards, OutDiscards, Other}
+use Rattle.mon_display.specs.declared.interface.Column.TheVariants.{InOctets, OutOctets, InErrors}
+use Rattle.mon_display.specs.declared.interface.Column.TheVariants.{OutErrors, InDiscards}
+use Rattle.mon_display.specs.declared.interface.Column.TheVariants.{OutDiscards, Other}
 use Rattle.mon_display.specs.declared.rate.Unit.TheVariants.{Bits, Each}
 use Rattle.mon_page.specs.Cells.{fresh_rate, newest_of, value_cell}
 use Rattle.mon_page.specs.Escape.{escaped}
@@ -35,7 +39,8 @@ rate_words c q = if counts_octets c then rate_text Bits (bits_of q) else rate_te
 
 -- a value that was moved up by 2^63
 abbrev pub moved_words : ℕ → List ℕ
-moved_words n = if nat_lt n (2 ^ 63) then codes "-" ++ decimal (2 ^ 63 - n) else decimal (n - 2 ^ 63)
+moved_words n = if nat_lt n (2 ^ 63) then codes "-" ++ decimal (2 ^ 63 - n)
+    else decimal (n - 2 ^ 63)
 
 -- a level of a plot: of a counter a rate, else a value that was moved up
 abbrev pub level_words : Column → Bool → ℕ → List ℕ
@@ -51,10 +56,12 @@ abbrev pub rate_or_dash : Column → Option ℕ → List ℕ
 rate_or_dash c None = codes "-"
 rate_or_dash c (Some q) = rate_words c q
 
--- the value now: of a counter its rate, with a dash if it has none or is stale, else the newest value
+-- the value now: of a counter its rate, with a dash if it has none or is stale, else the newest
+-- value
 abbrev pub now_words : Row → List ℕ
 now_words r =
-    if is_counted (newest_of r.entry.items) then rate_or_dash (column_of r.entry.name) (fresh_rate r.fresh r.entry.items)
+    if is_counted (newest_of r.entry.items) then rate_or_dash (column_of r.entry.name)
+    (fresh_rate r.fresh r.entry.items)
     else value_cell (newest_of r.entry.items)
 
 -- ---- names
@@ -65,7 +72,8 @@ is_labelled r = is_some r.labels.target || is_some r.labels.device
 -- its device: the address and the label, or the engine id in hex digits if neither is known
 abbrev pub device_words : Row → List ℕ
 device_words r =
-    if is_labelled r then flat_map escaped (device_text r.labels.target r.labels.device) else encode_lower r.entry.engine
+    if is_labelled r then flat_map escaped (device_text r.labels.target r.labels.device)
+    else encode_lower r.entry.engine
 
 -- an interface: its ifName, or its ifIndex if that is not known
 abbrev pub interface_words : Option (List ℕ) → ℕ → List ℕ

@@ -8,7 +8,8 @@ ghost use Rattle.mon_page.specs.Cells.{alarm_cell, has_raised, state_cell};
 use mon_report::{Alarm, Entry};
 use std::alloc::{AllocError, Global};
 
-/// Returns what the alarm's cell of an instance says: `stale` if the instance is, else whether an alarm is raised.
+/// Returns what the alarm's cell of an instance says: `stale` if the instance is, else whether an
+/// alarm is raised.
 ///
 /// # Errors
 /// `AllocError` if there is no memory for the alarms.
@@ -21,7 +22,8 @@ pub fn state_cell(alloc: Global, entry: &Entry, is_fresh: bool) -> Result<&'stat
     alarm_cell(alloc, entry)
 }
 
-/// Returns `RAISED` if the alarm of a rule on the instance is raised, else `clear`; a dash if there is no rule.
+/// Returns `RAISED` if the alarm of a rule on the instance is raised, else `clear`; a dash if there
+/// is no rule.
 fn alarm_cell(alloc: Global, entry: &Entry) -> Result<&'static str, AllocError>
     ensures { IfOk result (λ text. text.now ≡ alarm_cell entry.now.alarms) }
 {

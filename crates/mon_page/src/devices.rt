@@ -178,7 +178,8 @@ fn or_first<'r, 'a, 'e>(
     found: Option<&'r Row<'a, 'e>>,
     device: &'r [Row<'a, 'e>],
 ) -> Option<&'r Row<'a, 'e>>
-    ensures { option_map (λ r. r.now) result ≡ or_first (option_map (λ r. r.now) found.entry) device.now }
+    ensures { option_map (λ r. r.now) result ≡ or_first (option_map (λ r. r.now) found.entry)
+        device.now }
 {
     match found {
         Some(row) => Some(row),

@@ -38,7 +38,8 @@ pub(crate) fn put_between(
     octets: &[u8],
     after: &[u8],
 ) -> Result<(), AllocError>
-    ensures { OnOk result (text.new.items ≡ text.old.items ++ between before.now octets.now after.now) }
+    ensures { OnOk result (text.new.items ≡ text.old.items ++ between before.now octets.now
+        after.now) }
 {
     text.extend_from_slice(before)?;
     text.extend_from_slice(octets)?;

@@ -13,8 +13,8 @@ pub struct Extras<'a> {
     pub presentation: &'a Presentation,
 }
 
-/// How a report presents what it shows. Of the formats for machines only Prometheus' text depends on
-/// it, by `station`.
+/// How a report presents what it shows. Of the formats for machines only Prometheus' text depends
+/// on it, by `station`.
 #[derive(Debug)]
 pub struct Presentation {
     /// The label of the station in its settings, if it has one.
@@ -23,8 +23,8 @@ pub struct Presentation {
     pub file_age: Option<u64>,
     /// The order of the rows of a table.
     pub sort: Sort,
-    /// The number that each series of an instance has as its label `station` in Prometheus' text, so
-    /// that those of several stations differ; `None` for no such label.
+    /// The number that each series of an instance has as its label `station` in Prometheus' text,
+    /// so that those of several stations differ; `None` for no such label.
     pub station: Option<u32>,
 }
 
@@ -53,8 +53,8 @@ pub enum Sort {
     Age,
 }
 
-/// The labels of an instance. Prometheus' text, a page and a table have all; a series of Prometheus has
-/// the speed as its value.
+/// The labels of an instance. Prometheus' text, a page and a table have all; a series of Prometheus
+/// has the speed as its value.
 #[derive(Debug)]
 pub struct InstanceLabels {
     /// Where the agent of its target is reached, as `a.b.c.d:port`.

@@ -19,7 +19,8 @@ pub struct Figures {
     pub failed_saves: u64,
     /// How many datagrams came since its start from an address of no target and no peer.
     pub strangers: u64,
-    /// When its last round ended, in seconds since 1970-01-01 00:00:00 UTC; `None` before the end of its first one.
+    /// When its last round ended, in seconds since 1970-01-01 00:00:00 UTC; `None` before the end
+    /// of its first one.
     pub round_at: Option<u64>,
     /// How long its last round took, in milliseconds.
     pub round_ms: u64,

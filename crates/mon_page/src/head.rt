@@ -79,7 +79,8 @@ pub(crate) fn counts_of(
     station: Option<&Figures>,
     rows: &[Row],
 ) -> Result<Counts, AllocError>
-    ensures { IfOk result (λ counts. counts ≡ counts_of (option_map (λ f. f.now) station.entry) rows.now) }
+    ensures { IfOk result (λ counts. counts ≡ counts_of (option_map (λ f. f.now) station.entry)
+        rows.now) }
 {
     let raised = count_raised(alloc, rows)?;
     let found = devices_of(alloc, rows)?;
@@ -162,7 +163,8 @@ pub(crate) fn put_counts(
     station: Option<&Figures>,
     counts: Counts,
 ) -> Result<(), AllocError>
-    ensures { OnOk result (text.new.items ≡ text.old.items ++ counts_text (option_map (λ f. f.now) station.entry) counts) }
+    ensures { OnOk result (text.new.items ≡ text.old.items ++ counts_text
+        (option_map (λ f. f.now) station.entry) counts) }
 {
     match station {
         None => put_file_counts(text, counts),
@@ -176,7 +178,8 @@ pub(crate) fn put_title(
     station: Option<&Figures>,
     label: Option<&str>,
 ) -> Result<(), AllocError>
-    ensures { OnOk result (text.new.items ≡ text.old.items ++ title_text (option_map (λ f. f.now) station.entry) (option_map (λ l. l.now) label.entry)) }
+    ensures { OnOk result (text.new.items ≡ text.old.items ++ title_text
+        (option_map (λ f. f.now) station.entry) (option_map (λ l. l.now) label.entry)) }
 {
     match station {
         None => put_file_title(text, label),
@@ -186,7 +189,8 @@ pub(crate) fn put_title(
 
 /// Adds the title of a report of a file.
 fn put_file_title(text: &mut Vec<u8>, label: Option<&str>) -> Result<(), AllocError>
-    ensures { OnOk result (text.new.items ≡ text.old.items ++ title_text None (option_map (λ l. l.now) label.entry)) }
+    ensures { OnOk result (text.new.items ≡ text.old.items ++ title_text None
+        (option_map (λ l. l.now) label.entry)) }
 {
     match label {
         None => text.extend_from_slice(b"snmpmon"),
@@ -200,7 +204,8 @@ fn put_station_title(
     figures: &Figures,
     label: Option<&str>,
 ) -> Result<(), AllocError>
-    ensures { OnOk result (text.new.items ≡ text.old.items ++ title_text (Some figures.now) (option_map (λ l. l.now) label.entry)) }
+    ensures { OnOk result (text.new.items ≡ text.old.items ++ title_text (Some figures.now)
+        (option_map (λ l. l.now) label.entry)) }
 {
     match label {
         None => put_station_number(text, figures),
@@ -210,7 +215,8 @@ fn put_station_title(
 
 /// Adds the number of a station.
 fn put_station_number(text: &mut Vec<u8>, figures: &Figures) -> Result<(), AllocError>
-    ensures { OnOk result (text.new.items ≡ text.old.items ++ (codes "station " ++ decimal figures.now.station)) }
+    ensures { OnOk result (text.new.items ≡ text.old.items ++
+        (codes "station " ++ decimal figures.now.station)) }
 {
     text.extend_from_slice(b"station ")?;
     put_small(text, figures.station)
@@ -222,7 +228,8 @@ fn put_labelled_station(
     figures: &Figures,
     label: &[u8],
 ) -> Result<(), AllocError>
-    ensures { OnOk result (text.new.items ≡ text.old.items ++ title_text (Some figures.now) (Some label.now)) }
+    ensures { OnOk result (text.new.items ≡ text.old.items ++ title_text (Some figures.now)
+        (Some label.now)) }
 {
     text.extend_from_slice(b"station ")?;
     put_small(text, figures.station)?;
@@ -287,7 +294,8 @@ pub(crate) fn put_origin(
     station: Option<&Figures>,
     file_age: Option<u64>,
 ) -> Result<(), AllocError>
-    ensures { OnOk result (text.new.items ≡ text.old.items ++ origin_line (option_map (λ f. f.now) station.entry) file_age) }
+    ensures { OnOk result (text.new.items ≡ text.old.items ++ origin_line
+        (option_map (λ f. f.now) station.entry) file_age) }
 {
     match station {
         None => put_age_line(text, file_age),

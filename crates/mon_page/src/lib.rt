@@ -1,7 +1,8 @@
-//! A report as a page for a browser: one HTML document without a script, readable without its style.
+//! A report as a page for a browser: one HTML document without a script, readable without its
+//! style.
 //!
-//! Each text that comes from an agent, a module, the settings or a file of labels is escaped. It reads nothing but
-//! its arguments.
+//! Each text that comes from an agent, a module, the settings or a file of labels is escaped. It
+//! reads nothing but its arguments.
 #![tactic(auto)]
 
 pub(crate) mod cells;

@@ -20,9 +20,10 @@ use mon_report::Entry;
 use mon_smi::NameTexts;
 use std::alloc::{AllocError, Global};
 
-/// Makes the page of a report: how it is with the station, what is wrong now, and a section for each device. Names
-/// of instances are as `names` has them. A browser loads the page of a running station again after the station's
-/// interval. The buffer's octets are dropped, and its capacity is used again.
+/// Makes the page of a report: how it is with the station, what is wrong now, and a section for
+/// each device. Names of instances are as `names` has them. A browser loads the page of a running
+/// station again after the station's interval. The buffer's octets are dropped, and its capacity is
+/// used again.
 ///
 /// # Errors
 /// `AllocError` if there is no memory for it.
@@ -34,7 +35,9 @@ pub fn page_report<S: NameTexts>(
     entries: &[Entry],
     extras: Extras<'_>,
 ) -> Result<Vec<u8>, AllocError>
-    ensures { IfOk result (λ text. text.items ≡ page_text (S.shown names.now) (labelled extras.entry.labels.now entries.now) (option_map (λ f. f.now) extras.entry.station) extras.entry.presentation.now) }
+    ensures { IfOk result (λ text. text.items ≡ page_text (S.shown names.now)
+        (labelled extras.entry.labels.now entries.now) (option_map (λ f. f.now)
+        extras.entry.station) extras.entry.presentation.now) }
 {
     let mut text = buffer;
     text.clear();
@@ -45,7 +48,9 @@ pub fn page_report<S: NameTexts>(
 
 /// Adds the head of the document.
 fn put_head_of(text: &mut Vec<u8>, extras: Extras<'_>) -> Result<(), AllocError>
-    ensures { OnOk result (text.new.items ≡ text.old.items ++ head_text (option_map (λ f. f.now) extras.entry.station) (option_map (λ l. string_bytes l) extras.entry.presentation.now.label)) }
+    ensures { OnOk result (text.new.items ≡ text.old.items ++ head_text
+        (option_map (λ f. f.now) extras.entry.station) (option_map (λ l. string_bytes l)
+        extras.entry.presentation.now.label)) }
 {
     put_head(text, extras.station, extras.presentation.label.as_deref())
 }
@@ -90,7 +95,8 @@ fn put_rows<S: NameTexts>(
     rows: &[Row],
     origin: Origin<'_>,
 ) -> Result<(), AllocError>
-    ensures { OnOk result (text.new.items ≡ text.old.items ++ body_text (S.shown names.now) rows.now (option_map (λ f. f.now) origin.entry.station) origin.entry.file_age) }
+    ensures { OnOk result (text.new.items ≡ text.old.items ++ body_text (S.shown names.now) rows.now
+        (option_map (λ f. f.now) origin.entry.station) origin.entry.file_age) }
 {
     put_origin(text, origin.station, origin.file_age)?;
     put_row_counts(alloc, text, origin.station, rows)?;
@@ -106,7 +112,9 @@ fn put_row_counts(
     station: Option<&Figures>,
     rows: &[Row],
 ) -> Result<(), AllocError>
-    ensures { OnOk result (text.new.items ≡ text.old.items ++ counts_text (option_map (λ f. f.now) station.entry) (counts_of (option_map (λ f. f.now) station.entry) rows.now)) }
+    ensures { OnOk result (text.new.items ≡ text.old.items ++ counts_text
+        (option_map (λ f. f.now) station.entry) (counts_of (option_map (λ f. f.now) station.entry)
+        rows.now)) }
 {
     let counts = counts_of(alloc, station, rows)?;
     put_counts(text, station, counts)
@@ -120,7 +128,8 @@ fn put_row_sections<S: NameTexts>(
     station: Option<&Figures>,
     rows: &[Row],
 ) -> Result<(), AllocError>
-    ensures { OnOk result (text.new.items ≡ text.old.items ++ device_sections (S.shown names.now) (option_map (λ f. f.now) station.entry) (devices rows.now)) }
+    ensures { OnOk result (text.new.items ≡ text.old.items ++ device_sections (S.shown names.now)
+        (option_map (λ f. f.now) station.entry) (devices rows.now)) }
 {
     let found = devices_of(alloc, rows)?;
     put_device_sections(alloc, text, names, station, found.as_slice())
@@ -134,7 +143,8 @@ fn put_device_sections<S: NameTexts>(
     station: Option<&Figures>,
     found: &[Device],
 ) -> Result<(), AllocError>
-    ensures { OnOk result (text.new.items ≡ text.old.items ++ device_sections (S.shown names.now) (option_map (λ f. f.now) station.entry) found.now) }
+    ensures { OnOk result (text.new.items ≡ text.old.items ++ device_sections (S.shown names.now)
+        (option_map (λ f. f.now) station.entry) found.now) }
 {
     put_sections(
         alloc,
@@ -174,7 +184,8 @@ fn put_head(
     station: Option<&Figures>,
     label: Option<&str>,
 ) -> Result<(), AllocError>
-    ensures { OnOk result (text.new.items ≡ text.old.items ++ head_text (option_map (λ f. f.now) station.entry) (option_map (λ l. l.now) label.entry)) }
+    ensures { OnOk result (text.new.items ≡ text.old.items ++ head_text
+        (option_map (λ f. f.now) station.entry) (option_map (λ l. l.now) label.entry)) }
 {
     put_start(text, station)?;
     put_title(text, station, label)?;
@@ -188,7 +199,8 @@ fn put_head(
 /// Adds what is before the title.
 #[tactic(auto, unfolding(crate::specs::Page::start_text))]
 fn put_start(text: &mut Vec<u8>, station: Option<&Figures>) -> Result<(), AllocError>
-    ensures { OnOk result (text.new.items ≡ text.old.items ++ start_text (option_map (λ f. f.now) station.entry)) }
+    ensures { OnOk result (text.new.items ≡ text.old.items ++ start_text
+        (option_map (λ f. f.now) station.entry)) }
 {
     text.extend_from_slice(first_lines())?;
     put_station_refresh(text, station)?;
@@ -213,7 +225,8 @@ fn title_start() -> &'static [u8]
 
 /// Adds after how many seconds a browser loads the page again, if it does.
 fn put_station_refresh(text: &mut Vec<u8>, station: Option<&Figures>) -> Result<(), AllocError>
-    ensures { OnOk result (text.new.items ≡ text.old.items ++ refresh_text (refresh_of (option_map (λ f. f.now) station.entry))) }
+    ensures { OnOk result (text.new.items ≡ text.old.items ++ refresh_text
+        (refresh_of (option_map (λ f. f.now) station.entry))) }
 {
     put_refresh(text, refresh_of(station))
 }

@@ -40,8 +40,8 @@ pub(crate) struct Spot {
     pub y: u128,
 }
 
-/// Returns a counter's rate from the sample before, in thousandths, if there is one; else the value, moved up
-/// so that none is below 0.
+/// Returns a counter's rate from the sample before, in thousandths, if there is one; else the
+/// value, moved up so that none is below 0.
 fn level(before: Option<&Sample>, sample: &Sample) -> Option<u128>
     ensures { result ≡ level (option_copied before.entry) sample.now }
 {
@@ -140,7 +140,8 @@ fn span_of(samples: &[Sample]) -> u64
     elapsed
 }
 
-/// Returns how far from the left a sample is that is this many seconds after the first: the newest is at 240.
+/// Returns how far from the left a sample is that is this many seconds after the first: the newest
+/// is at 240.
 fn across(span: u64, elapsed: u64) -> u128
     ensures { result ≡ across span elapsed }
 {
@@ -269,7 +270,8 @@ fn put_spot(text: &mut Vec<u8>, start: Option<Spot>, spot: Spot) -> Result<(), A
 
 /// Adds the strokes of samples.
 fn put_points(text: &mut Vec<u8>, frame: Frame, samples: &[Sample]) -> Result<(), AllocError>
-    ensures { OnOk result (text.new.items ≡ text.old.items ++ points_from samples.now frame None 0 0 samples.now) }
+    ensures { OnOk result (text.new.items ≡ text.old.items ++ points_from samples.now frame None 0 0
+        samples.now) }
 {
     let mut spot = None;
     let mut elapsed = 0;
@@ -284,7 +286,8 @@ fn put_points(text: &mut Vec<u8>, frame: Frame, samples: &[Sample]) -> Result<()
     Ok(())
 }
 
-/// Returns a threshold in thousandths as a level: of a counter a rate, else a value, moved up as values are.
+/// Returns a threshold in thousandths as a level: of a counter a rate, else a value, moved up as
+/// values are.
 fn limit_level(counted: bool, threshold: i64) -> u128
     ensures { result ≡ limit_level counted threshold }
 {
@@ -345,7 +348,8 @@ fn put_rules(
     scale: Scale,
     rules: &[Rule],
 ) -> Result<(), AllocError>
-    ensures { OnOk result (text.new.items ≡ text.old.items ++ flat_map (rule_lines counted scale) rules.now) }
+    ensures { OnOk result (text.new.items ≡ text.old.items ++ flat_map (rule_lines counted scale)
+        rules.now) }
 {
     for rule in rules {
         put_rule(text, counted, scale, rule)?;
@@ -442,7 +446,8 @@ fn put_limit_notes(
     counted: bool,
     rules: &[Rule],
 ) -> Result<(), AllocError>
-    ensures { OnOk result (text.new.items ≡ text.old.items ++ flat_map (limit_note column counted) rules.now) }
+    ensures { OnOk result (text.new.items ≡ text.old.items ++ flat_map (limit_note column counted)
+        rules.now) }
 {
     for rule in rules {
         put_limit_note(alloc, text, column, counted, rule)?;
@@ -515,7 +520,8 @@ fn put_notes_of(
     level: (bool, u128),
     rules: &[Rule],
 ) -> Result<(), AllocError>
-    ensures { OnOk result (text.new.items ≡ text.old.items ++ notes_text column level.0 level.1 rules.now) }
+    ensures { OnOk result (text.new.items ≡ text.old.items ++ notes_text column level.0 level.1
+        rules.now) }
 {
     let (counted, high) = level;
     put_greatest(alloc, text, column, counted, high)?;

@@ -44,11 +44,14 @@ impl<'a, 'e> Model for Row<'a, 'e> {
       fresh = r.is_fresh;
     } };
 
-    ghost invariant = { λ r. (r.state.now ≡ state_cell r.is_fresh r.entry.now.alarms) × (r.is_raised ≡ has_raised r.entry.now.alarms) × (r.index ≡ interface_of r.entry.now.name) × (r.column ≡ column_of r.entry.now.name) };
+    ghost invariant = { λ r. (r.state.now ≡ state_cell r.is_fresh r.entry.now.alarms)
+        × (r.is_raised ≡ has_raised r.entry.now.alarms) × (r.index ≡ interface_of r.entry.now.name)
+        × (r.column ≡ column_of r.entry.now.name) };
 }
 
 impl<'a, 'e> Row<'a, 'e> {
-    /// An instance with its labels, of this age in rounds, where those of this limit and above are stale.
+    /// An instance with its labels, of this age in rounds, where those of this limit and above are
+    /// stale.
     fn new(
         alloc: Global,
         entry: &'a Entry<'e>,
@@ -56,7 +59,8 @@ impl<'a, 'e> Row<'a, 'e> {
         limit: u32,
         age: Option<u32>,
     ) -> Result<Self, AllocError>
-        ensures { IfOk result (λ row. row ≡ row_of limit age (entry.now, option_map (λ l. l.now) labels.entry)) }
+        ensures { IfOk result (λ row. row ≡ row_of limit age
+            (entry.now, option_map (λ l. l.now) labels.entry)) }
     {
         let name = entry.name().parts();
         let is_fresh = is_fresh(limit, age);
@@ -235,7 +239,8 @@ pub(crate) fn rows_of<'a, 'e>(
     entries: &'a [Entry<'e>],
     extras: Extras<'a>,
 ) -> Result<Vec<Row<'a, 'e>>, AllocError>
-    ensures { IfOk result (λ rows. rows.items ≡ rows_of (option_map (λ f. f.now) extras.entry.station) (labelled extras.entry.labels.now entries.now)) }
+    ensures { IfOk result (λ rows. rows.items ≡ rows_of (option_map (λ f. f.now)
+        extras.entry.station) (labelled extras.entry.labels.now entries.now)) }
 {
     let ages = ages_of(extras.station);
     let limit = limit_of(extras.station);
@@ -252,7 +257,8 @@ pub(crate) fn rows_of<'a, 'e>(
 
 /// Returns the instances, each with its labels and its age.
 fn rows_in<'a, 'e>(alloc: Global, listing: Listing<'a, 'e>) -> Result<Vec<Row<'a, 'e>>, AllocError>
-    ensures { IfOk result (λ rows. rows.items ≡ rows_from listing.entry.limit listing.entry.ages.now 0 (labelled listing.entry.labels.now listing.entry.entries.now)) }
+    ensures { IfOk result (λ rows. rows.items ≡ rows_from listing.entry.limit listing.entry.ages.now
+        0 (labelled listing.entry.labels.now listing.entry.entries.now)) }
 {
     let mut rows = Vec::with_capacity(alloc, listing.entries.len())?;
     for place in 0..listing.entries.len() {
@@ -268,7 +274,8 @@ fn row_at<'a, 'e>(
     place: usize,
 ) -> Result<Row<'a, 'e>, AllocError>
     requires { place < length listing.entries.now }
-    ensures { (other : AnEntry) → IfOk result (λ row. row ≡ row_of listing.entry.limit (slice_get listing.entry.ages.now place)
+    ensures { (other : AnEntry) → IfOk result (λ row. row ≡ row_of listing.entry.limit
+        (slice_get listing.entry.ages.now place)
         (get_or listing.entry.entries.now place other, slice_get listing.entry.labels.now place)) }
 {
     Row::new(

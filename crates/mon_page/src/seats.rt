@@ -87,7 +87,8 @@ fn is_free(before: &[Row], index: u32, column: Column) -> bool
     }
 }
 
-/// Returns `true` if an instance of a device has a place in an interface's row, by the instances before it.
+/// Returns `true` if an instance of a device has a place in an interface's row, by the instances
+/// before it.
 fn has_place(before: &[Row], row: &Row) -> bool
     ensures { result ≡ has_place before.now row.now }
 {
@@ -178,7 +179,8 @@ fn push_interface<'a, 'e>(
     before: &[Row<'a, 'e>],
     index: Option<u32>,
 ) -> Result<(), AllocError>
-    ensures { OnOk result (found.new.items ≡ found.old.items ++ interface_at rows.now before.now index) }
+    ensures { OnOk result (found.new.items ≡ found.old.items
+        ++ interface_at rows.now before.now index) }
 {
     match index {
         None => Ok(()),
@@ -194,7 +196,8 @@ fn push_new<'a, 'e>(
     before: &[Row<'a, 'e>],
     index: u32,
 ) -> Result<(), AllocError>
-    ensures { OnOk result (found.new.items ≡ found.old.items ++ interface_at rows.now before.now (Some index)) }
+    ensures { OnOk result (found.new.items ≡ found.old.items
+        ++ interface_at rows.now before.now (Some index)) }
 {
     if has_index(before, index) {
         return Ok(());

@@ -65,7 +65,8 @@ fn put_uptime(text: &mut Vec<u8>, stamp: u64) -> Result<(), AllocError>
 
 /// Adds how long the agent of a device was up at its newest sample.
 fn put_device_uptime(text: &mut Vec<u8>, device: &[Row]) -> Result<(), AllocError>
-    ensures { OnOk result (text.new.items ≡ text.old.items ++ uptime_words (newest_stamp 0 device.now)) }
+    ensures { OnOk result (text.new.items ≡ text.old.items ++ uptime_words
+        (newest_stamp 0 device.now)) }
 {
     put_uptime(text, newest_stamp(device))
 }
@@ -127,7 +128,8 @@ fn put_device_interfaces(
     text: &mut Vec<u8>,
     device: &[Row],
 ) -> Result<(), AllocError>
-    ensures { OnOk result (text.new.items ≡ text.old.items ++ interface_table (interfaces device.now)) }
+    ensures { OnOk result (text.new.items ≡ text.old.items ++ interface_table
+        (interfaces device.now)) }
 {
     let rows = placed(alloc, device)?;
     let found = interfaces(alloc, rows.as_slice())?;
@@ -141,7 +143,8 @@ fn put_device_others<S: NameTexts>(
     names: &S,
     device: &[Row],
 ) -> Result<(), AllocError>
-    ensures { OnOk result (text.new.items ≡ text.old.items ++ other_table (S.shown names.now) (others device.now)) }
+    ensures { OnOk result (text.new.items ≡ text.old.items ++ other_table (S.shown names.now)
+        (others device.now)) }
 {
     let rows = others(alloc, device)?;
     put_others(alloc, text, names, rows.as_slice())
@@ -156,7 +159,8 @@ fn put_section<S: NameTexts>(
     heading: Heading,
     device: &[Row],
 ) -> Result<(), AllocError>
-    ensures { OnOk result (text.new.items ≡ text.old.items ++ section_text (S.shown names.now) heading device.now) }
+    ensures { OnOk result (text.new.items ≡ text.old.items ++ section_text (S.shown names.now)
+        heading device.now) }
 {
     put_start(alloc, text, heading, device)?;
     put_line(text, heading, device)?;
@@ -200,7 +204,9 @@ fn put_all<S: NameTexts>(
     names: &S,
     page: Sections,
 ) -> Result<(), AllocError>
-    ensures { OnOk result (text.new.items ≡ text.old.items ++ sections_from (S.shown names.now) (option_map (λ f. f.now) page.entry.station) (length page.entry.devices.now) 0 page.entry.devices.now) }
+    ensures { OnOk result (text.new.items ≡ text.old.items ++ sections_from (S.shown names.now)
+        (option_map (λ f. f.now) page.entry.station) (length page.entry.devices.now) 0
+        page.entry.devices.now) }
 {
     for place in 0..page.devices.len() {
         let device = &page.devices[place];
@@ -218,7 +224,8 @@ pub(crate) fn put_sections<S: NameTexts>(
     names: &S,
     page: Sections,
 ) -> Result<(), AllocError>
-    ensures { OnOk result (text.new.items ≡ text.old.items ++ device_sections (S.shown names.now) (option_map (λ f. f.now) page.entry.station) page.entry.devices.now) }
+    ensures { OnOk result (text.new.items ≡ text.old.items ++ device_sections (S.shown names.now)
+        (option_map (λ f. f.now) page.entry.station) page.entry.devices.now) }
 {
     text.extend_from_slice(b"<h2>Devices</h2>\n")?;
     put_all(alloc, text, names, page)

@@ -96,7 +96,8 @@ fn put_share_of(
 
 /// Adds the part of its speed that an instance has.
 fn put_share(alloc: Global, text: &mut Vec<u8>, row: &Row) -> Result<(), AllocError>
-    ensures { OnOk result (text.new.items ≡ text.old.items ++ share_if (fresh_rate row.now.fresh row.now.entry.items) row.now.labels.speed) }
+    ensures { OnOk result (text.new.items ≡ text.old.items ++ share_if
+        (fresh_rate row.now.fresh row.now.entry.items) row.now.labels.speed) }
 {
     let rate = fresh_rate(row.entry(), row.is_fresh());
     put_share_if(alloc, text, rate, row.speed())
@@ -114,7 +115,8 @@ fn put_octets_words(alloc: Global, text: &mut Vec<u8>, row: &Row) -> Result<(), 
 
 /// Adds that of an instance, if there is one.
 fn put_octets_if(alloc: Global, text: &mut Vec<u8>, row: Option<&Row>) -> Result<(), AllocError>
-    ensures { OnOk result (text.new.items ≡ text.old.items ++ octets_if (option_map (λ r. r.now) row.entry)) }
+    ensures { OnOk result (text.new.items ≡ text.old.items ++ octets_if
+        (option_map (λ r. r.now) row.entry)) }
 {
     match row {
         None => Ok(()),
@@ -310,7 +312,8 @@ fn put_row_end(text: &mut Vec<u8>, state: &str, age: Option<u32>) -> Result<(), 
 
 /// Adds the cell of a state, and the beginning of the next one.
 fn put_state_cell(text: &mut Vec<u8>, state: &str) -> Result<(), AllocError>
-    ensures { OnOk result (text.new.items ≡ text.old.items ++ between (codes "</td><td class=\"s\">") state.now (codes "</td><td>")) }
+    ensures { OnOk result (text.new.items ≡ text.old.items ++ between
+        (codes "</td><td class=\"s\">") state.now (codes "</td><td>")) }
 {
     put_between(
         text,
@@ -329,14 +332,16 @@ fn put_worst_start(text: &mut Vec<u8>, rows: &[Row]) -> Result<(), AllocError>
 
 /// Adds the state and the age of instances together at the end of their row.
 fn put_worst_end(text: &mut Vec<u8>, rows: &[Row]) -> Result<(), AllocError>
-    ensures { OnOk result (text.new.items ≡ text.old.items ++ row_end (worst_state rows.now) (oldest None rows.now)) }
+    ensures { OnOk result (text.new.items ≡ text.old.items ++ row_end (worst_state rows.now)
+        (oldest None rows.now)) }
 {
     put_row_end(text, worst_state(rows), oldest(rows))
 }
 
 /// Adds which interface a row is of.
 fn put_lead(text: &mut Vec<u8>, if_name: Option<&str>, index: Option<u32>) -> Result<(), AllocError>
-    ensures { OnOk result (text.new.items ≡ text.old.items ++ lead_words (option_map (λ n. n.now) if_name.entry) index) }
+    ensures { OnOk result (text.new.items ≡ text.old.items ++ lead_words
+        (option_map (λ n. n.now) if_name.entry) index) }
 {
     match index {
         None => Ok(()),
@@ -434,7 +439,8 @@ fn put_interface_lines(
 
 /// Adds the line of a label, if it is known.
 fn put_label_if(text: &mut Vec<u8>, title: &[u8], label: Option<&str>) -> Result<(), AllocError>
-    ensures { OnOk result (text.new.items ≡ text.old.items ++ label_if title.now (option_map (λ n. n.now) label.entry)) }
+    ensures { OnOk result (text.new.items ≡ text.old.items ++ label_if title.now
+        (option_map (λ n. n.now) label.entry)) }
 {
     match label {
         None => Ok(()),
@@ -464,14 +470,16 @@ fn label_start() -> &'static [u8]
 
 /// Adds the line of an instance's ifName, if it is known.
 fn put_if_name(text: &mut Vec<u8>, row: &Row) -> Result<(), AllocError>
-    ensures { OnOk result (text.new.items ≡ text.old.items ++ label_if (codes "ifName") row.now.labels.if_name) }
+    ensures { OnOk result (text.new.items ≡ text.old.items ++ label_if (codes "ifName")
+        row.now.labels.if_name) }
 {
     put_label_if(text, b"ifName", row.if_name())
 }
 
 /// Adds the line of an instance's ifAlias, if it is known.
 fn put_if_alias(text: &mut Vec<u8>, row: &Row) -> Result<(), AllocError>
-    ensures { OnOk result (text.new.items ≡ text.old.items ++ label_if (codes "ifAlias") row.now.labels.if_alias) }
+    ensures { OnOk result (text.new.items ≡ text.old.items ++ label_if (codes "ifAlias")
+        row.now.labels.if_alias) }
 {
     put_label_if(text, b"ifAlias", row.if_alias())
 }
@@ -493,7 +501,8 @@ fn put_name_cell<S: NameTexts>(
 
 /// Adds the newest value of an instance.
 fn put_newest(text: &mut Vec<u8>, row: &Row) -> Result<(), AllocError>
-    ensures { OnOk result (text.new.items ≡ text.old.items ++ value_cell (newest_of row.now.entry.items)) }
+    ensures { OnOk result (text.new.items ≡ text.old.items ++ value_cell
+        (newest_of row.now.entry.items)) }
 {
     put_value(text, row.entry().samples())
 }
@@ -518,7 +527,8 @@ fn put_state_start(text: &mut Vec<u8>, row: &Row) -> Result<(), AllocError>
 
 /// Adds the state and the age of an instance at the end of its row.
 fn put_state_end(text: &mut Vec<u8>, row: &Row) -> Result<(), AllocError>
-    ensures { OnOk result (text.new.items ≡ text.old.items ++ row_end (row_state row.now) row.now.age) }
+    ensures { OnOk result (text.new.items ≡ text.old.items ++ row_end (row_state row.now)
+        row.now.age) }
 {
     put_row_end(text, row.state(), row.age())
 }
@@ -548,7 +558,8 @@ fn put_other_rows<S: NameTexts>(
     names: &S,
     rows: &[Row],
 ) -> Result<(), AllocError>
-    ensures { OnOk result (text.new.items ≡ text.old.items ++ flat_map (other_row (S.shown names.now)) rows.now) }
+    ensures { OnOk result (text.new.items ≡ text.old.items ++ flat_map
+        (other_row (S.shown names.now)) rows.now) }
 {
     for row in rows {
         put_other_row(alloc, text, names, row)?;
@@ -571,7 +582,8 @@ pub(crate) fn put_others<S: NameTexts>(
     names: &S,
     rows: &[Row],
 ) -> Result<(), AllocError>
-    ensures { OnOk result (text.new.items ≡ text.old.items ++ other_table (S.shown names.now) rows.now) }
+    ensures { OnOk result (text.new.items ≡ text.old.items ++ other_table (S.shown names.now)
+        rows.now) }
 {
     if rows.is_empty() {
         return Ok(());
@@ -587,7 +599,8 @@ fn put_other_lines<S: NameTexts>(
     names: &S,
     rows: &[Row],
 ) -> Result<(), AllocError>
-    ensures { OnOk result (text.new.items ≡ text.old.items ++ other_lines (S.shown names.now) rows.now) }
+    ensures { OnOk result (text.new.items ≡ text.old.items ++ other_lines (S.shown names.now)
+        rows.now) }
 {
     text.extend_from_slice(other_titles())?;
     put_other_rows(alloc, text, names, rows)?;

@@ -138,7 +138,8 @@ pub(crate) fn put_now(alloc: Global, text: &mut Vec<u8>, row: &Row) -> Result<()
 
 /// Adds the rate of an instance, with a dash if it has none or is stale.
 pub(crate) fn put_fresh_rate(alloc: Global, text: &mut Vec<u8>, row: &Row) -> Result<(), AllocError>
-    ensures { OnOk result (text.new.items ≡ text.old.items ++ rate_or_dash (column_of row.now.entry.name) (fresh_rate row.now.fresh row.now.entry.items)) }
+    ensures { OnOk result (text.new.items ≡ text.old.items ++ rate_or_dash
+        (column_of row.now.entry.name) (fresh_rate row.now.fresh row.now.entry.items)) }
 {
     let rate = fresh_rate(row.entry(), row.is_fresh());
     put_rate_or_dash(alloc, text, row.column(), rate)
@@ -196,7 +197,8 @@ pub(crate) fn put_device_words(
 
 /// Adds the address and the label of an instance's device.
 fn put_device_text(alloc: Global, text: &mut Vec<u8>, row: &Row) -> Result<(), AllocError>
-    ensures { OnOk result (text.new.items ≡ text.old.items ++ flat_map escaped (shown_device row.now.labels.target row.now.labels.device)) }
+    ensures { OnOk result (text.new.items ≡ text.old.items ++ flat_map escaped
+        (shown_device row.now.labels.target row.now.labels.device)) }
 {
     let words = device_text(alloc, row.target(), row.device())?;
     put_escaped(text, words.as_bytes())
@@ -216,7 +218,8 @@ pub(crate) fn put_interface_words(
     if_name: Option<&str>,
     index: u32,
 ) -> Result<(), AllocError>
-    ensures { OnOk result (text.new.items ≡ text.old.items ++ interface_words (option_map (λ n. n.now) if_name.entry) index) }
+    ensures { OnOk result (text.new.items ≡ text.old.items ++ interface_words
+        (option_map (λ n. n.now) if_name.entry) index) }
 {
     match if_name {
         None => put_index(text, index),
@@ -234,7 +237,8 @@ fn put_index(text: &mut Vec<u8>, index: u32) -> Result<(), AllocError>
 
 /// Adds a label, if it is known.
 pub(crate) fn put_known(text: &mut Vec<u8>, label: Option<&str>) -> Result<(), AllocError>
-    ensures { OnOk result (text.new.items ≡ text.old.items ++ known_words (option_map (λ n. n.now) label.entry)) }
+    ensures { OnOk result (text.new.items ≡ text.old.items ++ known_words
+        (option_map (λ n. n.now) label.entry)) }
 {
     match label {
         None => Ok(()),
@@ -251,7 +255,8 @@ fn put_two(
     small: u64,
     part: &[u8],
 ) -> Result<(), AllocError>
-    ensures { OnOk result (text.new.items ≡ text.old.items ++ two_units large unit.now small part.now) }
+    ensures { OnOk result (text.new.items ≡ text.old.items ++ two_units large unit.now small
+        part.now) }
 {
     put_large(text, large)?;
     text.extend_from_slice(unit)?;

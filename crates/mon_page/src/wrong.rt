@@ -104,7 +104,8 @@ pub(crate) fn put_wrong<S: NameTexts>(
     rows: &[Row],
     station: Option<&Figures>,
 ) -> Result<(), AllocError>
-    ensures { OnOk result (text.new.items ≡ text.old.items ++ wrong_section (S.shown names.now) rows.now (option_map (λ f. f.now) station.entry)) }
+    ensures { OnOk result (text.new.items ≡ text.old.items ++ wrong_section (S.shown names.now)
+        rows.now (option_map (λ f. f.now) station.entry)) }
 {
     text.extend_from_slice(b"<section id=\"wrong\">\n<h2>What is wrong now</h2>\n<ul>\n")?;
     put_items_or_nothing(alloc, text, names, rows, station)?;
@@ -119,7 +120,8 @@ fn put_items_or_nothing<S: NameTexts>(
     rows: &[Row],
     station: Option<&Figures>,
 ) -> Result<(), AllocError>
-    ensures { OnOk result (text.new.items ≡ text.old.items ++ or_nothing (wrong_items (S.shown names.now) rows.now (option_map (λ f. f.now) station.entry))) }
+    ensures { OnOk result (text.new.items ≡ text.old.items ++ or_nothing
+        (wrong_items (S.shown names.now) rows.now (option_map (λ f. f.now) station.entry))) }
 {
     let mut items = Vec::new(alloc);
     put_items(alloc, &mut items, names, rows, station)?;
@@ -146,7 +148,8 @@ fn put_items<S: NameTexts>(
     rows: &[Row],
     station: Option<&Figures>,
 ) -> Result<(), AllocError>
-    ensures { OnOk result (text.new.items ≡ text.old.items ++ wrong_items (S.shown names.now) rows.now (option_map (λ f. f.now) station.entry)) }
+    ensures { OnOk result (text.new.items ≡ text.old.items ++ wrong_items (S.shown names.now)
+        rows.now (option_map (λ f. f.now) station.entry)) }
 {
     put_alarms(alloc, text, names, rows)?;
     put_station_items(alloc, text, rows, station)
@@ -159,7 +162,8 @@ fn put_alarms<S: NameTexts>(
     names: &S,
     rows: &[Row],
 ) -> Result<(), AllocError>
-    ensures { OnOk result (text.new.items ≡ text.old.items ++ flat_map (alarm_item (S.shown names.now)) (raised_alarms rows.now)) }
+    ensures { OnOk result (text.new.items ≡ text.old.items ++ flat_map
+        (alarm_item (S.shown names.now)) (raised_alarms rows.now)) }
 {
     let alarms = raised_alarms(alloc, rows)?;
     put_alarm_items(alloc, text, names, alarms.as_slice())
@@ -172,7 +176,8 @@ fn put_alarm_items<S: NameTexts>(
     names: &S,
     alarms: &[RaisedAlarm],
 ) -> Result<(), AllocError>
-    ensures { OnOk result (text.new.items ≡ text.old.items ++ flat_map (alarm_item (S.shown names.now)) alarms.now) }
+    ensures { OnOk result (text.new.items ≡ text.old.items ++ flat_map
+        (alarm_item (S.shown names.now)) alarms.now) }
 {
     for alarm in alarms {
         put_alarm(alloc, text, names, alarm)?;
@@ -188,7 +193,8 @@ fn put_alarm<S: NameTexts>(
     names: &S,
     raised: &RaisedAlarm,
 ) -> Result<(), AllocError>
-    ensures { OnOk result (text.new.items ≡ text.old.items ++ alarm_item (S.shown names.now) raised.now) }
+    ensures { OnOk result (text.new.items ≡ text.old.items ++ alarm_item (S.shown names.now)
+        raised.now) }
 {
     put_alarm_place(alloc, text, names, raised.row)?;
     text.extend_from_slice(b": ")?;
@@ -207,7 +213,8 @@ fn put_row_limit(
     row: &Row,
     rule: &Rule,
 ) -> Result<(), AllocError>
-    ensures { OnOk result (text.new.items ≡ text.old.items ++ limit_words (column_of row.now.entry.name) (is_counted (newest_of row.now.entry.items)) rule.now) }
+    ensures { OnOk result (text.new.items ≡ text.old.items ++ limit_words
+        (column_of row.now.entry.name) (is_counted (newest_of row.now.entry.items)) rule.now) }
 {
     let counted = is_counted(row.entry().samples());
     put_limit_words(alloc, text, row.column(), counted, rule)
@@ -225,7 +232,8 @@ fn put_since(text: &mut Vec<u8>, state: AlarmState) -> Result<(), AllocError>
 
 /// Adds a stamp.
 fn put_stamp(text: &mut Vec<u8>, boots: u32, time: u32) -> Result<(), AllocError>
-    ensures { OnOk result (text.new.items ≡ text.old.items ++ (decimal boots ++ codes ":" ++ decimal time)) }
+    ensures { OnOk result (text.new.items ≡ text.old.items ++
+        (decimal boots ++ codes ":" ++ decimal time)) }
 {
     put_small(text, boots)?;
     text.extend_from_slice(b":")?;
@@ -240,7 +248,8 @@ fn put_alarm_place<S: NameTexts>(
     names: &S,
     row: &Row,
 ) -> Result<(), AllocError>
-    ensures { OnOk result (text.new.items ≡ text.old.items ++ alarm_place (S.shown names.now) row.now) }
+    ensures { OnOk result (text.new.items ≡ text.old.items ++ alarm_place (S.shown names.now)
+        row.now) }
 {
     text.extend_from_slice(b"<li class=\"RAISED\"><b>RAISED</b> ")?;
     put_device_words(alloc, text, row)?;
@@ -251,7 +260,8 @@ fn put_alarm_place<S: NameTexts>(
 
 /// Adds the interface of an instance, if it is of one.
 fn put_interface_before(text: &mut Vec<u8>, row: &Row) -> Result<(), AllocError>
-    ensures { OnOk result (text.new.items ≡ text.old.items ++ interface_before row.now.labels.if_name (interface_of row.now.entry.name)) }
+    ensures { OnOk result (text.new.items ≡ text.old.items ++ interface_before
+        row.now.labels.if_name (interface_of row.now.entry.name)) }
 {
     put_before(text, row.if_name(), row.index())
 }
@@ -262,7 +272,8 @@ fn put_before(
     if_name: Option<&str>,
     index: Option<u32>,
 ) -> Result<(), AllocError>
-    ensures { OnOk result (text.new.items ≡ text.old.items ++ interface_before (option_map (λ n. n.now) if_name.entry) index) }
+    ensures { OnOk result (text.new.items ≡ text.old.items ++ interface_before
+        (option_map (λ n. n.now) if_name.entry) index) }
 {
     match index {
         None => Ok(()),
@@ -272,7 +283,8 @@ fn put_before(
 
 /// Adds an interface and a space.
 fn put_spaced(text: &mut Vec<u8>, if_name: Option<&str>, index: u32) -> Result<(), AllocError>
-    ensures { OnOk result (text.new.items ≡ text.old.items ++ interface_before (option_map (λ n. n.now) if_name.entry) (Some index)) }
+    ensures { OnOk result (text.new.items ≡ text.old.items ++ interface_before
+        (option_map (λ n. n.now) if_name.entry) (Some index)) }
 {
     put_interface_words(text, if_name, index)?;
     text.extend_from_slice(b" ")
@@ -285,7 +297,8 @@ pub(crate) fn put_shown<S: NameTexts>(
     names: &S,
     row: &Row,
 ) -> Result<(), AllocError>
-    ensures { OnOk result (text.new.items ≡ text.old.items ++ flat_map escaped (S.shown names.now row.now.entry.name)) }
+    ensures { OnOk result (text.new.items ≡ text.old.items ++ flat_map escaped
+        (S.shown names.now row.now.entry.name)) }
 {
     let name = names.text(alloc, row.entry().name())?;
     put_escaped(text, name.as_bytes())
@@ -298,7 +311,8 @@ fn put_station_items(
     rows: &[Row],
     station: Option<&Figures>,
 ) -> Result<(), AllocError>
-    ensures { OnOk result (text.new.items ≡ text.old.items ++ station_items rows.now (option_map (λ f. f.now) station.entry)) }
+    ensures { OnOk result (text.new.items ≡ text.old.items ++ station_items rows.now
+        (option_map (λ f. f.now) station.entry)) }
 {
     match station {
         None => Ok(()),
@@ -313,7 +327,8 @@ fn put_figures_items(
     rows: &[Row],
     figures: &Figures,
 ) -> Result<(), AllocError>
-    ensures { OnOk result (text.new.items ≡ text.old.items ++ station_items rows.now (Some figures.now)) }
+    ensures { OnOk result (text.new.items ≡ text.old.items ++ station_items rows.now
+        (Some figures.now)) }
 {
     put_targets(alloc, text, rows, figures.targets.as_slice())?;
     put_peers(text, figures.peers.as_slice())?;
@@ -327,7 +342,8 @@ fn put_targets(
     rows: &[Row],
     targets: &[TargetFigures],
 ) -> Result<(), AllocError>
-    ensures { OnOk result (text.new.items ≡ text.old.items ++ flat_map (down_item rows.now) targets.now) }
+    ensures { OnOk result (text.new.items ≡ text.old.items ++ flat_map (down_item rows.now)
+        targets.now) }
 {
     for target in targets {
         put_down(alloc, text, rows, target)?;
@@ -387,7 +403,8 @@ fn put_device_of(
     address: &str,
     label: Option<&str>,
 ) -> Result<(), AllocError>
-    ensures { OnOk result (text.new.items ≡ text.old.items ++ flat_map escaped (shown_device (Some address.now) (option_map (λ l. l.now) label.entry))) }
+    ensures { OnOk result (text.new.items ≡ text.old.items ++ flat_map escaped
+        (shown_device (Some address.now) (option_map (λ l. l.now) label.entry))) }
 {
     let words = device_text(alloc, Some(address), label)?;
     put_escaped(text, words.as_bytes())
@@ -441,7 +458,8 @@ fn put_reason(text: &mut Vec<u8>, reason: &Option<String>) -> Result<(), AllocEr
 
 /// Adds a reason.
 fn put_reason_text(text: &mut Vec<u8>, reason: &[u8]) -> Result<(), AllocError>
-    ensures { OnOk result (text.new.items ≡ text.old.items ++ (codes ": " ++ flat_map escaped reason.now)) }
+    ensures { OnOk result (text.new.items ≡ text.old.items ++
+        (codes ": " ++ flat_map escaped reason.now)) }
 {
     text.extend_from_slice(b": ")?;
     put_escaped(text, reason)

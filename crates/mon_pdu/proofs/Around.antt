@@ -1,4 +1,5 @@
--- A message around the octets of its variable bindings: its lengths, and that it is the one that is written.
+-- A message around the octets of its variable bindings: its lengths, and that it is the one that is
+-- written.
 use Rattle.std.proofs.Common.{◌≡◌, ℕ, ◌+◌, ◌<◌, ◌≤◌, ◌^◌, ◌∙◌, leb, pos, List, ◌++◌, length, refl, ap, sym, arith}
 use Rattle.std.specs.Prelude.{IsTrue}
 use Rattle.std.proofs.lemmas.Bool.{leb-true, le-leb}

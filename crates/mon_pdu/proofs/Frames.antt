@@ -1,4 +1,5 @@
--- Frames, and variable bindings whose names are known: what is read was spelled, and what is spelled is read.
+-- Frames, and variable bindings whose names are known: what is read was spelled, and what is
+-- spelled is read.
 use Rattle.std.proofs.Common.{◌≡◌, ◌≢◌, ℕ, true, false, cond, eqb, nat_eq, take, drop, ℤ, pos, List, [], ◌∷◌, ◌++◌, length, Option, Some, None, Result, Ok, Err, refl, sym, ap, subst, ◌∙◌}
 use Rattle.std.specs.Prelude.{IfNone, IfSome, IsSome, IsOk}
 use Rattle.std.specs.Result.{result_ok}

@@ -95,7 +95,8 @@ value_valid text EndOfMibView is = tt
 -- ---- the parts of a message, over what is known of values
 
 module _ (value_shortest : (bytes : List ℕ) (v : Value) → IsBytes bytes → Spells bytes v → length (written v) ≤ length bytes) where
-  -- an element takes no less than one that is written for shorter contents, since an OCTET STRING of these contents does
+  -- an element takes no less than one that is written for shorter contents, since an OCTET STRING
+  -- of these contents does
   element_shortest : (tag : ℕ) (contents bytes : List ℕ) (n : ℕ) → IsBytes bytes → IsElement tag contents bytes → n ≤ length contents → size_for n ≤ length bytes
   element_shortest tag contents bytes n fits is le =
       let text : List ℕ = 4 ∷ is.len ++ contents in

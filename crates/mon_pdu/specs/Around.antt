@@ -24,7 +24,8 @@ body_around body list = element (tag_of body) (contents_of_body body list)
 
 -- the contents of the message
 abbrev pub contents_of_message : Message → List ℕ → List ℕ
-contents_of_message m list = written (values.Integer (pos 1)) ++ (written (values.Octets m.community) ++ body_around m.body list)
+contents_of_message m list = written (values.Integer (pos 1))
+    ++ (written (values.Octets m.community) ++ body_around m.body list)
 
 -- the message
 unfoldable pub message_around : Message → List ℕ → List ℕ

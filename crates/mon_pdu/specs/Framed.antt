@@ -1,7 +1,9 @@
 -- Messages by their frames.
-use Rattle.std.specs.Prelude.{◌≡◌, ℕ, ℤ, pos, List, [], ◌∷◌, ◌++◌, length, Some, None, Result, Ok, Err, ◌==◌, if◌then◌else◌}
+use Rattle.std.specs.Prelude.{◌≡◌, ℕ, ℤ, pos, List, [], ◌∷◌, ◌++◌, length, Some, None, Result, Ok}
+use Rattle.std.specs.Prelude.{Err, ◌==◌, if◌then◌else◌}
 use Rattle.mon_ber.specs.declared.fault.BerFault.{BerFault}
-use Rattle.mon_ber.specs.declared.fault.BerFault.TheVariants.{Truncated, BadTag, BadLength, OutOfRange}
+use Rattle.mon_ber.specs.declared.fault.BerFault.TheVariants.{Truncated, BadTag, BadLength}
+use Rattle.mon_ber.specs.declared.fault.BerFault.TheVariants.{OutOfRange}
 use Rattle.mon_ber.specs.declared.value.Value.TheVariants.{Integer, Octets}
 use Rattle.mon_ber.specs.Grammar.{IsElement, Spells}
 use Rattle.mon_oid.specs.Steps.{◌>>=◌}
@@ -20,25 +22,40 @@ use Rattle.mon_pdu.specs.Reading.{is_one}
 abbrev pub framed : Frame → List Binding → Message
 framed f bindings = record {
   community = f.community.now;
-  body = Pdu (record { kind = f.kind; request_id = f.request_id; error_status = f.error_status; error_index = f.error_index; bindings = bindings });
+  body = Pdu (record {
+    kind = f.kind;
+    request_id = f.request_id;
+    error_status = f.error_status;
+    error_index = f.error_index;
+    bindings = bindings;
+  });
 }
 
 -- the GetBulk of this frame and these variable bindings
 abbrev pub bulk_framed : BulkFrame → List Binding → Message
 bulk_framed f bindings = record {
   community = f.community.now;
-  body = Bulk (record { request_id = f.request_id; non_repeaters = f.non_repeaters; max_repetitions = f.max_repetitions; bindings = bindings });
+  body = Bulk (record {
+    request_id = f.request_id;
+    non_repeaters = f.non_repeaters;
+    max_repetitions
+        = f.max_repetitions;
+    bindings = bindings;
+  });
 }
 
--- what a frame holds: the community, the kind, the three numbers and the octets of the variable bindings
+-- what a frame holds: the community, the kind, the three numbers and the octets of the variable
+-- bindings
 abbrev pub Held : Type 0
 Held = List ℕ × PduKind × ℤ × ℤ × ℤ × List ℕ
 
--- what the frame of a GetBulk holds: the community, the three numbers and the octets of the variable bindings
+-- what the frame of a GetBulk holds: the community, the three numbers and the octets of the
+-- variable bindings
 abbrev pub BulkHeld : Type 0
 BulkHeld = List ℕ × ℤ × ℤ × ℤ × List ℕ
 
--- what the frame of any message holds: the community, the PDU's tag, the three numbers and the octets of the variable bindings
+-- what the frame of any message holds: the community, the PDU's tag, the three numbers and the
+-- octets of the variable bindings
 abbrev pub AnyHeld : Type 0
 AnyHeld = List ℕ × ℕ × ℤ × ℤ × ℤ × List ℕ
 
@@ -108,7 +125,8 @@ unfoldable pub octet_at : List ℕ → Result (ℕ × List ℕ) BerFault
 octet_at [] = Err Truncated
 octet_at (octet ∷ bs) = Ok (octet, bs)
 
--- What the frame of any message holds, from the contents of its SEQUENCE: the variable bindings are not looked at.
+-- What the frame of any message holds, from the contents of its SEQUENCE: the variable bindings are
+-- not looked at.
 unfoldable pub any_of : List ℕ → Result AnyHeld BerFault
 any_of contents = do
   version ← integer_at contents
@@ -116,7 +134,8 @@ any_of contents = do
       element_at 0x04 version.1 >>= λ community.
       octet_at community.1 >>= λ tag.
       contents_at tag.1 >>= λ element.
-      if length element.1 == 0 then (fields_of element.0 >>= λ f. Ok (community.0, tag.0, f.0, f.1, f.2, f.3)) else Err BadLength
+      if length element.1 == 0 then (fields_of element.0 >>= λ f. Ok
+      (community.0, tag.0, f.0, f.1, f.2, f.3)) else Err BadLength
       ) else Err OutOfRange
 
 -- What the frame of the message holds that the octets begin with, whatever the tag of its PDU.

@@ -13,7 +13,8 @@ use Rattle.mon_pdu.specs.Kinds.{octet_of}
 abbrev pub AreOctets : List ℕ → Type 0
 AreOctets bytes = All (λ octet. octet < 256) bytes
 
--- A variable binding is a SEQUENCE of a name and a value, and of nothing else (RFC 3416 section 3, VarBind).
+-- A variable binding is a SEQUENCE of a name and a value, and of nothing else (RFC 3416 section 3,
+-- VarBind).
 pub record IsBinding (bytes : List ℕ) (b : Binding) : Type 0 where
   pub name : List ℕ
   pub value : List ℕ
@@ -21,7 +22,8 @@ pub record IsBinding (bytes : List ℕ) (b : Binding) : Type 0 where
   pub spelled_name : Spells name (values.Name b.name)
   pub spelled_value : Spells value b.value
 
--- The tag of a PDU: its kind's, or GetBulk's (RFC 3416 section 3, PDUs). There are these eight and no others.
+-- The tag of a PDU: its kind's, or GetBulk's (RFC 3416 section 3, PDUs). There are these eight and
+-- no others.
 abbrev pub tag_of : Body → ℕ
 tag_of (Pdu p) = octet_of p.kind
 tag_of (Bulk p) = 0xa5
@@ -46,13 +48,15 @@ abbrev pub bindings_of : Body → List Binding
 bindings_of (Pdu p) = p.bindings
 bindings_of (Bulk p) = p.bindings
 
--- A SEQUENCE of variable bindings, one after the other, and of nothing else (RFC 3416 section 3, VarBindList).
+-- A SEQUENCE of variable bindings, one after the other, and of nothing else (RFC 3416 section 3,
+-- VarBindList).
 pub record IsList (bytes : List ℕ) (bindings : List Binding) : Type 0 where
   pub contents : List ℕ
   pub element : IsElement 0x30 contents bytes
   pub each : AreSpelled IsBinding contents bindings
 
--- A PDU is an element with its tag, of three INTEGERs and the variable bindings, and of nothing else (RFC 3416 section 3).
+-- A PDU is an element with its tag, of three INTEGERs and the variable bindings, and of nothing
+-- else (RFC 3416 section 3).
 pub record IsBody (bytes : List ℕ) (body : Body) : Type 0 where
   pub first : List ℕ
   pub second : List ℕ
@@ -64,7 +68,8 @@ pub record IsBody (bytes : List ℕ) (body : Body) : Type 0 where
   pub spelled_third : Spells third (values.Integer (third_of body))
   pub spelled_list : IsList list (bindings_of body)
 
--- These octets, all of them, spell the message: a SEQUENCE of the version 1, the community and a PDU (RFC 1901 section 3).
+-- These octets, all of them, spell the message: a SEQUENCE of the version 1, the community and a
+-- PDU (RFC 1901 section 3).
 pub record IsMessage (bytes : List ℕ) (m : Message) : Type 0 where
   pub version : List ℕ
   pub community : List ℕ
@@ -81,7 +86,8 @@ pub record BeginsWithMessage (bytes : List ℕ) (m : Message) : Type 0 where
   pub whole : bytes ≡ text ++ rest
   pub spelled : IsMessage text m
 
--- The octets begin with a SEQUENCE, all of it within them, whose contents begin with an INTEGER that is this version.
+-- The octets begin with a SEQUENCE, all of it within them, whose contents begin with an INTEGER
+-- that is this version.
 pub record IsVersioned (bytes : List ℕ) (v : ℤ) : Type 0 where
   pub version : List ℕ
   pub others : List ℕ
@@ -91,7 +97,8 @@ pub record IsVersioned (bytes : List ℕ) (v : ℤ) : Type 0 where
   pub element : IsElement 0x30 (version ++ others) front
   pub spelled : Spells version (values.Integer v)
 
--- The octets begin with a SEQUENCE whose contents begin with version 1, a community and an octet that is the tag of no PDU.
+-- The octets begin with a SEQUENCE whose contents begin with version 1, a community and an octet
+-- that is the tag of no PDU.
 pub record HasUnknownPdu (bytes : List ℕ) (t : ℕ) : Type 0 where
   pub version : List ℕ
   pub community : List ℕ

@@ -1,7 +1,9 @@
--- The tags of PDUs: implicit context tags, constructed (RFC 3416 section 3, PDUs; RFC 3417 section 8).
+-- The tags of PDUs: implicit context tags, constructed (RFC 3416 section 3, PDUs; RFC 3417 section
+-- 8).
 use Rattle.std.specs.Prelude.{ℕ, ◌==◌, if◌then◌else◌, Option, Some, None}
 use Rattle.mon_pdu.specs.declared.message.PduKind.{PduKind}
-use Rattle.mon_pdu.specs.declared.message.PduKind.TheVariants.{Get, GetNext, Response, Set, Inform, Trap, Report}
+use Rattle.mon_pdu.specs.declared.message.PduKind.TheVariants.{Get, GetNext, Response, Set, Inform}
+use Rattle.mon_pdu.specs.declared.message.PduKind.TheVariants.{Trap, Report}
 
 -- the tag of a kind of PDU
 abbrev pub octet_of : PduKind → ℕ

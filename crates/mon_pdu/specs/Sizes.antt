@@ -17,4 +17,8 @@ with_bindings m bindings = record m { body = body_with m.body bindings }
 
 -- a message of this community with this PDU, but with this error-status and error-index
 abbrev pub with_error : List ℕ → AnyPdu → ℤ → ℤ → Message
-with_error community p status index = record { community = community; body = Pdu (record p { error_status = status; error_index = index }) }
+with_error community p status index = record {
+  community = community;
+  body = Pdu
+      (record p { error_status = status; error_index = index });
+}

@@ -27,7 +27,8 @@ written_list bs = element 0x30 (list_contents bs)
 
 -- the three INTEGERs that a PDU begins with
 abbrev pub leading_integers : Body → List ℕ
-leading_integers body = written (values.Integer (first_of body)) ++ written (values.Integer (second_of body)) ++ written (values.Integer (third_of body))
+leading_integers body = written (values.Integer (first_of body))
+    ++ written (values.Integer (second_of body)) ++ written (values.Integer (third_of body))
 
 -- the contents of a PDU
 abbrev pub body_contents : Body → List ℕ
@@ -39,22 +40,26 @@ written_body body = element (tag_of body) (body_contents body)
 
 -- the contents of a message: the version 1, the community and the PDU
 abbrev pub message_contents : Message → List ℕ
-message_contents m = written (values.Integer (pos 1)) ++ (written (values.Octets m.community) ++ written_body m.body)
+message_contents m = written (values.Integer (pos 1)) ++ (written (values.Octets m.community)
+    ++ written_body m.body)
 
 -- a message (RFC 1901 section 3)
 unfoldable pub written_message : Message → List ℕ
 written_message m = element 0x30 (message_contents m)
 
--- The message can be written: a length takes 4 octets at most, and the inner ones are no longer than the outer one.
+-- The message can be written: a length takes 4 octets at most, and the inner ones are no longer
+-- than the outer one.
 abbrev pub HasLength : Message → Type 0
 HasLength m = length (message_contents m) < 2 ^ 32
 
--- A variable binding of the types: its name is an object identifier, and its value is in the range of its type.
+-- A variable binding of the types: its name is an object identifier, and its value is in the range
+-- of its type.
 pub record IsValidBinding (b : Binding) : Type 0 where
   pub name : IsValidValue (values.Name b.name)
   pub value : IsValidValue b.value
 
--- A message of the types: its numbers are 32-bit integers, and its variable bindings are valid. Every message that is read is so.
+-- A message of the types: its numbers are 32-bit integers, and its variable bindings are valid.
+-- Every message that is read is so.
 pub record IsValid (m : Message) : Type 0 where
   pub first : FitsSigned w32 (first_of m.body)
   pub second : FitsSigned w32 (second_of m.body)

@@ -20,7 +20,8 @@ pub enum PduFault {
     /// An element has another tag than a message has at this place.
     #[error("another tag was expected")]
     BadTag,
-    /// A length is of no form that is read, contents are not used up, or a length needs more than 4 octets.
+    /// A length is of no form that is read, contents are not used up, or a length needs more than 4
+    /// octets.
     #[error("a length is not right")]
     BadLength,
     /// A number is outside the range of its type.

@@ -1,4 +1,5 @@
-//! Reading a message in place: its frame, and then variable bindings whose names are known. No octets are copied but those of values.
+//! Reading a message in place: its frame, and then variable bindings whose names are known. No
+//! octets are copied but those of values.
 
 ghost use Rattle.std.specs.Prelude.{◌≡◌, ◌≢◌, ◌++◌, ℕ, List, IfNone, IfSome, IsSome, Err};
 ghost use Rattle.mon_ber.specs.declared.value.Value.{Value as AnyValue};
@@ -65,19 +66,24 @@ struct AnyFrame<'a> {
     list: &'a [u8],
 }
 
-/// The frame of the message that the octets begin with; what follows it is passed over. None where they begin with no message, or with a GetBulk, or where
-/// only the variable bindings are to blame that they begin with none: those are not looked at.
+/// The frame of the message that the octets begin with; what follows it is passed over. None where
+/// they begin with no message, or with a GetBulk, or where only the variable bindings are to blame
+/// that they begin with none: those are not looked at.
 pub fn read_frame(octets: &[u8]) -> Option<Frame<'_>>
     // What it holds is there, whatever the octets of its list are; if it isn't, no frame is
     // returned.
     ensures framed { IfSome result (λ f. BeginsWithFrame octets.now (held f)) }
     ensures none { IfNone result ((h : Held) → BeginsWithFrame octets.now h → ⊥) }
     // With the variable bindings that its list spells it is the message.
-    ensures found { IfSome result (λ f. (bindings : List AnyBinding) → AreSpelled IsBinding f.list.now bindings → BeginsWithMessage octets.now (framed f bindings)) }
+    ensures found { IfSome result (λ f. (bindings : List AnyBinding)
+        → AreSpelled IsBinding f.list.now bindings → BeginsWithMessage octets.now
+        (framed f bindings)) }
     // Each message with another PDU than a GetBulk has a frame.
-    ensures only { (m : AnyMessage) (p : AnyPdu) → m.body ≡ bodies.Pdu p → BeginsWithMessage octets.now m → IsSome result }
+    ensures only { (m : AnyMessage) (p : AnyPdu) → m.body ≡ bodies.Pdu p
+        → BeginsWithMessage octets.now m → IsSome result }
     // Its list spells the variable bindings.
-    ensures spells { (m : AnyMessage) (p : AnyPdu) → m.body ≡ bodies.Pdu p → BeginsWithMessage octets.now m
+    ensures spells { (m : AnyMessage) (p : AnyPdu) → m.body ≡ bodies.Pdu p
+        → BeginsWithMessage octets.now m
         → IfSome result (λ f. AreSpelled IsBinding f.list.now p.bindings) }
 {
     frame_at(octets).ok()
@@ -92,12 +98,15 @@ pub fn read_bulk_frame(octets: &[u8]) -> Option<BulkFrame<'_>>
     ensures framed { IfSome result (λ f. BeginsWithBulkFrame octets.now (bulk_held f)) }
     ensures none { IfNone result ((h : BulkHeld) → BeginsWithBulkFrame octets.now h → ⊥) }
     // With the variable bindings that its list spells it is the message.
-    ensures found { IfSome result (λ f. (bindings : List AnyBinding) → AreSpelled IsBinding f.list.now bindings
+    ensures found { IfSome result (λ f. (bindings : List AnyBinding)
+        → AreSpelled IsBinding f.list.now bindings
         → BeginsWithMessage octets.now (bulk_framed f bindings)) }
     // Each GetBulk has a frame.
-    ensures only { (m : AnyMessage) (p : AnyBulk) → m.body ≡ bodies.Bulk p → BeginsWithMessage octets.now m → IsSome result }
+    ensures only { (m : AnyMessage) (p : AnyBulk) → m.body ≡ bodies.Bulk p
+        → BeginsWithMessage octets.now m → IsSome result }
     // Its list spells the variable bindings.
-    ensures spells { (m : AnyMessage) (p : AnyBulk) → m.body ≡ bodies.Bulk p → BeginsWithMessage octets.now m
+    ensures spells { (m : AnyMessage) (p : AnyBulk) → m.body ≡ bodies.Bulk p
+        → BeginsWithMessage octets.now m
         → IfSome result (λ f. AreSpelled IsBinding f.list.now p.bindings) }
 {
     bulk_frame_at(octets).ok()
@@ -213,9 +222,11 @@ fn fields_of(contents: &[u8]) -> Result<(i32, i32, i32, &[u8]), BerFault>
 /// memory for its value ran out.
 pub fn named_value<'b>(alloc: Global, name: &[u8], octets: &'b [u8]) -> Option<(Value, &'b [u8])>
     ensures found { IfSome result (λ r. (oid : List ℕ) → Spells name.now (Name oid)
-        → (text : List ℕ) × IsBinding text (record { name = oid; value = r.0 }) × (octets.now ≡ text ++ r.1.now)) }
+        → (text : List ℕ) × IsBinding text (record { name = oid; value = r.0 })
+        × (octets.now ≡ text ++ r.1.now)) }
     // A value that needs no memory is found.
-    ensures inline { (text rest spelled : List ℕ) (v : AnyValue) → IsElement 0x30 (name.now ++ spelled) text → Spells spelled v → IsInline v
+    ensures inline { (text rest spelled : List ℕ) (v : AnyValue)
+        → IsElement 0x30 (name.now ++ spelled) text → Spells spelled v → IsInline v
         → octets.now ≡ text ++ rest → IsSome result }
 {
     let (contents, after) = element_at(SEQUENCE, octets).ok()?;

@@ -28,16 +28,17 @@ pub fn frame_fits(frame: &Frame<'_>, list: usize, limit: u32) -> bool
     element_size(lengths_of(frame, list).message) <= limit as usize
 }
 
-/// Makes `out` what `write_message` writes for the message of this frame. The octets of its variable
-/// bindings, which were written before (`write_bindings`), are copied and not measured again. Memory
-/// is allocated only where the capacity of `out` is too small. Besides `OutOfMemory` the one fault is
-/// `BadLength`: it takes more than `limit` octets.
+/// Makes `out` what `write_message` writes for the message of this frame. The octets of its
+/// variable bindings, which were written before (`write_bindings`), are copied and not measured
+/// again. Memory is allocated only where the capacity of `out` is too small. Besides `OutOfMemory`
+/// the one fault is `BadLength`: it takes more than `limit` octets.
 pub fn write_frame(out: &mut Vec<u8>, frame: &Frame<'_>, limit: u32) -> Result<(), PduFault>
     ensures ok { (bindings : List AnyBinding) → frame.now.list.now ≡ list_contents bindings
         → OnOk result (out.new.items ≡ written_message (framed frame.now bindings)) }
     ensures within { OnOk result (length out.new.items ≤ limit) }
     ensures err { (bindings : List AnyBinding) → frame.now.list.now ≡ list_contents bindings
-        → IfErr result (λ e. (e ≡ OutOfMemory) ⊎ ((e ≡ BadLength) × (limit < length (written_message (framed frame.now bindings))))) }
+        → IfErr result (λ e. (e ≡ OutOfMemory) ⊎ ((e ≡ BadLength)
+        × (limit < length (written_message (framed frame.now bindings))))) }
 {
     let lengths = lengths_of(frame, frame.list.len().min(LIMIT));
     let size = element_size(lengths.message);
@@ -75,11 +76,15 @@ fn numbers_len(frame: &Frame<'_>) -> usize
 #[tactic(auto, using(crate::proofs::Around::inside_fits), unfolding(crate::specs::Around::message_around, mon_ber::specs::Writing::element))]
 fn put_frame(out: &mut Vec<u8>, frame: &Frame<'_>, lengths: Lengths)
     requires fits { length (contents_of_message (framed frame.now []) frame.now.list.now) < 2 ^ 32 }
-    requires message { lengths.message ≡ size_counted (length (contents_of_message (framed frame.now []) frame.now.list.now)) }
-    requires body { lengths.body ≡ size_counted (length (contents_of_body (framed frame.now []).body frame.now.list.now)) }
+    requires message { lengths.message ≡ size_counted (length
+        (contents_of_message (framed frame.now []) frame.now.list.now)) }
+    requires body { lengths.body ≡ size_counted (length (contents_of_body (framed frame.now []).body
+        frame.now.list.now)) }
     requires list { lengths.list ≡ size_counted (length frame.now.list.now) }
-    requires room { vec_len out.old + length (message_around (framed frame.now []) frame.now.list.now) ≤ vec_capacity out.old }
-    ensures { out.new.items ≡ out.old.items ++ message_around (framed frame.now []) frame.now.list.now }
+    requires room { vec_len out.old + length (message_around (framed frame.now [])
+        frame.now.list.now) ≤ vec_capacity out.old }
+    ensures { out.new.items ≡ out.old.items ++ message_around (framed frame.now [])
+        frame.now.list.now }
 {
     put_header(out, SEQUENCE, lengths.message);
     put_integer(out, 1);
@@ -90,11 +95,15 @@ fn put_frame(out: &mut Vec<u8>, frame: &Frame<'_>, lengths: Lengths)
 /// Writes the PDU of a frame.
 #[tactic(auto, using(crate::proofs::Around::list_fits), unfolding(crate::specs::Around::body_around, mon_ber::specs::Writing::element))]
 fn put_pdu(out: &mut Vec<u8>, frame: &Frame<'_>, lengths: Lengths)
-    requires fits { length (contents_of_body (framed frame.now []).body frame.now.list.now) < 2 ^ 32 }
-    requires body { lengths.body ≡ size_counted (length (contents_of_body (framed frame.now []).body frame.now.list.now)) }
+    requires fits { length (contents_of_body (framed frame.now []).body frame.now.list.now)
+        < 2 ^ 32 }
+    requires body { lengths.body ≡ size_counted (length (contents_of_body (framed frame.now []).body
+        frame.now.list.now)) }
     requires list { lengths.list ≡ size_counted (length frame.now.list.now) }
-    requires room { vec_len out.old + length (body_around (framed frame.now []).body frame.now.list.now) ≤ vec_capacity out.old }
-    ensures { out.new.items ≡ out.old.items ++ body_around (framed frame.now []).body frame.now.list.now }
+    requires room { vec_len out.old + length (body_around (framed frame.now []).body
+        frame.now.list.now) ≤ vec_capacity out.old }
+    ensures { out.new.items ≡ out.old.items ++ body_around (framed frame.now []).body
+        frame.now.list.now }
 {
     put_header(out, frame.kind.octet(), lengths.body);
     put_numbers(out, frame);
@@ -104,9 +113,11 @@ fn put_pdu(out: &mut Vec<u8>, frame: &Frame<'_>, lengths: Lengths)
 /// Writes the three numbers of a frame.
 #[tactic(auto, using(crate::proofs::Lengths::passed))]
 fn put_numbers(out: &mut Vec<u8>, frame: &Frame<'_>)
-    requires room { vec_len out.old + length (leading_integers (framed frame.now []).body) ≤ vec_capacity out.old }
+    requires room { vec_len out.old + length (leading_integers (framed frame.now []).body)
+        ≤ vec_capacity out.old }
     ensures items { out.new.items ≡ out.old.items ++ leading_integers (framed frame.now []).body }
-    ensures len { vec_len out.new ≡ vec_len out.old + length (leading_integers (framed frame.now []).body) }
+    ensures len { vec_len out.new ≡ vec_len out.old + length
+        (leading_integers (framed frame.now []).body) }
     ensures capacity { vec_capacity out.old ≤ vec_capacity out.new }
 {
     put_three(out, frame.request_id, frame.error_status, frame.error_index);

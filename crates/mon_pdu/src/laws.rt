@@ -1,4 +1,5 @@
-//! Laws over the spellings of messages. Each is a function that does nothing; its clause is the law.
+//! Laws over the spellings of messages. Each is a function that does nothing; its clause is the
+//! law.
 
 ghost use Rattle.std.specs.Prelude.{◌≡◌, ◌≢◌, ◌<◌, ◌≤◌, ◌↔◌, ℕ, ℤ, pos, List, [], ◌++◌, length, Result, Ok, Err};
 ghost use Rattle.mon_pdu.specs.declared.fault.PduFault.{PduFault};
@@ -11,19 +12,23 @@ ghost use Rattle.mon_pdu.specs.Reading.{Fails, message_at};
 ghost use Rattle.mon_pdu.specs.Sizes.{with_bindings, with_error};
 ghost use Rattle.mon_pdu.specs.Writing.{HasLength, IsValid, written_message};
 
-/// No spelling of a message is a proper prefix of a spelling of any message, and each has one meaning.
+/// No spelling of a message is a proper prefix of a spelling of any message, and each has one
+/// meaning.
 pub fn front()
-    ensures { (text more : List ℕ) (m n : Message) → IsMessage text m → IsMessage (text ++ more) n → (more ≡ []) × (m ≡ n) }
+    ensures { (text more : List ℕ) (m n : Message) → IsMessage text m → IsMessage (text ++ more) n
+        → (more ≡ []) × (m ≡ n) }
 {}
 
 /// The message that reading gives is spelled where the octets begin.
 pub fn takes()
-    ensures { (octets : List ℕ) (m : Message) → AreOctets octets → message_at octets ≡ Ok m → BeginsWithMessage octets m }
+    ensures { (octets : List ℕ) (m : Message) → AreOctets octets → message_at octets ≡ Ok m
+        → BeginsWithMessage octets m }
 {}
 
 /// Reading yields the message if the octets begin with a spelling of it.
 pub fn again()
-    ensures { (octets : List ℕ) (m : Message) → BeginsWithMessage octets m → message_at octets ≡ Ok m }
+    ensures { (octets : List ℕ) (m : Message) → BeginsWithMessage octets m
+        → message_at octets ≡ Ok m }
 {}
 
 /// Reading yields the fault of a version exactly where the octets begin with a SEQUENCE that begins
@@ -42,7 +47,8 @@ pub fn unknown_pdu()
 
 /// A fault of a call, other than out of memory, is the fault that reading gives.
 pub fn told()
-    ensures { (octets : List ℕ) (e : PduFault) → e ≢ OutOfMemory → Fails e (message_at octets) → message_at octets ≡ Err e }
+    ensures { (octets : List ℕ) (e : PduFault) → e ≢ OutOfMemory → Fails e (message_at octets)
+        → message_at octets ≡ Err e }
 {}
 
 /// What is written for a message is one of its spellings.
@@ -52,27 +58,31 @@ pub fn written()
 
 /// No spelling of a message is shorter than what is written for it.
 pub fn shortest()
-    ensures { (text : List ℕ) (m : Message) → AreOctets text → IsMessage text m → length (written_message m) ≤ length text }
+    ensures { (text : List ℕ) (m : Message) → AreOctets text → IsMessage text m
+        → length (written_message m) ≤ length text }
 {
     mon_ber::laws::shortest();
 }
 
 /// A message that is spelled is valid and can be written.
 pub fn rewritable()
-    ensures { (text : List ℕ) (m : Message) → AreOctets text → IsMessage text m → IsValid m × HasLength m }
+    ensures { (text : List ℕ) (m : Message) → AreOctets text → IsMessage text m
+        → IsValid m × HasLength m }
 {
     mon_ber::laws::shortest();
 }
 
 /// What is written for a message is read as the same message, whatever follows it.
 pub fn round_trip()
-    ensures { (m : Message) (rest : List ℕ) → IsValid m → HasLength m → message_at (written_message m ++ rest) ≡ Ok m }
+    ensures { (m : Message) (rest : List ℕ) → IsValid m → HasLength m
+        → message_at (written_message m ++ rest) ≡ Ok m }
 {}
 
 /// A message with more variable bindings is written no shorter.
 pub fn grows()
     ensures { (m : Message) (bindings more : List Binding)
-        → length (written_message (with_bindings m bindings)) ≤ length (written_message (with_bindings m (bindings ++ more))) }
+        → length (written_message (with_bindings m bindings))
+        ≤ length (written_message (with_bindings m (bindings ++ more))) }
 {}
 
 /// A message is written in no fewer octets than it has variable bindings.
@@ -80,9 +90,11 @@ pub fn counts()
     ensures { (m : Message) → length (bindings_of m.body) ≤ length (written_message m) }
 {}
 
-/// A PDU with an error-status of one octet is written no longer than with another status and an index that is no smaller.
+/// A PDU with an error-status of one octet is written no longer than with another status and an
+/// index that is no smaller.
 pub fn shrinks()
-    ensures { (community : List ℕ) (p : Pdu) (status index other most : ℕ) → status < 128 → index ≤ most
+    ensures { (community : List ℕ) (p : Pdu) (status index other most : ℕ) → status < 128
+        → index ≤ most
         → length (written_message (with_error community p (pos status) (pos index)))
         ≤ length (written_message (with_error community p (pos other) (pos most))) }
 {}

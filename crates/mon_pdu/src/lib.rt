@@ -1,6 +1,7 @@
-//! SNMPv2c messages in BER: RFC 1901 section 3, RFC 3416 section 3 and RFC 3417 section 8.
-//! A message is read exactly where the octets begin with one of its spellings, and is written in its shortest one.
-//! The layer above rests on the grammar, on reading as a function on lists (`message_at`), and on `laws`, which tie them.
+//! SNMPv2c messages in BER: RFC 1901 section 3, RFC 3416 section 3 and RFC 3417 section 8. A
+//! message is read exactly where the octets begin with one of its spellings, and is written in its
+//! shortest one. The layer above rests on the grammar, on reading as a function on lists
+//! (`message_at`), and on `laws`, which tie them.
 #![tactic(auto)]
 
 mod fault;

@@ -11,7 +11,8 @@ use std::marker::Model;
 /// The tag of a GetBulkRequest-PDU (RFC 3416 section 3, `PDUs`).
 pub(crate) const GET_BULK: u8 = 0xa5;
 
-/// A variable binding, or varbind: the name of a variable with a value (RFC 3416 section 3, `VarBind`).
+/// A variable binding, or varbind: the name of a variable with a value (RFC 3416 section 3,
+/// `VarBind`).
 #[derive(Debug)]
 pub struct Binding {
     /// The variable's name.
@@ -28,7 +29,8 @@ impl Drop for Binding {
     }
 }
 
-/// The variable bindings of a PDU, in their order (RFC 3416 section 3, `VarBindList`). Contracts see them as their list.
+/// The variable bindings of a PDU, in their order (RFC 3416 section 3, `VarBindList`). Contracts
+/// see them as their list.
 #[derive(Debug, Drop)]
 pub struct Bindings {
     items: Vec<Binding>,
@@ -66,7 +68,8 @@ impl Bindings {
     }
 }
 
-/// The kinds of PDU with an error status and an error index: all but GetBulk (RFC 3416 section 3, `PDUs`).
+/// The kinds of PDU with an error status and an error index: all but GetBulk (RFC 3416 section 3,
+/// `PDUs`).
 #[derive(Clone, Copy, Debug, PartialEq, Eq)]
 pub enum PduKind {
     /// GetRequest-PDU, tag A0.

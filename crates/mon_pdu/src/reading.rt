@@ -39,7 +39,8 @@ fn binding_at(alloc: Global, octets: &[u8]) -> Result<(Binding, &[u8]), PduFault
 
 /// The bindings that the contents spell, all of the contents.
 fn all_bindings(alloc: Global, contents: &[u8]) -> Result<Vec<Binding>, PduFault>
-    ensures { Gives (λ v. v.items) result (many binding_at Truncated (length contents.now) contents.now) }
+    ensures { Gives (λ v. v.items) result (many binding_at Truncated (length contents.now)
+        contents.now) }
 {
     let mut bindings = Vec::new(alloc);
     let mut rest = contents;
@@ -128,7 +129,8 @@ fn body_at(alloc: Global, octets: &[u8]) -> Result<(Body, &[u8]), PduFault>
 fn message_of(alloc: Global, contents: &[u8]) -> Result<Message, PduFault>
     ensures gives { Gives (λ m. m) result (message_of contents.now) }
     // The version is refused before memory is taken.
-    ensures version { (v : ℤ) → message_of contents.now ≡ Err (PduFault.BadVersion v) → result ≢ Err PduFault.OutOfMemory }
+    ensures version { (v : ℤ) → message_of contents.now ≡ Err (PduFault.BadVersion v)
+        → result ≢ Err PduFault.OutOfMemory }
 {
     let (version, rest) = integer_at(contents)?;
     if version != 1 {
@@ -146,14 +148,16 @@ fn message_of(alloc: Global, contents: &[u8]) -> Result<Message, PduFault>
 #[tactic(auto, unfolding(crate::specs::Reading::message_at))]
 fn message_at(alloc: Global, octets: &[u8]) -> Result<Message, PduFault>
     ensures gives { Gives (λ m. m) result (message_at octets.now) }
-    ensures version { (v : ℤ) → message_at octets.now ≡ Err (PduFault.BadVersion v) → result ≢ Err PduFault.OutOfMemory }
+    ensures version { (v : ℤ) → message_at octets.now ≡ Err (PduFault.BadVersion v)
+        → result ≢ Err PduFault.OutOfMemory }
 {
     let (contents, _) = element_at(SEQUENCE, octets)?;
     message_of(alloc, contents)
 }
 
-/// The message that the octets begin with; what follows it is passed over. The faults come from left to right,
-/// the first one counts, and the version is tested before the community and the PDU are read (RFC 3417 section 8).
+/// The message that the octets begin with; what follows it is passed over. The faults come from
+/// left to right, the first one counts, and the version is tested before the community and the PDU
+/// are read (RFC 3417 section 8).
 pub fn read_message(alloc: Global, octets: &[u8]) -> Result<Message, PduFault>
     // What is read is spelled where the octets begin.
     ensures found { IfOk result (λ m. BeginsWithMessage octets.now m) }
@@ -161,7 +165,8 @@ pub fn read_message(alloc: Global, octets: &[u8]) -> Result<Message, PduFault>
     ensures only { (m : Message) → BeginsWithMessage octets.now m → Gives (λ m. m) result (Ok m) }
 
     // Another version is refused as such, also where no memory is left, and nothing else is.
-    ensures version { (v : ℤ) → result ≡ Err (PduFault.BadVersion v) ↔ (IsVersioned octets.now v × (v ≢ pos 1)) }
+    ensures version { (v : ℤ) → result ≡ Err (PduFault.BadVersion v)
+        ↔ (IsVersioned octets.now v × (v ≢ pos 1)) }
 
     // So is the tag of no PDU after a community, unless memory runs out.
     ensures unknown { (t : ℕ) → result ≡ Err (PduFault.UnknownPdu t) → HasUnknownPdu octets.now t }

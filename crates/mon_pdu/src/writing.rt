@@ -1,4 +1,5 @@
-//! Writing messages. Lengths are counted first, so that what is written needs no memory of its own and never fails.
+//! Writing messages. Lengths are counted first, so that what is written needs no memory of its own
+//! and never fails.
 
 ghost use Rattle.std.specs.Prelude.{◌≡◌, FitsSigned, ℕ, ◌≤◌, ◌<◌, ◌+◌, ◌^◌, ◌++◌, ◌⊎◌, List, [], pos, length, IfOk, IfErr, MatchResult, vec_len, vec_capacity};
 ghost use Rattle.std.specs.List.{flat_map, AllByRecursion};
@@ -84,7 +85,8 @@ pub fn list_len(bindings: &[Binding]) -> usize
 /// How many octets three numbers take.
 #[tactic(auto, using(crate::proofs::Lengths::passed))]
 pub(crate) fn three_len(first: i32, second: i32, third: i32) -> usize
-    ensures value { result ≡ length (written (Integer first)) + length (written (Integer second)) + length (written (Integer third)) }
+    ensures value { result ≡ length (written (Integer first)) + length (written (Integer second))
+        + length (written (Integer third)) }
     ensures small { result ≤ 45 }
     ensures fits { FitsSigned w32 first × FitsSigned w32 second × FitsSigned w32 third }
 {
@@ -93,9 +95,12 @@ pub(crate) fn three_len(first: i32, second: i32, third: i32) -> usize
 
 #[tactic(auto, using(crate::proofs::Lengths::passed))]
 pub(crate) fn put_three(out: &mut Vec<u8>, first: i32, second: i32, third: i32)
-    requires room { vec_len out.old + length (written (Integer first) ++ written (Integer second) ++ written (Integer third)) ≤ vec_capacity out.old }
-    ensures items { out.new.items ≡ out.old.items ++ written (Integer first) ++ written (Integer second) ++ written (Integer third) }
-    ensures len { vec_len out.new ≡ vec_len out.old + length (written (Integer first) ++ written (Integer second) ++ written (Integer third)) }
+    requires room { vec_len out.old + length (written (Integer first) ++ written (Integer second)
+        ++ written (Integer third)) ≤ vec_capacity out.old }
+    ensures items { out.new.items ≡ out.old.items ++ written (Integer first)
+        ++ written (Integer second) ++ written (Integer third) }
+    ensures len { vec_len out.new ≡ vec_len out.old + length
+        (written (Integer first) ++ written (Integer second) ++ written (Integer third)) }
     ensures capacity { vec_capacity out.old ≤ vec_capacity out.new }
 {
     put_integer(out, first);
@@ -108,7 +113,8 @@ pub(crate) fn put_three(out: &mut Vec<u8>, first: i32, second: i32, third: i32)
 fn numbers_len(body: &Body) -> usize
     ensures value { result ≡ length (leading_integers body.now) }
     ensures small { result ≤ 45 }
-    ensures fits { FitsSigned w32 (first_of body.now) × FitsSigned w32 (second_of body.now) × FitsSigned w32 (third_of body.now) }
+    ensures fits { FitsSigned w32 (first_of body.now) × FitsSigned w32 (second_of body.now)
+        × FitsSigned w32 (third_of body.now) }
 {
     match body {
         Body::Pdu(pdu) => three_len(pdu.request_id, pdu.error_status, pdu.error_index),
@@ -147,10 +153,13 @@ pub(crate) struct Lengths {
 pub(crate) fn lengths_from(community: usize, numbers: usize, list: usize) -> Lengths
     requires { numbers ≤ 45 }
     ensures list { result.list ≡ list }
-    ensures body { (m : AnyMessage) (octets : List ℕ) → numbers ≡ length (leading_integers m.body) → list ≡ size_counted (length octets)
+    ensures body { (m : AnyMessage) (octets : List ℕ) → numbers ≡ length (leading_integers m.body)
+        → list ≡ size_counted (length octets)
         → result.body ≡ size_counted (length (contents_of_body m.body octets)) }
-    ensures message { (m : AnyMessage) (octets : List ℕ) → community ≡ length m.community → numbers ≡ length (leading_integers m.body)
-        → list ≡ size_counted (length octets) → result.message ≡ size_counted (length (contents_of_message m octets)) }
+    ensures message { (m : AnyMessage) (octets : List ℕ) → community ≡ length m.community
+        → numbers ≡ length (leading_integers m.body)
+        → list ≡ size_counted (length octets) → result.message
+        ≡ size_counted (length (contents_of_message m octets)) }
 {
     let body = (numbers + element_size(list)).min(LIMIT);
     let contents = (integer_size(1) + element_size(community) + element_size(body)).min(LIMIT);
@@ -161,12 +170,16 @@ pub(crate) fn lengths_from(community: usize, numbers: usize, list: usize) -> Len
     }
 }
 
-/// Measures a message around its variable bindings, which take `list` octets, counted up to the limit.
+/// Measures a message around its variable bindings, which take `list` octets, counted up to the
+/// limit.
 fn lengths_around(message: &Message, list: usize) -> Lengths
     ensures list { result.list ≡ list }
-    ensures body { (octets : List ℕ) → list ≡ size_counted (length octets) → result.body ≡ size_counted (length (contents_of_body message.now.body octets)) }
-    ensures message { (octets : List ℕ) → list ≡ size_counted (length octets) → result.message ≡ size_counted (length (contents_of_message message.now octets)) }
-    ensures fits { FitsSigned w32 (first_of message.now.body) × FitsSigned w32 (second_of message.now.body) × FitsSigned w32 (third_of message.now.body) }
+    ensures body { (octets : List ℕ) → list ≡ size_counted (length octets)
+        → result.body ≡ size_counted (length (contents_of_body message.now.body octets)) }
+    ensures message { (octets : List ℕ) → list ≡ size_counted (length octets)
+        → result.message ≡ size_counted (length (contents_of_message message.now octets)) }
+    ensures fits { FitsSigned w32 (first_of message.now.body)
+        × FitsSigned w32 (second_of message.now.body) × FitsSigned w32 (third_of message.now.body) }
 {
     let numbers = numbers_len(&message.body);
     lengths_from(message.community.as_slice().len(), numbers, list)
@@ -178,14 +191,16 @@ fn lengths_by(message: &Message, list: usize) -> Lengths
     ensures list { result.list ≡ list }
     ensures body { result.body ≡ size_counted (length (body_contents message.now.body)) }
     ensures message { result.message ≡ size_counted (length (message_contents message.now)) }
-    ensures fits { FitsSigned w32 (first_of message.now.body) × FitsSigned w32 (second_of message.now.body) × FitsSigned w32 (third_of message.now.body) }
+    ensures fits { FitsSigned w32 (first_of message.now.body)
+        × FitsSigned w32 (second_of message.now.body) × FitsSigned w32 (third_of message.now.body) }
 {
     lengths_around(message, list)
 }
 
 /// Measures a message, each of its variable bindings once.
 fn lengths_of(message: &Message) -> Lengths
-    ensures list { result.list ≡ size_counted (length (list_contents (bindings_of message.now.body))) }
+    ensures list { result.list ≡ size_counted (length (list_contents
+        (bindings_of message.now.body))) }
     ensures body { result.body ≡ size_counted (length (body_contents message.now.body)) }
     ensures message { result.message ≡ size_counted (length (message_contents message.now)) }
     ensures valid { IsValid message.now }
@@ -198,7 +213,8 @@ fn lengths_of(message: &Message) -> Lengths
 #[tactic(auto, using(crate::proofs::Lengths::message_length))]
 pub fn message_size(message: &Message) -> Result<usize, PduFault>
     ensures valid { IsValid message.now }
-    ensures size { MatchResult result (λ n. HasLength message.now × (n ≡ length (written_message message.now)))
+    ensures size { MatchResult result (λ n. HasLength message.now
+        × (n ≡ length (written_message message.now)))
         (λ e. (e ≡ BadLength) × (2 ^ 32 ≤ length (message_contents message.now))) }
 {
     let len = lengths_of(message).message;
@@ -216,8 +232,9 @@ pub fn binding_size(binding: &Binding) -> usize
     element_size(binding_len(binding))
 }
 
-/// How many octets `write_message` would write for this message with other variable bindings, which take `list` octets
-/// in all, counted up to `LIMIT` of `mon_ber::writing`. Takes the same time however many they are.
+/// How many octets `write_message` would write for this message with other variable bindings, which
+/// take `list` octets in all, counted up to `LIMIT` of `mon_ber::writing`. Takes the same time
+/// however many they are.
 pub fn size_with(message: &Message, list: usize) -> usize
     ensures { (bindings : List AnyBinding) → list ≡ size_counted (length (list_contents bindings))
         → result ≡ size_counted (length (written_message (with_bindings message.now bindings))) }
@@ -298,7 +315,8 @@ fn put_contents(out: &mut Vec<u8>, list: &Listed<'_>)
 pub(crate) fn put_list(out: &mut Vec<u8>, list: &Listed<'_>, len: usize)
     requires fits { length (octets_of list.now) < 2 ^ 32 }
     requires len { len ≡ length (octets_of list.now) }
-    requires room { vec_len out.old + length (element 0x30 (octets_of list.now)) ≤ vec_capacity out.old }
+    requires room { vec_len out.old + length (element 0x30 (octets_of list.now))
+        ≤ vec_capacity out.old }
     ensures items { out.new.items ≡ out.old.items ++ element 0x30 (octets_of list.now) }
     ensures len { vec_len out.new ≡ vec_len out.old + length (element 0x30 (octets_of list.now)) }
     ensures capacity { vec_capacity out.old ≤ vec_capacity out.new }
@@ -310,11 +328,14 @@ pub(crate) fn put_list(out: &mut Vec<u8>, list: &Listed<'_>, len: usize)
 #[tactic(auto, using(crate::proofs::Around::list_fits), unfolding(crate::specs::Around::body_around, mon_ber::specs::Writing::element))]
 fn put_body(out: &mut Vec<u8>, body: &Body, lengths: Lengths, list: &Listed<'_>)
     requires fits { length (contents_of_body body.now (octets_of list.now)) < 2 ^ 32 }
-    requires body { lengths.body ≡ size_counted (length (contents_of_body body.now (octets_of list.now))) }
+    requires body { lengths.body ≡ size_counted (length (contents_of_body body.now
+        (octets_of list.now))) }
     requires list { lengths.list ≡ size_counted (length (octets_of list.now)) }
-    requires room { vec_len out.old + length (body_around body.now (octets_of list.now)) ≤ vec_capacity out.old }
+    requires room { vec_len out.old + length (body_around body.now (octets_of list.now))
+        ≤ vec_capacity out.old }
     ensures items { out.new.items ≡ out.old.items ++ body_around body.now (octets_of list.now) }
-    ensures len { vec_len out.new ≡ vec_len out.old + length (body_around body.now (octets_of list.now)) }
+    ensures len { vec_len out.new ≡ vec_len out.old + length
+        (body_around body.now (octets_of list.now)) }
     ensures capacity { vec_capacity out.old ≤ vec_capacity out.new }
 {
     put_header(out, body.octet(), lengths.body);
@@ -326,12 +347,16 @@ fn put_body(out: &mut Vec<u8>, body: &Body, lengths: Lengths, list: &Listed<'_>)
 #[tactic(auto, using(crate::proofs::Around::inside_fits), unfolding(crate::specs::Around::message_around, mon_ber::specs::Writing::element))]
 fn put_message(out: &mut Vec<u8>, message: &Message, lengths: Lengths, list: &Listed<'_>)
     requires fits { length (contents_of_message message.now (octets_of list.now)) < 2 ^ 32 }
-    requires message { lengths.message ≡ size_counted (length (contents_of_message message.now (octets_of list.now))) }
-    requires body { lengths.body ≡ size_counted (length (contents_of_body message.now.body (octets_of list.now))) }
+    requires message { lengths.message ≡ size_counted (length
+        (contents_of_message message.now (octets_of list.now))) }
+    requires body { lengths.body ≡ size_counted (length (contents_of_body message.now.body
+        (octets_of list.now))) }
     requires list { lengths.list ≡ size_counted (length (octets_of list.now)) }
-    requires room { vec_len out.old + length (message_around message.now (octets_of list.now)) ≤ vec_capacity out.old }
+    requires room { vec_len out.old + length (message_around message.now (octets_of list.now))
+        ≤ vec_capacity out.old }
     ensures items { out.new.items ≡ out.old.items ++ message_around message.now (octets_of list.now) }
-    ensures len { vec_len out.new ≡ vec_len out.old + length (message_around message.now (octets_of list.now)) }
+    ensures len { vec_len out.new ≡ vec_len out.old + length
+        (message_around message.now (octets_of list.now)) }
     ensures capacity { vec_capacity out.old ≤ vec_capacity out.new }
 {
     put_header(out, SEQUENCE, lengths.message);
@@ -345,7 +370,8 @@ fn put_whole(out: &mut Vec<u8>, message: &Message, lengths: Lengths)
     requires fits { HasLength message.now }
     requires message { lengths.message ≡ size_counted (length (message_contents message.now)) }
     requires body { lengths.body ≡ size_counted (length (body_contents message.now.body)) }
-    requires list { lengths.list ≡ size_counted (length (list_contents (bindings_of message.now.body))) }
+    requires list { lengths.list ≡ size_counted (length (list_contents
+        (bindings_of message.now.body))) }
     requires room { vec_len out.old + length (written_message message.now) ≤ vec_capacity out.old }
     ensures items { out.new.items ≡ out.old.items ++ written_message message.now }
     ensures len { vec_len out.new ≡ vec_len out.old + length (written_message message.now) }
@@ -399,7 +425,8 @@ pub fn write_message(alloc: Global, message: &Message) -> Result<Vec<u8>, PduFau
     ensures ok { IfOk result (λ v. HasLength message.now × (v.items ≡ written_message message.now)) }
     // What is written is a spelling of the message.
     ensures spelled { IfOk result (λ v. IsMessage v.items message.now) }
-    ensures err { IfErr result (λ e. (e ≡ OutOfMemory) ⊎ ((e ≡ BadLength) × (2 ^ 32 ≤ length (message_contents message.now)))) }
+    ensures err { IfErr result (λ e. (e ≡ OutOfMemory) ⊎ ((e ≡ BadLength)
+        × (2 ^ 32 ≤ length (message_contents message.now)))) }
 {
     let lengths = lengths_of(message);
     if lengths.message >= LIMIT {
@@ -410,12 +437,14 @@ pub fn write_message(alloc: Global, message: &Message) -> Result<Vec<u8>, PduFau
     Ok(out)
 }
 
-/// Writes variable bindings as a message has them, one after the other, in one allocation. A request
-/// that is sent again and again under other request-ids has its names written only once, for
-/// `write_with`. Besides `OutOfMemory` the one fault is `BadLength`: they take 2^32 octets or more.
+/// Writes variable bindings as a message has them, one after the other, in one allocation. A
+/// request that is sent again and again under other request-ids has its names written only once,
+/// for `write_with`. Besides `OutOfMemory` the one fault is `BadLength`: they take 2^32 octets or
+/// more.
 pub fn write_bindings(alloc: Global, bindings: &[Binding]) -> Result<Vec<u8>, PduFault>
     ensures ok { IfOk result (λ v. v.items ≡ list_contents bindings.now) }
-    ensures err { IfErr result (λ e. (e ≡ OutOfMemory) ⊎ ((e ≡ BadLength) × (2 ^ 32 ≤ length (list_contents bindings.now)))) }
+    ensures err { IfErr result (λ e. (e ≡ OutOfMemory) ⊎ ((e ≡ BadLength)
+        × (2 ^ 32 ≤ length (list_contents bindings.now)))) }
 {
     let len = list_len(bindings);
     if len >= LIMIT {
@@ -426,14 +455,17 @@ pub fn write_bindings(alloc: Global, bindings: &[Binding]) -> Result<Vec<u8>, Pd
     Ok(out)
 }
 
-/// What `write_message` writes for this message with other variable bindings, those that `list` is written of (`write_bindings`), in one allocation. They
-/// are copied and not measured again. Besides `OutOfMemory` the one fault is `BadLength`, as of `message_size`.
+/// What `write_message` writes for this message with other variable bindings, those that `list` is
+/// written of (`write_bindings`), in one allocation. They are copied and not measured again.
+/// Besides `OutOfMemory` the one fault is `BadLength`, as of `message_size`.
 #[tactic(auto, using(crate::proofs::Around::message_length))]
 pub fn write_with(alloc: Global, message: &Message, list: &[u8]) -> Result<Vec<u8>, PduFault>
     ensures ok { (bindings : List AnyBinding) → list.now ≡ list_contents bindings
-        → IfOk result (λ v. HasLength (with_bindings message.now bindings) × (v.items ≡ written_message (with_bindings message.now bindings))) }
+        → IfOk result (λ v. HasLength (with_bindings message.now bindings)
+        × (v.items ≡ written_message (with_bindings message.now bindings))) }
     ensures err { (bindings : List AnyBinding) → list.now ≡ list_contents bindings
-        → IfErr result (λ e. (e ≡ OutOfMemory) ⊎ ((e ≡ BadLength) × (2 ^ 32 ≤ length (message_contents (with_bindings message.now bindings))))) }
+        → IfErr result (λ e. (e ≡ OutOfMemory) ⊎ ((e ≡ BadLength)
+        × (2 ^ 32 ≤ length (message_contents (with_bindings message.now bindings))))) }
 {
     let lengths = lengths_around(message, list.len().min(LIMIT));
     if lengths.message >= LIMIT {

@@ -1,12 +1,21 @@
 -- The machines that a text lists, one a line: NAME ADDRESS.
-use Rattle.std.specs.Prelude.{ℕ, ◌+◌, ◌==◌, ◌||◌, ◌&&◌, nat_lt, nat_le, Bool, true, false, List, [], ◌∷◌, ◌++◌, Option, Some, None, Result, Ok, Err, drop, length, string_bytes, if◌then◌else◌}
+use Rattle.std.specs.Prelude.{ℕ, ◌+◌, ◌==◌, ◌||◌, ◌&&◌, nat_lt, nat_le, Bool, true, false, List, []}
+use Rattle.std.specs.Prelude.{◌∷◌, ◌++◌, Option, Some, None, Result, Ok, Err, drop, length}
+use Rattle.std.specs.Prelude.{string_bytes, if◌then◌else◌}
 use Rattle.std.specs.Char.{is_ascii_alphanumeric, is_ascii_whitespace}
 use Rattle.std.specs.List.{after_first, before_first, list_all, position_or_len, prefix_len}
 use Rattle.std.specs.Net.Reader.{read_ipv4, whole_value}
 use Rattle.std.specs.Str.{bytes_eq}
 use Rattle.std.specs.Str.Lines.{lines}
 use Rattle.mon_placing.specs.declared.fault.MachinesFault.{MachinesFault}
-use Rattle.mon_placing.specs.declared.fault.MachinesFault.TheVariants.{Malformed, NoMachine, RepeatedAddress, RepeatedName, TooFew, TooMany}
+use Rattle.mon_placing.specs.declared.fault.MachinesFault.TheVariants.{
+  Malformed,
+  NoMachine,
+  RepeatedAddress,
+  RepeatedName,
+  TooFew,
+  TooMany,
+}
 use Rattle.mon_placing.specs.declared.machines.Machine.{Machine}
 
 -- a machine: its name, and its IPv4 address in octets
@@ -57,9 +66,11 @@ is_space c = c == 32
 abbrev pub has_space : List ℕ → Bool
 has_space line = nat_lt (position_or_len is_space line) (length line)
 
--- a line is NAME ADDRESS: what is before its first space, and what is after that and further white space
+-- a line is NAME ADDRESS: what is before its first space, and what is after that and further white
+-- space
 abbrev pub entry_in : List ℕ → Option (List ℕ × List ℕ)
-entry_in line = entry_by (has_space line && is_name (before_first is_space line)) (before_first is_space line)
+entry_in line = entry_by (has_space line && is_name (before_first is_space line))
+    (before_first is_space line)
     (trimmed (after_first is_space line))
 
 -- a line that says nothing of a machine: it is empty or a comment
@@ -88,17 +99,21 @@ unrepeated_by false false false number = Ok tt
 -- fewer than 1,024
 abbrev pub unrepeated : ℕ → List Entry → (name octets : List ℕ) → Result Unit MachinesFault
 unrepeated number known name octets =
-    unrepeated_by (has_name name known) (has_address octets known) (nat_le 1024 (length known)) number
+    unrepeated_by (has_name name known) (has_address octets known) (nat_le 1024 (length known))
+    number
 
 -- a machine after those above, if it may be added
-abbrev pub joined : Result Unit MachinesFault → List Entry → (name octets : List ℕ) → Result (List Entry) MachinesFault
+abbrev pub joined : Result Unit MachinesFault → List Entry → (name octets : List ℕ)
+    → Result (List Entry) MachinesFault
 joined (Err fault) known name octets = Err fault
 joined (Ok done) known name octets = Ok (known ++ (record { name = name; octets = octets }) ∷ [])
 
 -- the machines up to a line that must be one
-abbrev pub with_entry : ℕ → List Entry → Option (List ℕ × List ℕ) → Result (List Entry) MachinesFault
+abbrev pub with_entry : ℕ → List Entry → Option (List ℕ × List ℕ)
+    → Result (List Entry) MachinesFault
 with_entry number known None = Err (Malformed number)
-with_entry number known (Some entry) = joined (unrepeated number known entry.0 entry.1) known entry.0 entry.1
+with_entry number known (Some entry) = joined (unrepeated number known entry.0 entry.1) known
+    entry.0 entry.1
 
 -- the machines up to a line
 abbrev pub read_by : Bool → ℕ → List Entry → List ℕ → Result (List Entry) MachinesFault
@@ -110,21 +125,25 @@ abbrev pub read_line : ℕ → List Entry → List ℕ → Result (List Entry) M
 read_line number known line = read_by (is_passed line) number known line
 
 -- a step, and another one by what it gave; the first fault ends both
-abbrev pub and_then : {A : Type 0} → Result A MachinesFault → (A → Result (List Entry) MachinesFault) → Result (List Entry) MachinesFault
+abbrev pub and_then : {A : Type 0} → Result A MachinesFault →
+    (A → Result (List Entry) MachinesFault) → Result (List Entry) MachinesFault
 and_then (Ok value) next = next value
 and_then (Err fault) next = Err fault
 
 -- the machines on lines from this number on, after those above; or the first line at fault
 abbrev pub read_from : ℕ → List Entry → List (List ℕ) → Result (List Entry) MachinesFault
 read_from number known [] = Ok known
-read_from number known (line ∷ rest) = and_then (read_line number known line) (λ more. read_from (number + 1) more rest)
+read_from number known (line ∷ rest) = and_then (read_line number known line)
+    (λ more. read_from (number + 1) more rest)
 
 -- there is a machine, and there are as many as a group has stations
 abbrev pub enough : ℕ → List Entry → Result (List Entry) MachinesFault
 enough stations [] = Err NoMachine
-enough stations (m ∷ ms) = if nat_lt (length (m ∷ ms)) stations then Err (TooFew (length (m ∷ ms))) else Ok (m ∷ ms)
+enough stations (m ∷ ms) = if nat_lt (length (m ∷ ms)) stations then Err (TooFew (length (m ∷ ms)))
+    else Ok (m ∷ ms)
 
--- The machines that a text lists, enough for groups of so many stations; or the first line at fault,
--- or that they are too few.
+-- The machines that a text lists, enough for groups of so many stations; or the first line at
+-- fault, or that they are too few.
 unfoldable pub machines_in : List ℕ → ℕ → Result (List Entry) MachinesFault
-machines_in text stations = and_then (read_from 1 [] (lines text)) (λ machines. enough stations machines)
+machines_in text stations = and_then (read_from 1 [] (lines text))
+    (λ machines. enough stations machines)

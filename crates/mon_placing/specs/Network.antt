@@ -1,5 +1,6 @@
 -- The stations of a network: where each runs, listens and serves, and how others find it.
-use Rattle.std.specs.Prelude.{◌<◌, ◌≤◌, ℕ, zero, suc, ◌+◌, ◌-◌, ◌/◌, ◌%◌, ◌==◌, List, [], ◌++◌, codes, decimal, length, map, if◌then◌else◌}
+use Rattle.std.specs.Prelude.{◌<◌, ◌≤◌, ℕ, zero, suc, ◌+◌, ◌-◌, ◌/◌, ◌%◌, ◌==◌, List, [], ◌++◌}
+use Rattle.std.specs.Prelude.{codes, decimal, length, map, if◌then◌else◌}
 use Rattle.std.proofs.Math.ListN.{get_or}
 use Rattle.mon_udp.specs.Addr.{addr_text}
 use Rattle.mon_udp.specs.declared.addr.Addr.{Addr}
@@ -12,8 +13,8 @@ use Rattle.mon_placing.specs.declared.network.Seat.{Seat}
 abbrev pub nowhere : Entry
 nowhere = record { name = []; octets = [] }
 
--- The ports of so many groups can be written: those at which they listen, and those at which they serve
--- HTTP. There is a machine, and no group has more than 16 stations.
+-- The ports of so many groups can be written: those at which they listen, and those at which they
+-- serve HTTP. There is a machine, and no group has more than 16 stations.
 pub record ArePlaced (n : Network) (groups : ℕ) : Type 0 where
   pub machines : (1 ≤ length n.machines.now) × (length n.machines.now ≤ 1024)
   pub first : 1 ≤ n.first
@@ -37,7 +38,8 @@ seat_at n place = seat n (place / n.stations) (place % n.stations)
 -- the machine that a station runs on
 abbrev pub machine_at : Seat → Entry
 machine_at s = get_or (map listed s.network.machines.now)
-    (machine_of s.network.stations (length s.network.machines.now) (s.network.first - 1 + s.part) s.station) nowhere
+    (machine_of s.network.stations (length s.network.machines.now) (s.network.first - 1 + s.part)
+    s.station) nowhere
 
 -- the number of a station's group, counted from 1 over the whole network
 abbrev pub number_of : Seat → ℕ
@@ -45,7 +47,11 @@ number_of s = s.network.first + s.part
 
 -- where a station listens: group 1 at the network's port, and each group one port further on
 abbrev pub listens : Seat → Addr
-listens s = record { octets = (machine_at s).octets; port = s.network.port + (s.network.first - 1 + s.part) }
+listens s = record {
+  octets = (machine_at s).octets;
+  port = s.network.port
+      + (s.network.first - 1 + s.part);
+}
 
 -- where a station serves HTTP: group 1 at port 9701, and each group one port further on
 abbrev pub serves : Seat → Addr
@@ -58,7 +64,8 @@ seat_path folder s = folder ++ (codes "/group-" ++ (decimal (number_of s) ++ (co
 
 -- the name of its own file, which no other station of the network has
 abbrev pub seat_file : List ℕ → Seat → List ℕ
-seat_file file s = file ++ (codes "-" ++ (decimal (number_of s) ++ (codes "-" ++ decimal (s.station + 1))))
+seat_file file s = file ++ (codes "-" ++ (decimal (number_of s)
+    ++ (codes "-" ++ decimal (s.station + 1))))
 
 -- what stands between two, before one that is not the first
 abbrev pub separator : ℕ → List ℕ → List ℕ
@@ -75,7 +82,8 @@ hosts_of n part (suc station) = hosts_of n part station ++ host (seat n part sta
 
 -- the entry of a group in a file of targets: where its stations serve HTTP, and its name as a label
 abbrev pub entry : Network → ℕ → List ℕ
-entry n part = codes "  {\"targets\": [" ++ (hosts_of n part n.stations ++ (codes "], \"labels\": {\"group\": \"group-"
+entry n part = codes "  {\"targets\": [" ++ (hosts_of n part n.stations
+    ++ (codes "], \"labels\": {\"group\": \"group-"
     ++ (decimal (n.first + part) ++ codes "\"}}")))
 
 -- the entries of the first groups, so many of them, with commas between them
@@ -89,7 +97,8 @@ targets_text n groups = codes "[\n" ++ (entries_of n groups ++ codes "\n]\n")
 
 -- the line of a station: the machine that it runs on, what it is called, and where it serves HTTP
 abbrev pub unit_line : Seat → List ℕ
-unit_line s = (machine_at s).name ++ (codes " group-" ++ (decimal (number_of s) ++ (codes "-station-"
+unit_line s = (machine_at s).name ++ (codes " group-" ++ (decimal (number_of s)
+    ++ (codes "-station-"
     ++ (decimal (s.station + 1) ++ (codes " " ++ (addr_text (serves s) ++ codes "\n"))))))
 
 -- the lines of the first stations of a group, so many of them

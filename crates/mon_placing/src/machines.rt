@@ -10,7 +10,7 @@ use std::alloc::Global;
 use std::net::Ipv4Addr;
 
 /// The most machines that a text may list.
-const MOST_MACHINES: usize = 1_024;
+const MAX_MACHINES: usize = 1_024;
 
 /// A machine that stations run on.
 #[derive(Drop)]
@@ -21,15 +21,17 @@ pub struct Machine {
     pub octets: [u8; 4],
 }
 
-/// Returns the machines that a text lists, one a line: `NAME ADDRESS`, with one space or more between
-/// them. Lines that are empty or begin with `#` are passed over. At least as many are wanted as a group
-/// has stations, and at most 1,024; all names differ, and all addresses.
+/// Returns the machines that a text lists, one a line: `NAME ADDRESS`, with one space or more
+/// between them. Lines that are empty or begin with `#` are passed over. At least as many are
+/// wanted as a group has stations, and at most 1,024; all names differ, and all addresses.
 ///
 /// # Errors
 /// The first line that is at fault, or too few lines.
 pub fn machines_in(alloc: Global, text: &str, stations: u32) -> Result<Vec<Machine>, MachinesFault>
-    ensures listed { IfOk result (λ machines. machines_in text.now stations ≡ Ok (map listed machines.items)) }
-    ensures refused { IfErr result (λ fault. (fault ≡ OutOfMemory) ⊎ (machines_in text.now stations ≡ Err fault)) }
+    ensures listed { IfOk result (λ machines. machines_in text.now stations
+        ≡ Ok (map listed machines.items)) }
+    ensures refused { IfErr result (λ fault. (fault ≡ OutOfMemory)
+        ⊎ (machines_in text.now stations ≡ Err fault)) }
 {
     let lines: Vec<&str> = text.lines().collect(alloc)?;
     let mut machines = Vec::new(alloc);
@@ -42,7 +44,8 @@ pub fn machines_in(alloc: Global, text: &str, stations: u32) -> Result<Vec<Machi
 
 /// Requires at least one machine, and as many as a group has stations.
 fn require_enough(machines: &[Machine], stations: u32) -> Result<(), MachinesFault>
-    ensures enough { IfOk result (λ _. enough stations (map listed machines.now) ≡ Ok (map listed machines.now)) }
+    ensures enough { IfOk result (λ _. enough stations (map listed machines.now)
+        ≡ Ok (map listed machines.now)) }
     ensures refused { IfErr result (λ fault. enough stations (map listed machines.now) ≡ Err fault) }
 {
     if machines.is_empty() {
@@ -61,8 +64,10 @@ fn add_line(
     number: usize,
     line: &str,
 ) -> Result<(), MachinesFault>
-    ensures added { OnOk result (read_line number (map listed machines.old.items) line.now ≡ Ok (map listed machines.new.items)) }
-    ensures refused { IfErr result (λ fault. (fault ≡ OutOfMemory) ⊎ (read_line number (map listed machines.old.items) line.now ≡ Err fault)) }
+    ensures added { OnOk result (read_line number (map listed machines.old.items) line.now
+        ≡ Ok (map listed machines.new.items)) }
+    ensures refused { IfErr result (λ fault. (fault ≡ OutOfMemory)
+        ⊎ (read_line number (map listed machines.old.items) line.now ≡ Err fault)) }
 {
     if is_passed(line) {
         return Ok(());
@@ -80,8 +85,13 @@ fn add_machine(
     number: usize,
     entry: Entry<'_>,
 ) -> Result<(), MachinesFault>
-    ensures added { OnOk result (joined (unrepeated number (map listed machines.old.items) entry.entry.name.now entry.entry.octets) (map listed machines.old.items) entry.entry.name.now entry.entry.octets ≡ Ok (map listed machines.new.items)) }
-    ensures refused { IfErr result (λ fault. (fault ≡ OutOfMemory) ⊎ (joined (unrepeated number (map listed machines.old.items) entry.entry.name.now entry.entry.octets) (map listed machines.old.items) entry.entry.name.now entry.entry.octets ≡ Err fault)) }
+    ensures added { OnOk result (joined (unrepeated number (map listed machines.old.items)
+        entry.entry.name.now entry.entry.octets) (map listed machines.old.items)
+        entry.entry.name.now entry.entry.octets ≡ Ok (map listed machines.new.items)) }
+    ensures refused { IfErr result (λ fault. (fault ≡ OutOfMemory)
+        ⊎ (joined (unrepeated number (map listed machines.old.items) entry.entry.name.now
+        entry.entry.octets) (map listed machines.old.items) entry.entry.name.now entry.entry.octets
+        ≡ Err fault)) }
 {
     let octets = entry.octets;
     require_new(machines.as_slice(), number, entry.name, octets)?;
@@ -96,8 +106,10 @@ fn require_new(
     name: &str,
     octets: [u8; 4],
 ) -> Result<(), MachinesFault>
-    ensures new { IfOk result (λ _. unrepeated number (map listed machines.now) name.now octets ≡ Ok tt) }
-    ensures refused { IfErr result (λ fault. unrepeated number (map listed machines.now) name.now octets ≡ Err fault) }
+    ensures new { IfOk result (λ _. unrepeated number (map listed machines.now) name.now octets
+        ≡ Ok tt) }
+    ensures refused { IfErr result (λ fault. unrepeated number (map listed machines.now) name.now
+        octets ≡ Err fault) }
 {
     if has_name(machines, name) {
         return Err(MachinesFault::RepeatedName(number));
@@ -105,7 +117,7 @@ fn require_new(
     if has_address(machines, octets) {
         return Err(MachinesFault::RepeatedAddress(number));
     }
-    if machines.len() >= MOST_MACHINES {
+    if machines.len() >= MAX_MACHINES {
         return Err(MachinesFault::TooMany(number));
     }
     Ok(())
@@ -177,8 +189,8 @@ fn octets_of(text: &str) -> Option<[u8; 4]>
     }
 }
 
-/// Returns `true` if a text is a name: letters, digits, `-` and `.`, of which the first is a letter or
-/// a digit.
+/// Returns `true` if a text is a name: letters, digits, `-` and `.`, of which the first is a letter
+/// or a digit.
 fn is_name(text: &str) -> bool
     ensures { result ≡ is_name text.now }
 {

@@ -128,7 +128,8 @@ pub fn seat_path(alloc: Global, folder: &str, seat: Seat<'_>) -> Result<String, 
 /// `AllocError` if there is no memory for it.
 pub fn put_file(text: &mut String, file: &str, seat: Seat<'_>) -> Result<(), AllocError>
     requires { IsSeat seat }
-    ensures { OnOk result (string_bytes text.new ≡ string_bytes text.old ++ seat_file file.now seat.entry) }
+    ensures { OnOk result (string_bytes text.new ≡ string_bytes text.old
+        ++ seat_file file.now seat.entry) }
 {
     let group = seat.number();
     let station = seat.station + 1;

@@ -1,5 +1,5 @@
-//! How others find the stations of a network: the targets that Prometheus scrapes, and the units that
-//! run.
+//! How others find the stations of a network: the targets that Prometheus scrapes, and the units
+//! that run.
 
 ghost use Rattle.std.specs.Prelude.{◌≡◌, ◌+◌, ◌++◌, IfOk, OnOk, codes, string_bytes};
 ghost use Rattle.mon_placing.specs.Network.{ArePlaced, IsSeat, entries_of, entry, host, hosts_of, separator, targets_text, unit_line, units_of, units_text};
@@ -8,8 +8,8 @@ use crate::network::{Network, Seat};
 use std::alloc::{AllocError, Global};
 
 /// Returns the targets of a network's groups, so many of them, as Prometheus reads them from a file
-/// (`file_sd_configs`): an entry for each group, with the addresses at which its stations serve HTTP,
-/// and the group's name as the label `group`.
+/// (`file_sd_configs`): an entry for each group, with the addresses at which its stations serve
+/// HTTP, and the group's name as the label `group`.
 ///
 /// # Errors
 /// `AllocError` if there is no memory for them.
@@ -27,7 +27,8 @@ pub fn targets_text(alloc: Global, network: Network<'_>, groups: u32) -> Result<
 /// Appends the entry of each group.
 fn put_entries(text: &mut String, network: Network<'_>, groups: u32) -> Result<(), AllocError>
     requires { ArePlaced network groups }
-    ensures { OnOk result (string_bytes text.new ≡ string_bytes text.old ++ entries_of network.entry groups) }
+    ensures { OnOk result (string_bytes text.new ≡ string_bytes text.old
+        ++ entries_of network.entry groups) }
 {
     for part in 0..groups {
         put_entry(text, network, part)?;
@@ -50,7 +51,8 @@ fn put_entry(text: &mut String, network: Network<'_>, part: u32) -> Result<(), A
 
 /// Appends what stands between two, before one that is not the first.
 fn put_separator(text: &mut String, place: u32, between: &str) -> Result<(), AllocError>
-    ensures { OnOk result (string_bytes text.new ≡ string_bytes text.old ++ separator place between.now) }
+    ensures { OnOk result (string_bytes text.new ≡ string_bytes text.old
+        ++ separator place between.now) }
 {
     if place == 0 {
         return Ok(());
@@ -61,7 +63,8 @@ fn put_separator(text: &mut String, place: u32, between: &str) -> Result<(), All
 /// Appends where the stations of a group serve HTTP.
 fn put_hosts(text: &mut String, network: Network<'_>, part: u32) -> Result<(), AllocError>
     requires { ArePlaced network (part + 1) }
-    ensures { OnOk result (string_bytes text.new ≡ string_bytes text.old ++ hosts_of network.entry part network.entry.stations) }
+    ensures { OnOk result (string_bytes text.new ≡ string_bytes text.old
+        ++ hosts_of network.entry part network.entry.stations) }
 {
     for station in 0..network.stations {
         put_host(
@@ -86,8 +89,8 @@ fn put_host(text: &mut String, seat: Seat<'_>) -> Result<(), AllocError>
     write!(text, "\"{address}\"")
 }
 
-/// Returns the units of a network's groups, so many of them: for each station a line with the machine
-/// that it runs on, what it is called, and where it serves HTTP.
+/// Returns the units of a network's groups, so many of them: for each station a line with the
+/// machine that it runs on, what it is called, and where it serves HTTP.
 ///
 /// # Errors
 /// `AllocError` if there is no memory for them.
@@ -105,7 +108,8 @@ pub fn units_text(alloc: Global, network: Network<'_>, groups: u32) -> Result<St
 /// Appends the lines of a group.
 fn put_units(text: &mut String, network: Network<'_>, part: u32) -> Result<(), AllocError>
     requires { ArePlaced network (part + 1) }
-    ensures { OnOk result (string_bytes text.new ≡ string_bytes text.old ++ units_of network.entry part network.entry.stations) }
+    ensures { OnOk result (string_bytes text.new ≡ string_bytes text.old
+        ++ units_of network.entry part network.entry.stations) }
 {
     for station in 0..network.stations {
         put_unit(

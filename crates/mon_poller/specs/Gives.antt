@@ -3,7 +3,17 @@ use Rattle.std.specs.Prelude.{◌≡◌, Result, Ok, Err, Option, Some, None, Bo
 use Rattle.mon_poller.specs.declared.fault.PollFault.{PollFault}
 use Rattle.mon_poller.specs.declared.fault.PollFault.TheVariants as start
 use Rattle.mon_poller.specs.declared.fault.ResponseFault.{ResponseFault}
-use Rattle.mon_poller.specs.declared.fault.ResponseFault.TheVariants.{OutOfMemory, BadMessage, Stray, WrongSource, WrongCommunity, AgentError, WrongNames, BadStamp, OtherEngine}
+use Rattle.mon_poller.specs.declared.fault.ResponseFault.TheVariants.{
+  OutOfMemory,
+  BadMessage,
+  Stray,
+  WrongSource,
+  WrongCommunity,
+  AgentError,
+  WrongNames,
+  BadStamp,
+  OtherEngine,
+}
 
 -- what is there, else this refusal
 abbrev pub or_refuse : {A E : Type 0} → E → Option A → Result A E
@@ -28,7 +38,8 @@ Fails BadStamp read = read ≡ Err BadStamp
 Fails OtherEngine read = read ≡ Err OtherEngine
 
 -- What a call returned, seen by view, is what is given, unless memory ran out.
-abbrev pub Gives : {X Y : Type 0} → (X → Y) → Result X ResponseFault → Result Y ResponseFault → Type 0
+abbrev pub Gives : {X Y : Type 0} → (X → Y) → Result X ResponseFault → Result Y ResponseFault
+    → Type 0
 Gives view (Ok x) read = read ≡ Ok (view x)
 Gives view (Err e) read = Fails e read
 

@@ -16,13 +16,17 @@ pub record Poller : Type 0 where
 
 -- polls are stored as the tuple of their fields
 abbrev pub poll_code : Coded Poll
-poll_code = code_by (ℕ × ℕ) (coded× coded_ℕ coded_ℕ) (λ p. (p.target, p.sends)) (λ p. record { target = p.0; sends = p.1 }) (λ _. refl)
+poll_code = code_by (ℕ × ℕ) (coded× coded_ℕ coded_ℕ) (λ p. (p.target, p.sends))
+    (λ p. record { target = p.0; sends = p.1 }) (λ _. refl)
 
 -- a poller is stored as the pair of its targets and its polls
 abbrev pub poller_code : Coded Poller
 poller_code =
-    code_by (List Target × (Open × ℕ)) (coded× (coded_list (target.the_row).coded) (coded× (map.code coded_ℕ poll_code) coded_ℕ))
-    (λ p. (p.targets, (p.polls.open_polls, p.polls.started))) (λ p. record { targets = p.0; polls = record { open_polls = p.1.0; started = p.1.1 } }) (λ _. refl)
+    code_by (List Target × (Open × ℕ)) (coded× (coded_list (target.the_row).coded)
+    (coded× (map.code coded_ℕ poll_code) coded_ℕ))
+    (λ p. (p.targets, (p.polls.open_polls, p.polls.started)))
+    (λ p. record { targets = p.0; polls = record { open_polls = p.1.0; started = p.1.1 } })
+    (λ _. refl)
 
 -- an open poll without its request-id
 abbrev pub poll_in : OpenPoll → Poll
@@ -37,9 +41,11 @@ open_of (Some p ∷ slots) = map.insert (open_of slots) p.id (poll_in p)
 -- the slots hold polls of targets, no two of one request-id
 pub record AreSlots (targets : List Target) (s : Slab OpenPoll) : Type 0 where
   pub there : (key : ℕ) (p : OpenPoll) → get s key ≡ Some p → p.target < length targets
-  pub distinct : (k j : ℕ) (p q : OpenPoll) → get s k ≡ Some p → get s j ≡ Some q → p.id ≡ q.id → k ≡ j
+  pub distinct : (k j : ℕ) (p q : OpenPoll) → get s k ≡ Some p → get s j ≡ Some q → p.id ≡ q.id
+      → k ≡ j
 
--- an open poll was given its request-id, which is not 0, and was sent no more often than its target is tried
+-- an open poll was given its request-id, which is not 0, and was sent no more often than its target
+-- is tried
 pub record IsOpenPoll (targets : List Target) (started : ℕ) (p : OpenPoll) : Type 0 where
   pub id : p.id ≤ started
   pub counted : 0 < p.id

@@ -1,5 +1,6 @@
 -- The open polls, and how each event changes them.
-use Rattle.std.specs.Prelude.{ℕ, ◌+◌, ◌≤◌, ◌<◌, IsTrue, pos, negsuc, ℤ, nat_lt, if◌then◌else◌, Option, Some, None}
+use Rattle.std.specs.Prelude.{ℕ, ◌+◌, ◌≤◌, ◌<◌, IsTrue, pos, negsuc, ℤ, nat_lt, if◌then◌else◌}
+use Rattle.std.specs.Prelude.{Option, Some, None}
 use Rattle.std.specs.FinMap as map
 use Rattle.std.specs.Ordering.{nat_cmp}
 
@@ -36,7 +37,11 @@ closed id p = record { open_polls = map.remove p.open_polls id; started = p.star
 abbrev pub resent : ℕ → ℕ → Poll → Polls → Polls
 resent tries id poll p =
     if nat_lt poll.sends tries
-    then record { open_polls = map.insert p.open_polls id (record { target = poll.target; sends = poll.sends + 1 }); started = p.started }
+    then record {
+      open_polls = map.insert p.open_polls id (record
+          { target = poll.target; sends = poll.sends + 1 });
+      started = p.started;
+    }
     else closed id p
 
 -- after a timeout of this request-id, of the poll that is open under it, if any

@@ -3,7 +3,8 @@ use Rattle.std.specs.Prelude.{ℕ, pos, List, [], ◌∷◌, Option, Some, None}
 use Rattle.std.specs.Option.{option_map, option_and_then}
 use Rattle.std.specs.Int.{w64, cast_unsigned}
 use Rattle.mon_ber.specs.declared.value.Value.{Value}
-use Rattle.mon_ber.specs.declared.value.Value.TheVariants.{Integer, Octets, Counter32, Gauge32, TimeTicks, Counter64}
+use Rattle.mon_ber.specs.declared.value.Value.TheVariants.{Integer, Octets, Counter32, Gauge32}
+use Rattle.mon_ber.specs.declared.value.Value.TheVariants.{TimeTicks, Counter64}
 use Rattle.mon_sample.specs.declared.kind.Kind.{Kind}
 use Rattle.mon_sample.specs.declared.kind.Kind.TheVariants as kinds
 
@@ -19,7 +20,8 @@ engine_boots_name = 1 ∷ 3 ∷ 6 ∷ 1 ∷ 6 ∷ 3 ∷ 10 ∷ 2 ∷ 1 ∷ 2 ∷
 abbrev pub engine_time_name : List ℕ
 engine_time_name = 1 ∷ 3 ∷ 6 ∷ 1 ∷ 6 ∷ 3 ∷ 10 ∷ 2 ∷ 1 ∷ 3 ∷ 0 ∷ []
 
--- whose response it is, and when it was made: snmpEngineID, snmpEngineBoots and snmpEngineTime (RFC 3411 section 5)
+-- whose response it is, and when it was made: snmpEngineID, snmpEngineBoots and snmpEngineTime (RFC
+-- 3411 section 5)
 pub record Stamp : Type 0 where
   pub engine : List ℕ
   pub boots : ℕ
@@ -38,7 +40,9 @@ stamp_number _ = None
 -- the stamp that three values are
 abbrev pub stamp_of_values : Value → Value → Value → Option Stamp
 stamp_of_values engine boots time =
-    option_and_then (λ e. option_and_then (λ b. option_map (λ t. record { engine = e; boots = b; time = t }) (stamp_number time)) (stamp_number boots)) (octets_in engine)
+    option_and_then (λ e. option_and_then (λ b. option_map (λ t. record
+    { engine = e; boots = b; time = t }) (stamp_number time)) (stamp_number boots))
+    (octets_in engine)
 
 -- a value of a sampled kind: the kind, and the value modulo 2 ^ 64
 abbrev pub sampled : Value → Option (Kind × ℕ)

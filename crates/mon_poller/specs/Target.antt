@@ -1,5 +1,6 @@
 -- Targets, and how they are asked.
-use Rattle.std.specs.Prelude.{◌≡◌, ℕ, ◌≤◌, ◌<◌, pos, List, [], ◌∷◌, length, map, All, Option, Some, None, slice_index_or}
+use Rattle.std.specs.Prelude.{◌≡◌, ℕ, ◌≤◌, ◌<◌, pos, List, [], ◌∷◌, length, map, All, Option, Some}
+use Rattle.std.specs.Prelude.{None, slice_index_or}
 use Rattle.std.specs.List.{flat_map}
 use Rattle.mon_ber.specs.declared.value.Value.TheVariants as values
 use Rattle.mon_ber.specs.Grammar.{Spells}
@@ -29,7 +30,14 @@ pub record AreTargets (targets : List Target) : Type 0 where
 
 -- the target of a number that no target has
 abbrev pub no_target : Target
-no_target = record { address = record { octets = []; port = 0 }; community = []; engine = []; tries = 0; objects = [] }
+no_target = record {
+  address = record { octets = []; port = 0 };
+  community = [];
+  engine = [];
+  tries
+      = 0;
+  objects = [];
+}
 
 -- the target of this number
 abbrev pub target_at : List Target → ℕ → Target
@@ -46,7 +54,8 @@ object_names o = o.name ∷ name_of_discontinuity o.discontinuity
 
 -- the names of a poll: the stamp's, and then the objects'
 abbrev pub poll_names : Target → List (List ℕ)
-poll_names t = engine_id_name ∷ engine_boots_name ∷ engine_time_name ∷ flat_map object_names t.objects
+poll_names t = engine_id_name ∷ engine_boots_name ∷ engine_time_name
+    ∷ flat_map object_names t.objects
 
 -- a name whose value is asked for (unSpecified, RFC 3416 section 3)
 abbrev pub unspecified : List ℕ → Binding
@@ -56,7 +65,14 @@ unspecified name = record { name = name; value = values.Null }
 abbrev pub poll_message : Target → ℕ → Message
 poll_message t id = record {
   community = t.community;
-  body = Pdu (record { kind = pdu.Get; request_id = pos id; error_status = pos 0; error_index = pos 0; bindings = map unspecified (poll_names t) });
+  body = Pdu (record {
+    kind = pdu.Get;
+    request_id = pos id;
+    error_status = pos 0;
+    error_index = pos
+        0;
+    bindings = map unspecified (poll_names t);
+  });
 }
 
 -- its datagram
@@ -91,4 +107,5 @@ SpellNames (text ∷ texts) (name ∷ names) = Spells text (values.Name name) ×
 -- spelled names of each target's polls, in the targets' order
 pub record AreNamed (targets : List Target) (names : List (List (List ℕ))) : Type 0 where
   pub many : length names ≡ length targets
-  pub each : (k : ℕ) → k < length names → SpellNames (slice_index_or names k []) (poll_names (target_at targets k))
+  pub each : (k : ℕ) → k < length names → SpellNames (slice_index_or names k [])
+      (poll_names (target_at targets k))

@@ -1,5 +1,7 @@
 -- What a poll's start, a timeout and a response are answered.
-use Rattle.std.specs.Prelude.{ℕ, ◌+◌, ℤ, pos, negsuc, Bool, true, false, nat_lt, nat_le, ◌==◌, ◌&&◌, if◌then◌else◌, List, [], ◌∷◌, ◌++◌, length, drop, Option, Some, None, Result, Ok, Err}
+use Rattle.std.specs.Prelude.{ℕ, ◌+◌, ℤ, pos, negsuc, Bool, true, false, nat_lt, nat_le, ◌==◌, ◌&&◌}
+use Rattle.std.specs.Prelude.{if◌then◌else◌, List, [], ◌∷◌, ◌++◌, length, drop, Option, Some, None}
+use Rattle.std.specs.Prelude.{Result, Ok, Err}
 use Rattle.std.specs.FinMap as finmap
 use Rattle.std.specs.Option.{option_map, option_and_then, option_to_list}
 use Rattle.std.specs.Str.{bytes_eq}
@@ -19,7 +21,16 @@ use Rattle.mon_udp.specs.Addr.{same_addr}
 use Rattle.mon_poller.specs.declared.fault.PollFault.{PollFault}
 use Rattle.mon_poller.specs.declared.fault.PollFault.TheVariants as faults
 use Rattle.mon_poller.specs.declared.fault.ResponseFault.{ResponseFault}
-use Rattle.mon_poller.specs.declared.fault.ResponseFault.TheVariants.{BadMessage, Stray, WrongSource, WrongCommunity, AgentError, WrongNames, BadStamp, OtherEngine}
+use Rattle.mon_poller.specs.declared.fault.ResponseFault.TheVariants.{
+  BadMessage,
+  Stray,
+  WrongSource,
+  WrongCommunity,
+  AgentError,
+  WrongNames,
+  BadStamp,
+  OtherEngine,
+}
 use Rattle.mon_poller.specs.declared.poller.Offered.{Offered}
 use Rattle.mon_poller.specs.declared.poller.TimedOut.{TimedOut}
 use Rattle.mon_poller.specs.declared.poller.TimedOut.TheVariants.{Again, GivenUp, NotOpen}
@@ -86,9 +97,11 @@ abbrev pub bindings_for : Option (List ℕ) → ℕ
 bindings_for None = 1
 bindings_for (Some name) = 2
 
--- the sample of this value and this discontinuity, if the value is of a sampled kind and the discontinuity is there
+-- the sample of this value and this discontinuity, if the value is of a sampled kind and the
+-- discontinuity is there
 abbrev pub sampled_at : Stamp → Value → Option ℕ → Option ℕ
-sampled_at stamp value discontinuity = option_and_then (λ v. option_map (λ m. key stamp.boots stamp.time m (kind_tag v.0) v.1) discontinuity) (sampled value)
+sampled_at stamp value discontinuity = option_and_then (λ v. option_map
+    (λ m. key stamp.boots stamp.time m (kind_tag v.0) v.1) discontinuity) (sampled value)
 
 -- the sample of an object whose bindings come first, if its value is of a sampled kind and its
 -- discontinuity, if it has one, of that kind
@@ -99,24 +112,36 @@ sample_of stamp o (b ∷ bs) = sampled_at stamp b.value (discontinuity_value o.d
 -- what the bindings offer of the objects, in their order
 unfoldable pub object_offers : Stamp → List Object → List Binding → List (ℕ × ℕ)
 object_offers stamp [] bindings = []
-object_offers stamp (o ∷ os) bindings = option_to_list (option_map (λ s. (o.instance, s)) (sample_of stamp o bindings)) ++ object_offers stamp os (drop (bindings_for o.discontinuity) bindings)
+object_offers stamp (o ∷ os) bindings = option_to_list (option_map (λ s. (o.instance, s))
+    (sample_of stamp o bindings)) ++ object_offers stamp os (drop (bindings_for o.discontinuity)
+    bindings)
 
--- what bindings with the names of a poll offer of its target, which has this number: their stamp must be its engine's
+-- what bindings with the names of a poll offer of its target, which has this number: their stamp
+-- must be its engine's
 unfoldable pub target_offers : ℕ → Target → List Binding → Result Offered ResponseFault
 target_offers number t bindings = do
   stamp ← stamp_and_others bindings
   known ← need OtherEngine (bytes_eq stamp.0.engine t.engine)
-  Ok (record { target = number; boots = stamp.0.boots; time = stamp.0.time; pairs = object_offers stamp.0 t.objects stamp.1 })
+  Ok (record {
+    target = number;
+    boots = stamp.0.boots;
+    time = stamp.0.time;
+    pairs = object_offers
+        stamp.0 t.objects stamp.1;
+  })
 
--- what a response offers of a target that it came from, which has this number, or the first reason why it offers nothing
+-- what a response offers of a target that it came from, which has this number, or the first reason
+-- why it offers nothing
 unfoldable pub poll_answer : ℕ → Target → AnyPdu → Result Offered ResponseFault
 poll_answer number t r = do
   fine ← no_error r.error_status r.error_index
   named ← need WrongNames (have_names (poll_names t) r.bindings)
   target_offers number t r.bindings
 
--- the open poll that a datagram responds to, and the Response, or the first reason why it responds to none
-unfoldable pub awaited : List Target → Open → Addr → Option Message → Result (Poll × AnyPdu) ResponseFault
+-- the open poll that a datagram responds to, and the Response, or the first reason why it responds
+-- to none
+unfoldable pub awaited : List Target → Open → Addr → Option Message
+    → Result (Poll × AnyPdu) ResponseFault
 awaited targets polls from read = do
   m ← or_refuse BadMessage read
   r ← or_refuse BadMessage (response_pdu m.body)
@@ -125,8 +150,10 @@ awaited targets polls from read = do
   community ← need WrongCommunity (bytes_eq m.community (target_at targets poll.target).community)
   Ok (poll, r)
 
--- what is answered to a datagram: the first refusal that holds, or what it offers of its poll's target
-unfoldable pub response_verdict : List Target → Open → Addr → Option Message → Result Offered ResponseFault
+-- what is answered to a datagram: the first refusal that holds, or what it offers of its poll's
+-- target
+unfoldable pub response_verdict : List Target → Open → Addr → Option Message
+    → Result Offered ResponseFault
 response_verdict targets polls from read = do
   found ← awaited targets polls from read
   poll_answer found.0.target (target_at targets found.0.target) found.1
@@ -152,14 +179,16 @@ tries_of targets i = (target_at targets i).tries
 
 -- what is answered to a timeout of this poll of the target
 abbrev pub timeout_of : Target → ℕ → Poll → TimedOut
-timeout_of t id poll = if nat_lt poll.sends t.tries then Again poll.target (poll_octets t id) else GivenUp poll.target
+timeout_of t id poll = if nat_lt poll.sends t.tries then Again poll.target (poll_octets t id)
+    else GivenUp poll.target
 
 -- what a timeout of the open poll does, if there is one
 abbrev pub timeout_at : List Target → ℕ → Option Poll → TimedOut
 timeout_at targets id None = NotOpen
 timeout_at targets id (Some poll) = timeout_of (target_at targets poll.target) id poll
 
--- what is answered to a timeout of this request-id: the poll's datagram again, the last try is over, or no such poll
+-- what is answered to a timeout of this request-id: the poll's datagram again, the last try is
+-- over, or no such poll
 abbrev pub timeout_verdict : List Target → Polls → ℕ → TimedOut
 timeout_verdict targets p id = timeout_at targets id (finmap.get p.open_polls id)
 

@@ -38,7 +38,8 @@ impl Model for Asked {
 
     ghost view = { λ a. a.targets.items };
 
-    ghost invariant = { λ a. AreAsked a.targets.items a.lists.items × AreNamed a.targets.items a.names.items };
+    ghost invariant = { λ a. AreAsked a.targets.items a.lists.items
+        × AreNamed a.targets.items a.names.items };
 }
 
 impl Asked {

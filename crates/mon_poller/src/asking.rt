@@ -1,4 +1,5 @@
-//! The datagram that asks for a target's objects. The names in it are written once, since only the request-id changes from poll to poll.
+//! The datagram that asks for a target's objects. The names in it are written once, since only the
+//! request-id changes from poll to poll.
 
 ghost use Rattle.std.specs.Prelude.{◌≡◌, ◌∷◌, ◌++◌, [], ◌<◌, ◌≤◌, ◌^◌, ◌+◌, ◌*◌, IfOk, OnOk, length, map};
 ghost use Rattle.std.specs.List.{AllByRecursion, flat_map};
@@ -21,9 +22,10 @@ use mon_pdu::{
 };
 use std::alloc::{AllocError, Global};
 
-/// The variable bindings of a target's polls: the stamp's names and then each object's, directly followed by its discontinuity's where it has one, each without a value
-/// (RFC 3416 section 4.2.1). It fails only for memory, since a target within its limits is asked
-/// for no more than can be written.
+/// The variable bindings of a target's polls: the stamp's names and then each object's, directly
+/// followed by its discontinuity's where it has one, each without a value (RFC 3416 section 4.2.1).
+/// It fails only for memory, since a target within its limits is asked for no more than can be
+/// written.
 pub(crate) fn asked_octets(alloc: Global, target: &Target) -> Result<Octets, AllocError>
     requires { IsTarget target.now }
     ensures { IfOk result (IsAsked target.now) }
@@ -70,7 +72,8 @@ pub(crate) fn spelled_names(alloc: Global, target: &Target) -> Result<Names, All
 /// The names of these bindings, each as it is spelled in a datagram.
 fn spelled(alloc: Global, bindings: &[Binding]) -> Result<Names, AllocError>
     ensures names { IfOk result (λ names. names ≡ map (λ b. spelled_name b.name) bindings.now) }
-    ensures spells { IfOk result (λ _. AllByRecursion (λ b. Spells (spelled_name b.name) (Name b.name)) bindings.now) }
+    ensures spells { IfOk result (λ _. AllByRecursion (λ b. Spells (spelled_name b.name)
+        (Name b.name)) bindings.now) }
 {
     let mut names = Vec::with_capacity(alloc, bindings.len())?;
     for binding in bindings {
@@ -133,7 +136,8 @@ fn empty_request(alloc: Global, target: &Target, id: u32) -> Result<Message, All
 /// The names of a poll, none with a value yet.
 fn asked_bindings(alloc: Global, target: &Target) -> Result<Vec<Binding>, AllocError>
     ensures bindings { IfOk result (λ v. v.items ≡ map unspecified (poll_names target.now)) }
-    ensures short { IfOk result (λ v. length (list_contents v.items) ≤ 1989 + 1326 * length target.now.objects) }
+    ensures short { IfOk result (λ v. length (list_contents v.items)
+        ≤ 1989 + 1326 * length target.now.objects) }
 {
     let mut bindings = stamp_bindings(alloc)?;
     for object in target.objects.as_slice() {
@@ -144,7 +148,8 @@ fn asked_bindings(alloc: Global, target: &Target) -> Result<Vec<Binding>, AllocE
 
 /// The names of a stamp.
 fn stamp_bindings(alloc: Global) -> Result<Vec<Binding>, AllocError>
-    ensures bindings { IfOk result (λ v. v.items ≡ unspecified engine_id_name ∷ unspecified engine_boots_name ∷ unspecified engine_time_name ∷ []) }
+    ensures bindings { IfOk result (λ v. v.items ≡ unspecified engine_id_name
+        ∷ unspecified engine_boots_name ∷ unspecified engine_time_name ∷ []) }
     ensures short { IfOk result (λ v. length (list_contents v.items) ≤ 1989) }
 {
     let mut bindings = Vec::new(alloc);
@@ -156,8 +161,10 @@ fn stamp_bindings(alloc: Global) -> Result<Vec<Binding>, AllocError>
 
 /// Asks for an object too, and for its discontinuity.
 fn ask_for(alloc: Global, bindings: &mut Vec<Binding>, object: &Object) -> Result<(), AllocError>
-    ensures bindings { OnOk result (bindings.new.items ≡ bindings.old.items ++ map unspecified (object_names object.now)) }
-    ensures short { OnOk result (length (list_contents bindings.new.items) ≤ length (list_contents bindings.old.items) + 1326) }
+    ensures bindings { OnOk result (bindings.new.items ≡ bindings.old.items
+        ++ map unspecified (object_names object.now)) }
+    ensures short { OnOk result (length (list_contents bindings.new.items)
+        ≤ length (list_contents bindings.old.items) + 1326) }
 {
     bindings.push(name_binding(object.name.try_clone(alloc)?))?;
     if let Some(discontinuity) = &object.discontinuity {

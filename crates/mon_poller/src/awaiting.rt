@@ -22,14 +22,16 @@ use std::alloc::Global;
 /// The message that a datagram begins with.
 pub(crate) fn read(alloc: Global, octets: &[u8]) -> Result<Message, ResponseFault>
     ensures read { (read : Option AnyMessage) × ReadsAs octets.now read }
-    ensures gives { (read : Option AnyMessage) → ReadsAs octets.now read → Gives (λ m. m) result (or_refuse BadMessage read) }
+    ensures gives { (read : Option AnyMessage) → ReadsAs octets.now read
+        → Gives (λ m. m) result (or_refuse BadMessage read) }
 {
     mon_pdu::laws::takes();
     mon_pdu::laws::again();
     Ok(read_message(alloc, octets)?)
 }
 
-/// The slot of the poll that the message responds to, the poll and the Response, or the first reason why it responds to none.
+/// The slot of the poll that the message responds to, the poll and the Response, or the first
+/// reason why it responds to none.
 #[tactic(auto, unfolding(crate::specs::Verdict::awaited))]
 pub(crate) fn find_awaited<'m>(
     targets: &[Target],
@@ -38,7 +40,8 @@ pub(crate) fn find_awaited<'m>(
     message: &'m Message,
 ) -> Result<(usize, OpenPoll, &'m Pdu), ResponseFault>
     requires { AreSlots targets.now polls.now }
-    ensures told { Gives (λ r. (poll_in r.1, r.2.now)) result (awaited targets.now (open_of polls.now.slots) from (Some message.now)) }
+    ensures told { Gives (λ r. (poll_in r.1, r.2.now)) result
+        (awaited targets.now (open_of polls.now.slots) from (Some message.now)) }
     ensures response { IfOk result (λ r. response_pdu message.now.body ≡ Some r.2.now) }
     ensures slot { IfOk result (λ r. get polls.now r.0 ≡ Some r.1) }
     ensures id { IfOk result (λ r. r.2.now.request_id ≡ pos r.1.id) }

@@ -1,5 +1,6 @@
-//! Reading a response in place: one that has all the names that its poll asked for, each spelled as it was asked. No name and no list of variable bindings is
-//! made of it. Any other datagram gives None here and is read as a message, which says what is wrong with it.
+//! Reading a response in place: one that has all the names that its poll asked for, each spelled as
+//! it was asked. No name and no list of variable bindings is made of it. Any other datagram gives
+//! None here and is read as a message, which says what is wrong with it.
 
 ghost use Rattle.std.specs.Prelude.{◌≡◌, ◌++◌, ◌<◌, ◌^◌, pos, List, Ok, Some, IfSome, OnSome, length, true};
 ghost use Rattle.std.specs.List.{flat_map};
@@ -26,7 +27,7 @@ use crate::poller::{Offered, OpenPoll};
 use crate::stamp::{discontinuity_in, octets_in, stamp_number};
 use crate::target::{Object, Target};
 use mon_ber::{Octets, Value};
-use mon_board::Pairs;
+use mon_board::InstanceSamples;
 use mon_oid::Oid;
 use mon_pdu::{Frame, PduKind, named_value, read_frame};
 use mon_sample::Sample;
@@ -34,8 +35,8 @@ use mon_udp::Addr;
 use slab::Slab;
 use std::alloc::Global;
 
-/// The slot of the poll that a datagram answers, the poll, and what is offered of its target. None where the datagram is not read in place, or where memory is
-/// refused.
+/// The slot of the poll that a datagram answers, the poll, and what is offered of its target. None
+/// where the datagram is not read in place, or where memory is refused.
 pub(crate) fn in_place(
     alloc: Global,
     asked: &Asked,
@@ -45,7 +46,9 @@ pub(crate) fn in_place(
 ) -> Option<(usize, OpenPoll, Offered)>
     requires { AreSlots asked.now polls.now }
     ensures slot { IfSome result (λ r. get polls.now r.0 ≡ Some r.1) }
-    ensures offered { IfSome result (λ r. (m : AnyMessage) × (pdu : AnyPdu) × IsOffered asked.now (open_of polls.now.slots) from octets.now m pdu r.1.id (poll_in r.1) r.2) }
+    ensures offered { IfSome result (λ r. (m : AnyMessage) × (pdu : AnyPdu)
+        × IsOffered asked.now (open_of polls.now.slots) from octets.now m pdu r.1.id (poll_in r.1)
+        r.2) }
 {
     let frame = read_frame(octets)?;
     let (key, poll) = framed_poll(asked.as_slice(), polls, from, &frame)?;
@@ -60,7 +63,8 @@ pub(crate) fn in_place(
     Some((key, poll, offered))
 }
 
-/// The slot of the poll that a Response of this frame answers, and the poll. None where it answers none, or has an error-status.
+/// The slot of the poll that a Response of this frame answers, and the poll. None where it answers
+/// none, or has an error-status.
 fn framed_poll(
     targets: &[Target],
     polls: &Slab<OpenPoll>,
@@ -72,8 +76,11 @@ fn framed_poll(
     ensures target { IfSome result (λ r. r.1.target < length targets.now) }
     ensures id { IfSome result (λ r. frame.now.request_id ≡ pos r.1.id) }
     ensures status { IfSome result (λ _. frame.now.error_status ≡ pos 0) }
-    ensures response { IfSome result (λ _. (bindings : List AnyBinding) → response_pdu (framed frame.now bindings).body ≡ Some (framed_pdu frame.now bindings)) }
-    ensures awaited { IfSome result (λ r. (bindings : List AnyBinding) → awaited targets.now (open_of polls.now.slots) from (Some (framed frame.now bindings)) ≡ Ok (poll_in r.1, framed_pdu frame.now bindings)) }
+    ensures response { IfSome result (λ _. (bindings : List AnyBinding)
+        → response_pdu (framed frame.now bindings).body ≡ Some (framed_pdu frame.now bindings)) }
+    ensures awaited { IfSome result (λ r. (bindings : List AnyBinding)
+        → awaited targets.now (open_of polls.now.slots) from (Some (framed frame.now bindings))
+        ≡ Ok (poll_in r.1, framed_pdu frame.now bindings)) }
 {
     let id = response_id(frame)?;
     let (key, poll) = find(polls, id)?;
@@ -113,7 +120,9 @@ fn offers<'a>(
     list: &'a [u8],
 ) -> Option<Offered>
     requires { SpellNames names.now (poll_names target.now) }
-    ensures { IfSome result (λ o. (bindings : List AnyBinding) × AreSpelled IsBinding list.now bindings × (have_names (poll_names target.now) bindings ≡ true) × (target_offers number target.now bindings ≡ Ok o)) }
+    ensures { IfSome result (λ o. (bindings : List AnyBinding)
+        × AreSpelled IsBinding list.now bindings × (have_names (poll_names target.now) bindings
+        ≡ true) × (target_offers number target.now bindings ≡ Ok o)) }
 {
     let unread = after_engine(alloc, target.engine.as_slice(), &Unread { names, list })?;
     let (boots, unread) = next_number(alloc, &unread)?;
@@ -123,7 +132,7 @@ fn offers<'a>(
         boots,
         time,
     };
-    let mut pairs = Pairs::new(alloc);
+    let mut pairs = InstanceSamples::new(alloc);
     put_pairs(
         alloc,
         &stamp,
@@ -139,9 +148,11 @@ fn offers<'a>(
     })
 }
 
-/// The value of the next name, and what is left. None where there is none, or where its name has another spelling.
+/// The value of the next name, and what is left. None where there is none, or where its name has
+/// another spelling.
 fn next_value<'a>(alloc: Global, unread: &Unread<'a>) -> Option<(Value, Unread<'a>)>
-    ensures { IfSome result (λ r. IsRead unread.now.names.now unread.now.list.now r.0 r.1.names.now r.1.list.now) }
+    ensures { IfSome result (λ r. IsRead unread.now.names.now unread.now.list.now r.0 r.1.names.now
+        r.1.list.now) }
 {
     let [name, names @ ..] = unread.names else {
         return None;
@@ -152,7 +163,8 @@ fn next_value<'a>(alloc: Global, unread: &Unread<'a>) -> Option<(Value, Unread<'
 
 /// What is left after the next value, where that is this engine's id.
 fn after_engine<'a>(alloc: Global, engine: &[u8], unread: &Unread<'a>) -> Option<Unread<'a>>
-    ensures { IfSome result (λ r. (v : AnyValue) × IsRead unread.now.names.now unread.now.list.now v r.names.now r.list.now × (octets_in v ≡ Some engine.now)) }
+    ensures { IfSome result (λ r. (v : AnyValue) × IsRead unread.now.names.now unread.now.list.now v
+        r.names.now r.list.now × (octets_in v ≡ Some engine.now)) }
 {
     let (value, unread) = next_value(alloc, unread)?;
     if octets_in(&value)?.as_slice() == engine {
@@ -164,7 +176,8 @@ fn after_engine<'a>(alloc: Global, engine: &[u8], unread: &Unread<'a>) -> Option
 
 /// The number that the next value is, boots or a time, and what is left.
 fn next_number<'a>(alloc: Global, unread: &Unread<'a>) -> Option<(u32, Unread<'a>)>
-    ensures number { IfSome result (λ r. (v : AnyValue) × IsRead unread.now.names.now unread.now.list.now v r.1.names.now r.1.list.now × (stamp_number v ≡ Some r.0)) }
+    ensures number { IfSome result (λ r. (v : AnyValue) × IsRead unread.now.names.now
+        unread.now.list.now v r.1.names.now r.1.list.now × (stamp_number v ≡ Some r.0)) }
     ensures small { IfSome result (λ r. r.0 < 2 ^ 31) }
 {
     let (value, unread) = next_value(alloc, unread)?;
@@ -172,16 +185,18 @@ fn next_number<'a>(alloc: Global, unread: &Unread<'a>) -> Option<(u32, Unread<'a
     Some((number, unread))
 }
 
-/// Adds what is offered of these objects. It stops where one of them has another name, or another spelling of it.
+/// Adds what is offered of these objects. It stops where one of them has another name, or another
+/// spelling of it.
 fn put_pairs(
     alloc: Global,
     stamp: &Stamp<'_>,
     objects: &[Object],
     unread: &Unread<'_>,
-    pairs: &mut Pairs,
+    pairs: &mut InstanceSamples,
 ) -> Option<()>
     requires { SpellNames unread.now.names.now (flat_map object_names objects.now) }
-    ensures { OnSome result (OffersSo (lent_stamp stamp.now) objects.now unread.now.list.now pairs.old pairs.new) }
+    ensures { OnSome result (OffersSo (lent_stamp stamp.now) objects.now unread.now.list.now
+        pairs.old pairs.new) }
 {
     let mut rest = *unread;
     for object in objects {
@@ -194,14 +209,16 @@ fn put_pairs(
     if rest.list.is_empty() { Some(()) } else { None }
 }
 
-/// The sample of an object, where its value and its discontinuity are one, and what is left after them.
+/// The sample of an object, where its value and its discontinuity are one, and what is left after
+/// them.
 fn next_sample<'a>(
     alloc: Global,
     stamp: &Stamp<'_>,
     object: &Object,
     unread: &Unread<'a>,
 ) -> Option<(Option<Sample>, Unread<'a>)>
-    ensures { IfSome result (λ r. IsSampled (lent_stamp stamp.now) object.now.discontinuity unread.now.names.now unread.now.list.now r.0 r.1.names.now r.1.list.now) }
+    ensures { IfSome result (λ r. IsSampled (lent_stamp stamp.now) object.now.discontinuity
+        unread.now.names.now unread.now.list.now r.0 r.1.names.now r.1.list.now) }
 {
     let (value, unread) = next_value(alloc, unread)?;
     let (discontinuity, unread) = next_discontinuity(alloc, &object.discontinuity, &unread)?;
@@ -214,7 +231,8 @@ fn next_discontinuity<'a>(
     discontinuity: &Option<Oid>,
     unread: &Unread<'a>,
 ) -> Option<(Option<u32>, Unread<'a>)>
-    ensures { IfSome result (λ r. IsMarked discontinuity.now unread.now.names.now unread.now.list.now r.0 r.1.names.now r.1.list.now) }
+    ensures { IfSome result (λ r. IsMarked discontinuity.now unread.now.names.now
+        unread.now.list.now r.0 r.1.names.now r.1.list.now) }
 {
     let Some(_) = discontinuity else {
         return Some((Some(0), *unread));
@@ -224,7 +242,7 @@ fn next_discontinuity<'a>(
 }
 
 /// Adds the sample of an instance, where there is one.
-fn put_sample(instance: u16, sample: Option<Sample>, pairs: &mut Pairs) -> Option<()>
+fn put_sample(instance: u16, sample: Option<Sample>, pairs: &mut InstanceSamples) -> Option<()>
     ensures { OnSome result (pairs.new ≡ pairs.old ++ given instance sample) }
 {
     match sample {

@@ -1,7 +1,8 @@
-//! Polls of agents: which datagram asks for a target's objects, which polls are open, and what a response to one offers.
-//! Requests and responses are those of RFC 3416; a sample is stamped by the objects of RFC 3411 section 5.
-//! Contract: a response is answered by the first refusal that holds of it, else by one sample for each object with a value
-//! of a sampled kind; the open polls are a map from request-ids, and each call says what becomes of it.
+//! Polls of agents: which datagram asks for a target's objects, which polls are open, and what a
+//! response to one offers. Requests and responses are those of RFC 3416; a sample is stamped by the
+//! objects of RFC 3411 section 5. Contract: a response is answered by the first refusal that holds
+//! of it, else by one sample for each object with a value of a sampled kind; the open polls are a
+//! map from request-ids, and each call says what becomes of it.
 #![tactic(auto)]
 
 mod asked;

@@ -13,7 +13,7 @@ use crate::lent::Stamp;
 use crate::poller::Offered;
 use crate::stamp::{ENGINE_BOOTS, ENGINE_ID, ENGINE_TIME, discontinuity_in};
 use crate::target::{Object, Target};
-use mon_board::Pairs;
+use mon_board::InstanceSamples;
 use mon_oid::Oid;
 use mon_pdu::{Binding, Body, Pdu, PduKind};
 use mon_sample::Sample;
@@ -35,7 +35,8 @@ pub(crate) fn response_pdu(body: &Body) -> Option<&Pdu>
     }
 }
 
-/// What a response offers of the target that it came from, which has this number, or the first reason why it offers nothing.
+/// What a response offers of the target that it came from, which has this number, or the first
+/// reason why it offers nothing.
 #[tactic(auto, unfolding(crate::specs::Verdict::poll_answer))]
 pub(crate) fn poll_answer(
     alloc: Global,
@@ -104,7 +105,8 @@ fn have_names(target: &Target, bindings: &[Binding]) -> bool
 
 /// The bindings after the first, if that has this name.
 fn after_name<'b>(name: &[u32], bindings: &'b [Binding]) -> Option<&'b [Binding]>
-    ensures { (names : List (List ℕ)) → have_names (name.now ∷ names) bindings.now ≡ have_after names (option_copied result) }
+    ensures { (names : List (List ℕ)) → have_names (name.now ∷ names) bindings.now
+        ≡ have_after names (option_copied result) }
 {
     let [first, others @ ..] = bindings else {
         return None;
@@ -158,10 +160,11 @@ fn object_offers(
     stamp: &Stamp<'_>,
     objects: &[Object],
     bindings: &[Binding],
-) -> Result<Pairs, AllocError>
-    ensures { IfOk result (λ pairs. pairs ≡ object_offers (lent_stamp stamp.now) objects.now bindings.now) }
+) -> Result<InstanceSamples, AllocError>
+    ensures { IfOk result (λ pairs. pairs ≡ object_offers (lent_stamp stamp.now) objects.now
+        bindings.now) }
 {
-    let mut pairs = Pairs::new(alloc);
+    let mut pairs = InstanceSamples::new(alloc);
     let mut rest = bindings;
     for object in objects {
         if let Some(sample) = sample_of(stamp, object, rest) {

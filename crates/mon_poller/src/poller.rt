@@ -16,7 +16,7 @@ use crate::laws;
 use crate::offers::poll_answer;
 use crate::target::Target;
 use mon_ber::Octets;
-use mon_board::Pairs;
+use mon_board::InstanceSamples;
 use mon_pdu::Message;
 use mon_udp::Addr;
 use slab::Slab;
@@ -24,7 +24,7 @@ use std::alloc::{AllocError, Global};
 use std::marker::Model;
 
 /// How many polls may be open.
-const MOST_OPEN: usize = 64;
+const MAX_OPEN: usize = 64;
 
 /// The greatest request-id.
 const LAST_ID: u32 = 2147483647;
@@ -67,7 +67,7 @@ pub struct Offered {
     /// The agent's snmpEngineTime in the response, in seconds, below 2^31.
     pub time: u32,
     /// The samples with the numbers of their instances, in the order of the target's objects.
-    pub pairs: Pairs,
+    pub pairs: InstanceSamples,
 }
 
 /// An open poll.
@@ -79,8 +79,8 @@ pub(crate) struct OpenPoll {
 }
 
 /// Targets, and the polls of them that are open. Capacity for all polls is allocated when it is
-/// made.
-/// Contracts see the targets, a map from request-ids to open polls, and how many polls were started.
+/// made. Contracts see the targets, a map from request-ids to open polls, and how many polls were
+/// started.
 #[derive(Drop)]
 pub struct Poller {
     targets: Asked,
@@ -95,7 +95,11 @@ impl Model for Poller {
 
     ghost coded = { poller_code };
 
-    ghost view = { λ p. record { targets = p.targets; polls = record { open_polls = open_of p.polls.slots; started = p.started } } };
+    ghost view = { λ p. record {
+      targets = p.targets;
+      polls = record
+          { open_polls = open_of p.polls.slots; started = p.started };
+    } };
 
     ghost invariant = { λ p. ArePolls p.targets p.started p.polls };
 }
@@ -112,7 +116,7 @@ impl Poller {
         ensures targets { IfOk result (λ p. p.targets ≡ targets.items) }
         ensures polls { IfOk result (λ p. p.polls ≡ no_polls) }
     {
-        let polls = Slab::with_capacity(alloc, MOST_OPEN)?;
+        let polls = Slab::with_capacity(alloc, MAX_OPEN)?;
         Ok(Poller {
             targets: Asked::new(alloc, targets)?,
             polls,
@@ -128,20 +132,24 @@ impl Poller {
         self.targets.as_slice()
     }
 
-    /// Starts a poll of the target of this number: its datagram, under the next request-id. Request-ids count from 1 to 2147483647,
-    /// and none is used again. Memory is asked for last.
+    /// Starts a poll of the target of this number: its datagram, under the next request-id.
+    /// Request-ids count from 1 to 2147483647, and none is used again. Memory is asked for last.
     pub fn start(&mut self, alloc: Global, target: u16) -> Result<Request, PollFault>
-        ensures id { IfOk result (λ r. start_verdict self.old.targets self.old.polls target ≡ Ok r.id) }
-        ensures octets { IfOk result (λ r. r.octets ≡ poll_octets (target_at self.old.targets target) r.id) }
-        ensures started { OnOk result (self.new ≡ record self.old { polls = with_poll target self.old.polls }) }
-        ensures fault { IfErr result (λ e. StartFails e (start_verdict self.old.targets self.old.polls target)) }
+        ensures id { IfOk result (λ r. start_verdict self.old.targets self.old.polls target
+            ≡ Ok r.id) }
+        ensures octets { IfOk result (λ r. r.octets ≡ poll_octets
+            (target_at self.old.targets target) r.id) }
+        ensures started { OnOk result (self.new ≡ record self.old
+            { polls = with_poll target self.old.polls }) }
+        ensures fault { IfErr result (λ e. StartFails e (start_verdict self.old.targets
+            self.old.polls target)) }
         ensures refused { OnErr result (self.new ≡ self.old) }
     {
         let place = usize::from(target);
         if place >= self.targets.as_slice().len() {
             return Err(PollFault::UnknownTarget);
         }
-        if self.polls.len() >= MOST_OPEN {
+        if self.polls.len() >= MAX_OPEN {
             return Err(PollFault::TooManyOpen);
         }
         if self.started == LAST_ID {
@@ -170,13 +178,15 @@ impl Poller {
     }
 
     /// Handles that the poll of this request-id was not answered in time: its datagram goes to its
-    /// target again, or, if that was tried as often as it may be, the poll is closed. Only a datagram
-    /// is allocated, so `GivenUp` and `NotOpen` allocate nothing.
+    /// target again, or, if that was tried as often as it may be, the poll is closed. Only a
+    /// datagram is allocated, so `GivenUp` and `NotOpen` allocate nothing.
     pub fn time_out(&mut self, alloc: Global, id: u32) -> Result<TimedOut, AllocError>
         ensures told { IfOk result (λ t. t ≡ timeout_verdict self.old.targets self.old.polls id) }
-        ensures polls { OnOk result (self.new ≡ record self.old { polls = timed (tries_of self.old.targets) id self.old.polls }) }
+        ensures polls { OnOk result (self.new ≡ record self.old
+            { polls = timed (tries_of self.old.targets) id self.old.polls }) }
         // Memory is taken for a datagram that is sent again, and for nothing else.
-        ensures memory { OnErr result (IsSentAgain (timeout_verdict self.old.targets self.old.polls id)) }
+        ensures memory { OnErr result (IsSentAgain (timeout_verdict self.old.targets self.old.polls
+            id)) }
         ensures refused { OnErr result (self.new ≡ self.old) }
     {
         let Some((key, poll)) = find(&self.polls, id) else {
@@ -197,24 +207,28 @@ impl Poller {
         })
     }
 
-    /// The least request-id of an open poll. As request-ids rise, it is the poll that was started first.
+    /// The least request-id of an open poll. As request-ids rise, it is the poll that was started
+    /// first.
     pub fn oldest(&self) -> Option<u32>
         ensures oldest { IsOldestAfter 0 self.now.polls.open_polls result }
-        ensures all { IfSome result (λ id. (other : ℕ) → IsTrue (map.contains_key self.now.polls.open_polls other) → id ≤ other) }
+        ensures all { IfSome result (λ id. (other : ℕ) → IsTrue
+            (map.contains_key self.now.polls.open_polls other) → id ≤ other) }
         ensures none { IfNone result (self.now.polls.open_polls ≡ map.empty) }
     {
         least_after(&self.polls, 0)
     }
 
-    /// The least request-id of an open poll that is greater than this one. So all open polls are met, the oldest first.
+    /// The least request-id of an open poll that is greater than this one. So all open polls are
+    /// met, the oldest first.
     pub fn oldest_after(&self, id: u32) -> Option<u32>
         ensures { IsOldestAfter id self.now.polls.open_polls result }
     {
         least_after(&self.polls, id)
     }
 
-    /// What a datagram from this address offers, or the first reason why it offers nothing. It ends its poll where it is accepted
-    /// or refused as `AgentError`, `WrongNames`, `BadStamp` or `OtherEngine`; any other answer, `OutOfMemory` too, changes nothing.
+    /// What a datagram from this address offers, or the first reason why it offers nothing. It ends
+    /// its poll where it is accepted or refused as `AgentError`, `WrongNames`, `BadStamp` or
+    /// `OtherEngine`; any other answer, `OutOfMemory` too, changes nothing.
     pub fn response(
         &mut self,
         alloc: Global,
@@ -224,9 +238,12 @@ impl Poller {
         // The datagram reads as a message or as none, and that decides all that follows.
         ensures read { (read : Option AnyMessage) × ReadsAs octets.now read }
         ensures told { (read : Option AnyMessage) → ReadsAs octets.now read
-            → Gives (λ o. o) result (response_verdict self.old.targets self.old.polls.open_polls from read) }
+            → Gives (λ o. o) result (response_verdict self.old.targets self.old.polls.open_polls
+            from read) }
         ensures polls { (read : Option AnyMessage) → ReadsAs octets.now read
-            → self.new ≡ record self.old { polls = after_response (ends result) read self.old.polls } }
+            → self.new ≡ record self.old {
+              polls = after_response (ends result) read self.old.polls;
+            } }
     {
         laws::one_reading();
         if let Some(offered) = self.offered_in_place(alloc, from, octets) {
@@ -236,9 +253,11 @@ impl Poller {
         self.close_answered(alloc, from, &message)
     }
 
-    /// What a datagram from this address offers, where it has what its poll asked for, spelled as that was asked.
+    /// What a datagram from this address offers, where it has what its poll asked for, spelled as
+    /// that was asked.
     fn offered_in_place(&mut self, alloc: Global, from: Addr, octets: &[u8]) -> Option<Offered>
-        ensures offered { IfSome result (λ o. (m : AnyMessage) × BeginsWithMessage octets.now m × (response_verdict self.old.targets self.old.polls.open_polls from (Some m) ≡ Ok o)
+        ensures offered { IfSome result (λ o. (m : AnyMessage) × BeginsWithMessage octets.now m
+            × (response_verdict self.old.targets self.old.polls.open_polls from (Some m) ≡ Ok o)
             × (self.new ≡ record self.old { polls = after_response true (Some m) self.old.polls })) }
         ensures other { IfNone result (self.new ≡ self.old) }
     {
@@ -254,8 +273,12 @@ impl Poller {
         from: Addr,
         message: &Message,
     ) -> Result<Offered, ResponseFault>
-        ensures told { Gives (λ o. o) result (response_verdict self.old.targets self.old.polls.open_polls from (Some message.now)) }
-        ensures polls { self.new ≡ record self.old { polls = after_response (ends result) (Some message.now) self.old.polls } }
+        ensures told { Gives (λ o. o) result (response_verdict self.old.targets
+            self.old.polls.open_polls from (Some message.now)) }
+        ensures polls { self.new ≡ record self.old {
+          polls = after_response (ends result)
+              (Some message.now) self.old.polls;
+        } }
     {
         let (key, poll, pdu) = find_awaited(self.targets.as_slice(), &self.polls, from, message)?;
         let target = self.targets.at(usize::from(poll.target));

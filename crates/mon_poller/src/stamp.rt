@@ -83,7 +83,8 @@ fn read_sampled(value: &Value) -> Option<(Kind, u64)>
     }
 }
 
-/// Returns the value of a discontinuity indicator (RFC 2578 section 7.1.6): of a Counter32, a Gauge32 or a TimeTicks.
+/// Returns the value of a discontinuity indicator (RFC 2578 section 7.1.6): of a Counter32, a
+/// Gauge32 or a TimeTicks.
 pub(crate) fn discontinuity_in(value: &Value) -> Option<u32>
     ensures { result ≡ discontinuity_in value.now }
 {

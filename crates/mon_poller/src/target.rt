@@ -10,16 +10,16 @@ use std::alloc::{AllocError, Global};
 use std::marker::Model;
 
 /// The most octets of a community.
-const MOST_COMMUNITY: usize = 512;
+const MAX_COMMUNITY: usize = 512;
 
 /// The most tries of a target.
-const MOST_TRIES: u8 = 8;
+const MAX_TRIES: u8 = 8;
 
 /// The most objects of a target.
-const MOST_OBJECTS: usize = 16;
+const MAX_OBJECTS: usize = 16;
 
 /// The most targets.
-const MOST_TARGETS: usize = 64;
+const MAX_TARGETS: usize = 64;
 
 /// An object that is polled.
 #[derive(Debug, PartialEq, Eq)]
@@ -117,7 +117,8 @@ pub struct Target {
     pub address: Addr,
     /// The community of requests and responses, 1 to 512 octets.
     pub community: Octets,
-    /// The engine id that its responses must name, 5 to 32 octets (RFC 3411 section 5, snmpEngineID).
+    /// The engine id that its responses must name, 5 to 32 octets (RFC 3411 section 5,
+    /// snmpEngineID).
     pub engine: Octets,
     /// How often a poll is sent in all, 1 to 8.
     pub tries: u8,
@@ -148,13 +149,13 @@ impl Target {
         let engine = self.engine.as_slice().len();
         let objects = self.objects.as_slice().len();
         1 <= community
-            && community <= MOST_COMMUNITY
+            && community <= MAX_COMMUNITY
             && 5 <= engine
             && engine <= 32
             && 1 <= self.tries
-            && self.tries <= MOST_TRIES
+            && self.tries <= MAX_TRIES
             && 1 <= objects
-            && objects <= MOST_OBJECTS
+            && objects <= MAX_OBJECTS
     }
 
     /// An equal target.
@@ -175,7 +176,7 @@ impl Target {
 pub fn are_targets(targets: &[Target]) -> bool
     ensures { IsTrue result ↔ AreTargets targets.now }
 {
-    if targets.is_empty() || targets.len() > MOST_TARGETS {
+    if targets.is_empty() || targets.len() > MAX_TARGETS {
         return false;
     }
     targets.iter().all(|target| target.is_within_limits())

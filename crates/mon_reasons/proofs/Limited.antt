@@ -3,8 +3,8 @@ use Rattle.std.proofs.Common.{◌≡◌, ℕ, zero, suc, ◌-◌, Bool, true, fa
 use Rattle.std.specs.Prelude.{if◌then◌else◌, not}
 use Rattle.mon_udp.specs.Addr.{same_addr}
 use Rattle.mon_udp.specs.declared.addr.Addr.{Addr}
-use Rattle.mon_reasons.specs.Latest.{datagrams_of, if_any, newest_of, other_datagrams}
-use Rattle.mon_reasons.specs.declared.latest.Datagram.{Datagram}
+use Rattle.mon_reasons.specs.NewestDatagrams.{datagrams_of, if_any, newest_of, other_datagrams}
+use Rattle.mon_reasons.specs.declared.newest_datagrams.Datagram.{Datagram}
 
 module _ (from : Addr) where
   -- one of another address stays

@@ -1,3 +1,3 @@
-pub mod Latest
+pub mod NewestDatagrams
 pub mod Reason
 pub mod Words

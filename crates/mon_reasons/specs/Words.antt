@@ -1,7 +1,21 @@
 -- The words for why an instance has no new sample.
 use Rattle.std.specs.Prelude.{ℕ, List, ◌++◌, codes, decimal}
 use Rattle.mon_ber.specs.declared.tag.Tag.{Tag}
-use Rattle.mon_ber.specs.declared.tag.Tag.TheVariants.{Integer, OctetString, Null, ObjectIdentifier, IpAddress, Counter32, Gauge32, TimeTicks, Opaque, Counter64, NoSuchObject, NoSuchInstance, EndOfMibView}
+use Rattle.mon_ber.specs.declared.tag.Tag.TheVariants.{
+  Integer,
+  OctetString,
+  Null,
+  ObjectIdentifier,
+  IpAddress,
+  Counter32,
+  Gauge32,
+  TimeTicks,
+  Opaque,
+  Counter64,
+  NoSuchObject,
+  NoSuchInstance,
+  EndOfMibView,
+}
 use Rattle.mon_reasons.specs.declared.reason.Reason.{Reason}
 use Rattle.mon_reasons.specs.declared.reason.Reason.TheVariants as reason
 
@@ -30,7 +44,9 @@ value_text kind = codes "its value is of the kind " ++ kind_text kind
 -- why an instance has no new sample
 abbrev pub reason_text : Reason → List ℕ
 reason_text (reason.Value kind) = value_text kind
-reason_text (reason.Discontinuity kind) = codes "the value of its mark is of the kind " ++ kind_text kind
+reason_text (reason.Discontinuity kind) = codes "the value of its mark is of the kind "
+    ++ kind_text kind
 reason_text reason.NoDiscontinuity = codes "its mark has no value"
 reason_text (reason.Clock boots time) =
-    codes "the agent's clock, " ++ (decimal boots ++ (codes ":" ++ (decimal time ++ codes ", is not past that of its newest sample")))
+    codes "the agent's clock, " ++ (decimal boots ++ (codes ":"
+    ++ (decimal time ++ codes ", is not past that of its newest sample")))

@@ -3,9 +3,9 @@
 //! Contract: what is said is a function of the datagrams that were kept.
 #![tactic(auto)]
 
-mod latest;
 pub mod laws;
+mod newest_datagrams;
 mod reason;
 
-pub use latest::Latest;
+pub use newest_datagrams::NewestDatagrams;
 pub use reason::Reason;

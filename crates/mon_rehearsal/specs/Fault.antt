@@ -22,8 +22,18 @@ name_of (script.BadScript line) = codes "BadScript"
 -- the innermost fault: the world's or a station's, if the stations were not opened; a script's is
 -- one of a text
 abbrev pub innermost_of : RehearsalFault → Told
-innermost_of rehearsal.OutOfMemory = record { part = codes "mon_app"; number = number_of script.OutOfMemory; name = name_of script.OutOfMemory }
-innermost_of (rehearsal.BadScript line) = record { part = codes "mon_app"; number = number_of (script.BadScript line); name = name_of (script.BadScript line) }
+innermost_of rehearsal.OutOfMemory = record {
+  part = codes "mon_app";
+  number = number_of
+      script.OutOfMemory;
+  name = name_of script.OutOfMemory;
+}
+innermost_of (rehearsal.BadScript line) = record {
+  part = codes "mon_app";
+  number = number_of
+      (script.BadScript line);
+  name = name_of (script.BadScript line);
+}
 innermost_of (rehearsal.World fault) = world.innermost_of fault
 
 -- a script's fault as the rehearsal's

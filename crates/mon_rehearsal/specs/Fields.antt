@@ -1,5 +1,6 @@
 -- The fields of a line.
-use Rattle.std.specs.Prelude.{ℕ, List, [], ◌∷◌, ◌==◌, if◌then◌else◌, Option, Some, None, Result, Ok, Err, decimal, nat_lt, ◌&&◌}
+use Rattle.std.specs.Prelude.{ℕ, List, [], ◌∷◌, ◌==◌, if◌then◌else◌, Option, Some, None, Result, Ok}
+use Rattle.std.specs.Prelude.{Err, decimal, nat_lt, ◌&&◌}
 use Rattle.std.specs.Str.{bytes_eq}
 use Rattle.std.specs.Str.Parse.{digits_value}
 use Rattle.hex.specs.Hex.{decode_of}
@@ -22,11 +23,13 @@ and_then (Some x) f = f x
 -- the number below 2^32 that a text is in decimal, without leading zeros
 unfoldable pub number_in : List ℕ → Option ℕ
 number_in text =
-    if nat_lt (digits_value 10 text) 4294967296 && bytes_eq (decimal (digits_value 10 text)) text then Some (digits_value 10 text) else None
+    if nat_lt (digits_value 10 text) 4294967296 && bytes_eq (decimal (digits_value 10 text)) text
+    then Some (digits_value 10 text) else None
 
 -- two numbers with a blank between them
 unfoldable pub numbers_in : List ℕ → Option (ℕ × ℕ)
-numbers_in text = and_then (cut 32 text) (λ fields. and_then (number_in fields.0) (λ first. and_then (number_in fields.1) (λ second. Some (first, second))))
+numbers_in text = and_then (cut 32 text) (λ fields. and_then (number_in fields.0)
+    (λ first. and_then (number_in fields.1) (λ second. Some (first, second))))
 
 -- octets, where there are any
 abbrev pub some_octets : List ℕ → Option (List ℕ)

@@ -1,5 +1,6 @@
 -- What a rehearsal prints.
-use Rattle.std.specs.Prelude.{ℕ, zero, suc, ◌+◌, List, [], ◌∷◌, ◌++◌, ◌==◌, if◌then◌else◌, Option, Some, None, Result, Ok, Err, codes, decimal}
+use Rattle.std.specs.Prelude.{ℕ, zero, suc, ◌+◌, List, [], ◌∷◌, ◌++◌, ◌==◌, if◌then◌else◌, Option}
+use Rattle.std.specs.Prelude.{Some, None, Result, Ok, Err, codes, decimal}
 use Rattle.std.specs.List.{flat_map}
 use Rattle.mon_board.specs.Board.{window_of}
 use Rattle.mon_report.specs.Report.{report}
@@ -21,7 +22,8 @@ numbers_from first (suc n) = numbers_from first n ++ codes " " ++ decimal (first
 
 -- the numbers of the datagrams that were sent, where there are any
 abbrev pub sent_text : Sent → List ℕ
-sent_text sent = if sent.count == 0 then codes "ok" else codes "ok sent" ++ numbers_from sent.first sent.count
+sent_text sent = if sent.count == 0 then codes "ok" else codes "ok sent"
+    ++ numbers_from sent.first sent.count
 
 -- a refusal: the crate that refused, and the number and the name of its fault
 abbrev pub refused_text : Told → List ℕ
@@ -34,7 +36,8 @@ answer_text (Err f) = refused_text (innermost_of f)
 
 -- the line of the step of this number
 unfoldable pub step_line : ℕ → Result Sent WorldFault → List ℕ
-step_line number answer = codes "step " ++ decimal number ++ codes ": " ++ answer_text answer ++ codes "\n"
+step_line number answer = codes "step " ++ decimal number ++ codes ": " ++ answer_text answer
+    ++ codes "\n"
 
 -- the lines of steps with these answers, from this number on
 abbrev pub step_lines : ℕ → List (Result Sent WorldFault) → List ℕ
@@ -44,13 +47,15 @@ step_lines number (answer ∷ answers) = step_line number answer ++ step_lines (
 -- ---- of a station
 -- how many samples a station in this state owes a peer
 unfoldable pub owed_line : State → ℕ → List ℕ
-owed_line s peer = codes "owes " ++ decimal peer ++ codes " " ++ decimal (owed_count s (slot_of (setting_of s).peers peer)) ++ codes "\n"
+owed_line s peer = codes "owes " ++ decimal peer ++ codes " "
+    ++ decimal (owed_count s (slot_of (setting_of s).peers peer)) ++ codes "\n"
 
 -- station x of this many, in this state: its incarnation, what it owes each other one, and its
 -- report
 unfoldable pub station_text : (count x : ℕ) → State → List ℕ
 station_text count x s =
-    codes "station " ++ decimal x ++ codes " incarnation " ++ decimal s.incarnation ++ codes "\n" ++ flat_map (owed_line s) (others_to x count)
+    codes "station " ++ decimal x ++ codes " incarnation " ++ decimal s.incarnation ++ codes "\n"
+    ++ flat_map (owed_line s) (others_to x count)
     ++ report s.board.watch (window_of s.board)
 
 -- the text of a station that there is
@@ -61,4 +66,5 @@ text_at count x (Some s) = station_text count x s
 -- the first N stations of as many as there are, as these moves left them
 abbrev pub stations_text : ℕ → List Move → ℕ → List ℕ
 stations_text count moves zero = []
-stations_text count moves (suc n) = stations_text count moves n ++ text_at count (suc n) (last_state (lives_of (suc n) moves))
+stations_text count moves (suc n) = stations_text count moves n
+    ++ text_at count (suc n) (last_state (lives_of (suc n) moves))

@@ -1,8 +1,11 @@
 -- What the lines of a script say.
-use Rattle.std.specs.Prelude.{ℕ, ◌≡◌, ◌<◌, ◌+◌, ◌^◌, List, [], ◌∷◌, ◌++◌, ◌==◌, if◌then◌else◌, Ok, codes, decimal, length, true, false}
+use Rattle.std.specs.Prelude.{ℕ, ◌≡◌, ◌<◌, ◌+◌, ◌^◌, List, [], ◌∷◌, ◌++◌, ◌==◌, if◌then◌else◌, Ok}
+use Rattle.std.specs.Prelude.{codes, decimal, length, true, false}
 use Rattle.hex.specs.Hex.{decode_of}
 use Rattle.mon_rehearsal.specs.declared.script.ScriptStep.{ScriptStep}
-use Rattle.mon_rehearsal.specs.declared.script.ScriptStep.TheVariants.{StartPoll, AgentSays, Timeout, Share, Deliver, Save, Restart, Forge, Stop}
+use Rattle.mon_rehearsal.specs.declared.script.ScriptStep.TheVariants.{StartPoll, AgentSays}
+use Rattle.mon_rehearsal.specs.declared.script.ScriptStep.TheVariants.{Timeout, Share, Deliver}
+use Rattle.mon_rehearsal.specs.declared.script.ScriptStep.TheVariants.{Save, Restart, Forge, Stop}
 
 -- an octet at the front of the first line
 abbrev pub onto_line : ℕ → List (List ℕ) → List (List ℕ)
@@ -30,18 +33,24 @@ pub record HasNumbers (word : List ℕ) (n m : ℕ) (line : List ℕ) : Type 0 w
   pub small_too : m < 2 ^ 32
   pub is : line ≡ word ++ 32 ∷ decimal n ++ 32 ∷ decimal m
 
--- What a line says: a word, and its fields with one blank before each. Numbers are decimal, below 2^32 and without leading zeros.
+-- What a line says: a word, and its fields with one blank before each. Numbers are decimal, below
+-- 2^32 and without leading zeros.
 abbrev pub Says : List ℕ → ScriptStep → Type 0
 Says line (StartPoll s target) = HasNumbers (codes "poll") s target line
-Says line (AgentSays s target octets) = (front digits : List ℕ) × HasNumbers (codes "agent") s target front × AreDigits digits octets × (line ≡ front ++ 32 ∷ digits)
+Says line (AgentSays s target octets) = (front digits : List ℕ)
+    × HasNumbers (codes "agent") s target front × AreDigits digits octets
+    × (line ≡ front ++ 32 ∷ digits)
 Says line (Timeout s id) = HasNumbers (codes "timeout") s id line
 Says line (Share s peer) = HasNumbers (codes "share") s peer line
 Says line (Deliver d) = HasNumber (codes "deliver") d line
 Says line (Save s) = HasNumber (codes "save") s line
 Says line (Restart s) = HasNumber (codes "restart") s line
-Says line (Forge s octets) = (front digits : List ℕ) × HasNumber (codes "forge") s front × AreDigits digits octets × (line ≡ front ++ 32 ∷ digits)
-Says line (Stop s calls true) = (front : List ℕ) × HasNumbers (codes "stop") s calls front × (line ≡ front ++ codes " keep")
-Says line (Stop s calls false) = (front : List ℕ) × HasNumbers (codes "stop") s calls front × (line ≡ front ++ codes " lose")
+Says line (Forge s octets) = (front digits : List ℕ) × HasNumber (codes "forge") s front
+    × AreDigits digits octets × (line ≡ front ++ 32 ∷ digits)
+Says line (Stop s calls true) = (front : List ℕ) × HasNumbers (codes "stop") s calls front
+    × (line ≡ front ++ codes " keep")
+Says line (Stop s calls false) = (front : List ℕ) × HasNumbers (codes "stop") s calls front
+    × (line ≡ front ++ codes " lose")
 
 -- each line, read in this way, is its step
 abbrev pub AreSteps : (List ℕ → ScriptStep → Type 0) → List (List ℕ) → List ScriptStep → Type 0
@@ -50,7 +59,8 @@ AreSteps says (line ∷ lines) (step ∷ steps) = says line step × AreSteps say
 AreSteps says lines steps = ⊥
 
 -- the line of this number, counted from 1, is the first that is no step, read in this way
-pub record IsFirstBad (says : List ℕ → ScriptStep → Type 0) (lines : List (List ℕ)) (number : ℕ) : Type 0 where
+pub record IsFirstBad (says : List ℕ → ScriptStep → Type 0) (lines : List (List ℕ)) (number : ℕ) :
+    Type 0 where
   pub before : List (List ℕ)
   pub line : List ℕ
   pub after : List (List ℕ)

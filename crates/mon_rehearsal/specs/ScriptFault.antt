@@ -18,7 +18,9 @@ IsFaultOfScript says lines OutOfMemory = Unit {0}
 IsFaultOfScript says lines (BadScript number) = IsFirstBad says lines number
 
 -- why a script of these lines, read in this way, was not rehearsed over this many stations
-abbrev pub IsFaultOfRehearsal : (List ℕ → ScriptStep → Type 0) → ℕ → List (List ℕ) → RehearsalFault → Type 0
+abbrev pub IsFaultOfRehearsal : (List ℕ → ScriptStep → Type 0) → ℕ → List (List ℕ) → RehearsalFault
+    → Type 0
 IsFaultOfRehearsal says count lines rehearsal.OutOfMemory = Unit {0}
 IsFaultOfRehearsal says count lines (rehearsal.BadScript number) = IsFirstBad says lines number
-IsFaultOfRehearsal says count lines (rehearsal.World fault) = IsScript says lines × IsFaultOfNew count fault
+IsFaultOfRehearsal says count lines (rehearsal.World fault) = IsScript says lines
+    × IsFaultOfNew count fault

@@ -10,7 +10,8 @@ use Rattle.mon_station.specs.declared.fault.StationFault.{StationFault}
 use Rattle.mon_station.specs.declared.fault.StationFault.TheVariants as station
 use Rattle.mon_station.specs.Fault as stations
 use Rattle.mon_rehearsal.specs.declared.trial.TrialFault.{TrialFault}
-use Rattle.mon_rehearsal.specs.declared.trial.TrialFault.TheVariants.{OutOfMemory, Unexpected, Refused}
+use Rattle.mon_rehearsal.specs.declared.trial.TrialFault.TheVariants.{OutOfMemory, Unexpected}
+use Rattle.mon_rehearsal.specs.declared.trial.TrialFault.TheVariants.{Refused}
 
 -- the number of a fault
 abbrev pub number_of : TrialFault → ℕ
@@ -52,7 +53,8 @@ IsTakenReply (Ok (Send octets)) taken = taken ≡ Ok octets
 IsTakenReply (Ok (Silent why)) taken = taken ≡ Err Unexpected
 IsTakenReply (Err fault) taken = taken ≡ Err OutOfMemory
 
--- what a station has to report at the end of a trial: three samples of a counter of 1000 octets a second, over 20 seconds
+-- what a station has to report at the end of a trial: three samples of a counter of 1000 octets a
+-- second, over 20 seconds
 abbrev pub trial_report : List ℕ
 trial_report =
     codes "8000000001 1.3.6.1.2.1.31.1.1.1.6.1 n=3 1:100..1:120 Counter64=120000 delta=20000 span=20 rate=1000.000\n"

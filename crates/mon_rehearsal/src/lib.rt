@@ -1,7 +1,8 @@
 //! Rehearsals: a script of steps is run over a world of stations in memory, and printed; and the
-//! self-test, which tries a station on an agent in memory. They follow no standard.
-//! Contract: a script is read exactly where each of its lines says a step, before the first step is made; what is printed is the answer of
-//! each step that the world made, in order, and the stations as these steps left them.
+//! self-test, which tries a station on an agent in memory. They follow no standard. Contract: a
+//! script is read exactly where each of its lines says a step, before the first step is made; what
+//! is printed is the answer of each step that the world made, in order, and the stations as these
+//! steps left them.
 #![tactic(auto)]
 
 mod fault;

@@ -53,7 +53,8 @@ fn put_sent(line: &mut String, sent: Sent) -> Result<(), AllocError>
 }
 
 fn put_numbers(line: &mut String, sent: Sent) -> Result<(), AllocError>
-    ensures { OnOk result (string_bytes line.new ≡ string_bytes line.old ++ numbers_from sent.first sent.count) }
+    ensures { OnOk result (string_bytes line.new ≡ string_bytes line.old
+        ++ numbers_from sent.first sent.count) }
 {
     for i in 0..sent.count {
         let number = sent.first + i;
@@ -64,7 +65,8 @@ fn put_numbers(line: &mut String, sent: Sent) -> Result<(), AllocError>
 
 /// Why a step was refused: the crate, the number and the name of the innermost fault.
 fn put_refused(line: &mut String, fault: WorldFault) -> Result<(), AllocError>
-    ensures { OnOk result (string_bytes line.new ≡ string_bytes line.old ++ refused_text (innermost_of fault)) }
+    ensures { OnOk result (string_bytes line.new ≡ string_bytes line.old
+        ++ refused_text (innermost_of fault)) }
 {
     let innermost = fault.innermost();
     write!(line, "refused {innermost}")
@@ -80,7 +82,9 @@ pub(crate) fn put_stations(
 ) -> Result<(), AllocError>
     requires few { count ≤ 16 }
     requires all { length world.now.stations.items ≡ count }
-    ensures { OnOk result ((moves : List Move) → Shows world.now.core world.now.stations.items world.now.sent.items moves → text.new.items ≡ text.old.items ++ stations_text count moves count) }
+    ensures { OnOk result ((moves : List Move) → Shows world.now.core world.now.stations.items
+        world.now.sent.items moves → text.new.items ≡ text.old.items
+        ++ stations_text count moves count) }
 {
     for place in 0..count {
         put_station(alloc, text, world, count, place + 1)?;
@@ -99,7 +103,9 @@ fn put_station(
     requires few { count ≤ 16 }
     requires first { 1 ≤ number }
     requires last { number ≤ length world.now.stations.items }
-    ensures { OnOk result ((moves : List Move) → Shows world.now.core world.now.stations.items world.now.sent.items moves → text.new.items ≡ text.old.items ++ text_at count number (last_state (lives_of number moves))) }
+    ensures { OnOk result ((moves : List Move) → Shows world.now.core world.now.stations.items
+        world.now.sent.items moves → text.new.items ≡ text.old.items
+        ++ text_at count number (last_state (lives_of number moves))) }
 {
     let Some(station) = world.station(number) else {
         unreachable!()
@@ -116,7 +122,8 @@ fn put_state(
     number: u32,
 ) -> Result<(), AllocError>
     requires few { count ≤ 16 }
-    ensures { OnOk result (text.new.items ≡ text.old.items ++ station_text count number (state_in station.now)) }
+    ensures { OnOk result (text.new.items ≡ text.old.items ++ station_text count number
+        (state_in station.now)) }
 {
     let mut lines = String::new(alloc);
     let incarnation = station.incarnation();
@@ -137,7 +144,8 @@ fn put_debts(
     number: u32,
 ) -> Result<(), AllocError>
     requires few { count ≤ 16 }
-    ensures { OnOk result (string_bytes lines.new ≡ string_bytes lines.old ++ flat_map (owed_line (state_in station.now)) (others_to number count)) }
+    ensures { OnOk result (string_bytes lines.new ≡ string_bytes lines.old
+        ++ flat_map (owed_line (state_in station.now)) (others_to number count)) }
 {
     for place in 0..count {
         put_debt(lines, station, number, place + 1)?;
@@ -152,7 +160,8 @@ fn put_debt(
     number: u32,
     peer: u32,
 ) -> Result<(), AllocError>
-    ensures { OnOk result (string_bytes lines.new ≡ (if peer == number then string_bytes lines.old else string_bytes lines.old ++ owed_line (state_in station.now) peer)) }
+    ensures { OnOk result (string_bytes lines.new ≡ (if peer == number then string_bytes lines.old
+        else string_bytes lines.old ++ owed_line (state_in station.now) peer)) }
 {
     if peer == number {
         return Ok(());
@@ -162,7 +171,8 @@ fn put_debt(
 
 #[tactic(auto, unfolding(crate::specs::Printed::owed_line))]
 fn put_owed(lines: &mut String, station: &Station<MemoryDisk>, peer: u32) -> Result<(), AllocError>
-    ensures { OnOk result (string_bytes lines.new ≡ string_bytes lines.old ++ owed_line (state_in station.now) peer) }
+    ensures { OnOk result (string_bytes lines.new ≡ string_bytes lines.old
+        ++ owed_line (state_in station.now) peer) }
 {
     let owed = station.owed(peer);
     writeln!(lines, "owes {peer} {owed}")

@@ -12,7 +12,7 @@ ghost use Rattle.mon_rehearsal.specs.ScriptFault.{IsFaultOfRehearsal};
 use crate::fault::RehearsalFault;
 use crate::printed::{put_stations, put_step};
 use crate::script::{ScriptStep, read_script};
-use mon_core::Core;
+use mon_config::Core;
 use mon_world::{World, WorldFault};
 use std::alloc::Global;
 
@@ -34,7 +34,8 @@ pub fn rehearse(
 ) -> Result<Vec<u8>, RehearsalFault>
     requires few { count ≤ 16 }
     requires some { 1 ≤ count }
-    ensures printed { IfOk result (λ text. IsRehearsal core.now count (lines_of script.now) text.items) }
+    ensures printed { IfOk result (λ text. IsRehearsal core.now count (lines_of script.now)
+        text.items) }
     ensures fault { IfErr result (IsFaultOfRehearsal Says count (lines_of script.now)) }
 {
     let steps = read_script(alloc, script)?;
@@ -54,8 +55,11 @@ fn make_steps(
     steps: &[ScriptStep],
     text: &mut Vec<u8>,
 ) -> Result<(), RehearsalFault>
-    ensures made { OnOk result ((past : List Move) → Shows world.old.core world.old.stations.items world.old.sent.items past
-        → HaveBeenMade world.new.core world.new.stations.items world.new.sent.items (setting_at world.old.core (length world.old.stations.items)) (length world.old.stations.items) steps.now past text.old.items text.new.items) }
+    ensures made { OnOk result ((past : List Move) → Shows world.old.core world.old.stations.items
+        world.old.sent.items past
+        → HaveBeenMade world.new.core world.new.stations.items world.new.sent.items
+        (setting_at world.old.core (length world.old.stations.items))
+        (length world.old.stations.items) steps.now past text.old.items text.new.items) }
     ensures core { world.new.core ≡ world.old.core }
     ensures stations { length world.new.stations.items ≡ length world.old.stations.items }
     ensures fault { IfErr result (λ f. f ≡ fault.OutOfMemory) }

@@ -11,7 +11,8 @@ use mon_ber::Octets;
 use mon_world::Step;
 use std::alloc::{AllocError, Global};
 
-/// What a line of a script says. Stations and targets count from 1, and so do the datagrams between stations.
+/// What a line of a script says. Stations and targets count from 1, and so do the datagrams between
+/// stations.
 #[derive(Drop)]
 pub enum ScriptStep {
     /// `poll S T`: a station starts a poll of a target.
@@ -39,7 +40,8 @@ pub enum ScriptStep {
 impl ScriptStep {
     ghost use Rattle.mon_rehearsal.specs.Rehearsed.{IsStepOf};
 
-    /// The step that a world makes. A stop after more than 255 calls is one after 255, which every world refuses too.
+    /// The step that a world makes. A stop after more than 255 calls is one after 255, which every
+    /// world refuses too.
     pub fn step(&self) -> Step<'_>
         ensures { IsStepOf self.now result }
     {

@@ -1,4 +1,5 @@
-//! A station's trial of itself: it polls an agent in memory three times, saves and finds again what it took.
+//! A station's trial of itself: it polls an agent in memory three times, saves and finds again what
+//! it took.
 
 ghost use Rattle.std.specs.Prelude.{◌≡◌, ◌≢◌, ◌++◌, ◌∷◌, [], IfErr, IfOk, OnOk, length};
 ghost use Rattle.mon_board.specs.Board.{window_of};
@@ -221,9 +222,11 @@ impl Drop for Trial {
 pub fn run_trial(alloc: Global) -> Result<Trial, TrialFault>
     // The text is one text, and it is the report of the station that was tried.
     ensures text { IfOk result (λ trial. trial.text.items ≡ trial_text) }
-    ensures report { IfOk result (λ trial. report (state_of trial.station.life).board.watch (window_of (state_of trial.station.life).board) ≡ trial_report) }
+    ensures report { IfOk result (λ trial. report (state_of trial.station.life).board.watch
+        (window_of (state_of trial.station.life).board) ≡ trial_report) }
     // The station has saved what it reports.
-    ensures saved { IfOk result (λ trial. Leaves (memory_leaves (device_of trial.station.keeper)) (FindsState (state_of trial.station.life))) }
+    ensures saved { IfOk result (λ trial. Leaves (memory_leaves (device_of trial.station.keeper))
+        (FindsState (state_of trial.station.life))) }
 {
     let settings = station_settings(alloc, STATION)?;
     let station = try_station(alloc, &settings)?;
@@ -248,7 +251,8 @@ fn judge(text: Vec<u8>, wanted: &[u8], last: &[u8]) -> Result<Vec<u8>, TrialFaul
 
 /// A station of these settings that polled the agent and saved.
 fn try_station(alloc: Global, settings: &StationSettings) -> Result<Station<MemoryDisk>, TrialFault>
-    ensures saved { IfOk result (λ station. Leaves (memory_leaves (device_of station.keeper)) (FindsState (state_of station.life))) }
+    ensures saved { IfOk result (λ station. Leaves (memory_leaves (device_of station.keeper))
+        (FindsState (state_of station.life))) }
 {
     let core = settings.core.try_clone(alloc)?;
     let disk = MemoryDisk::new(alloc, &[])?;
@@ -263,7 +267,8 @@ fn try_station(alloc: Global, settings: &StationSettings) -> Result<Station<Memo
 
 /// Saves.
 fn save(alloc: Global, station: &mut Station<MemoryDisk>) -> Result<(), TrialFault>
-    ensures { OnOk result (Leaves (memory_leaves (device_of station.new.keeper)) (FindsState (state_of station.new.life))) }
+    ensures { OnOk result (Leaves (memory_leaves (device_of station.new.keeper))
+        (FindsState (state_of station.new.life))) }
 {
     station.step(alloc, Event::Save)?;
     Ok(())
@@ -305,7 +310,8 @@ fn find_again(
     watch: &Watch,
     station: &Station<MemoryDisk>,
 ) -> Result<Vec<u8>, TrialFault>
-    ensures { IfOk result (λ text. text.items ≡ report (state_of station.now.life).board.watch (window_of (state_of station.now.life).board)) }
+    ensures { IfOk result (λ text. text.items ≡ report (state_of station.now.life).board.watch
+        (window_of (state_of station.now.life).board)) }
 {
     let text = write_board(alloc, station.board())?;
     let copy = station.disk().try_clone()?;

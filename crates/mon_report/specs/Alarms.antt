@@ -1,5 +1,6 @@
 -- A board's alarms, and what became of them.
-use Rattle.std.specs.Prelude.{◌≡◌, ℕ, ◌+◌, ◌<◌, ◌≤◌, List, [], ◌∷◌, ◌++◌, length, map, slice_index_or, vec_capacity}
+use Rattle.std.specs.Prelude.{◌≡◌, ℕ, ◌+◌, ◌<◌, ◌≤◌, List, [], ◌∷◌, ◌++◌, length, map}
+use Rattle.std.specs.Prelude.{slice_index_or, vec_capacity}
 use Rattle.std.specs.Global.{Vec}
 use Rattle.mon_alarms.specs.declared.alarm.AlarmState.{AlarmState}
 use Rattle.mon_alarms.specs.declared.change.AlarmChange.{AlarmChange}
@@ -21,19 +22,23 @@ windows_of b = map (samples_for b) b.watch.rules
 pub record HaveRoom (b : Board) (windows : List (Vec ℕ)) : Type 0 where
   pub number : length windows ≡ length b.watch.rules
   pub each : (i : ℕ) (r : Rule) (w : Vec ℕ) → i < length b.watch.rules
-      → length (samples_for b (slice_index_or b.watch.rules i r)) ≤ vec_capacity (slice_index_or windows i w)
+      → length (samples_for b (slice_index_or b.watch.rules i r))
+      ≤ vec_capacity (slice_index_or windows i w)
 
 -- the state of each of a board's rules over its window, in the order of the watch
 abbrev pub states_of : Board → List AlarmState
 states_of b = map (λ r. state_by r (samples_for b r)) b.watch.rules
 
--- what became of these rules' alarms since their windows were seen so, of which the first has this number
+-- what became of these rules' alarms since their windows were seen so, of which the first has this
+-- number
 abbrev pub changes_from : Board → ℕ → List Rule → List (List ℕ) → List AlarmChange
 changes_from b number [] seen = []
 changes_from b number (r ∷ rules) [] = []
-changes_from b number (r ∷ rules) (was ∷ seen) = changes_of number r was (samples_for b r) ++ changes_from b (number + 1) rules seen
+changes_from b number (r ∷ rules) (was ∷ seen) = changes_of number r was (samples_for b r)
+    ++ changes_from b (number + 1) rules seen
 
 -- these rules' alarms that are raised, of which the first has this number
 abbrev pub raised_from : Board → ℕ → List Rule → List AlarmChange
 raised_from b number [] = []
-raised_from b number (r ∷ rules) = raised_now number (state_by r (samples_for b r)) ++ raised_from b (number + 1) rules
+raised_from b number (r ∷ rules) = raised_now number (state_by r (samples_for b r))
+    ++ raised_from b (number + 1) rules

@@ -7,8 +7,10 @@ abbrev pub AppendsSome : Option (List ℕ) → Option (List ℕ) → List ℕ �
 AppendsSome old new text = (k : ℕ) × Appends old new (take k text)
 
 -- the whole text was written, or of one that failed a beginning of it
-abbrev pub AppendsResult : {A E : Type 0} → Option (List ℕ) → Option (List ℕ) → Result A E → List ℕ → Type 0
-AppendsResult old new result text = MatchResult result (λ _. Appends old new text) (λ _. AppendsSome old new text)
+abbrev pub AppendsResult : {A E : Type 0} → Option (List ℕ) → Option (List ℕ) → Result A E → List ℕ
+    → Type 0
+AppendsResult old new result text = MatchResult result (λ _. Appends old new text)
+    (λ _. AppendsSome old new text)
 
 -- A writer that had failed stays failed and gets nothing; else the text is appended, or a beginning
 -- of it and the writer has failed.

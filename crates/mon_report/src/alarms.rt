@@ -120,14 +120,15 @@ fn replace(window: &mut Vec<Sample>, samples: &[Sample])
     window.extend_from_slice(samples).unwrap();
 }
 
-/// Returns what became of a board's alarms since their windows were seen so, in the order of the watch's
-/// rules: each time that a sample raised or cleared one, in the order of its samples.
+/// Returns what became of a board's alarms since their windows were seen so, in the order of the
+/// watch's rules: each time that a sample raised or cleared one, in the order of its samples.
 pub fn alarm_changes(
     alloc: Global,
     board: &Board,
     seen: &[Vec<Sample>],
 ) -> Result<Vec<AlarmChange>, AllocError>
-    ensures { IfOk result (λ v. v.items ≡ changes_from board.now 0 board.now.watch.rules (map (λ w. w.items) seen.now)) }
+    ensures { IfOk result (λ v. v.items ≡ changes_from board.now 0 board.now.watch.rules
+        (map (λ w. w.items) seen.now)) }
 {
     let mut changes = Vec::new(alloc);
     let rules = board.watch().rules();

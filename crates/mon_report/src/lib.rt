@@ -1,6 +1,6 @@
-//! Reports: of each watched instance its window, its totals and its alarms, a line each.
-//! Contract: the text is a function of the watch and the windows, and of nothing else; a writer that fails has a beginning
-//! of it.
+//! Reports: of each watched instance its window, its totals and its alarms, a line each. Contract:
+//! the text is a function of the watch and the windows, and of nothing else; a writer that fails
+//! has a beginning of it.
 #![tactic(auto)]
 
 mod alarms;

@@ -20,7 +20,8 @@ const DIGITS: &[u8] = b"0123456789abcdef";
 
 /// Writes octets as hex digits in lower case.
 pub(crate) fn put_hex<W: Write>(writer: &mut W, ok: bool, octets: &[u8]) -> bool
-    ensures { AppendsIf (W.contents writer.old) ok (W.contents writer.new) result (encode_lower octets.now) }
+    ensures { AppendsIf (W.contents writer.old) ok (W.contents writer.new) result
+        (encode_lower octets.now) }
 {
     let mut ok = ok;
     for octet in octets {
@@ -31,7 +32,8 @@ pub(crate) fn put_hex<W: Write>(writer: &mut W, ok: bool, octets: &[u8]) -> bool
 
 /// Writes an octet as two hex digits.
 fn put_octet<W: Write>(writer: &mut W, ok: bool, octet: u8) -> bool
-    ensures { AppendsIf (W.contents writer.old) ok (W.contents writer.new) result (encode_lower (octet ∷ [])) }
+    ensures { AppendsIf (W.contents writer.old) ok (W.contents writer.new) result
+        (encode_lower (octet ∷ [])) }
 {
     let high = DIGITS[usize::from(octet / 16)];
     let low = DIGITS[usize::from(octet % 16)];
@@ -51,7 +53,8 @@ pub(crate) fn put_name<W: Write>(writer: &mut W, ok: bool, name: &Oid) -> bool
 
 /// Writes each sub-identifier in decimal with a dot before it.
 fn put_others<W: Write>(writer: &mut W, ok: bool, parts: &[u32]) -> bool
-    ensures { AppendsIf (W.contents writer.old) ok (W.contents writer.new) result (flat_map dot_text parts.now) }
+    ensures { AppendsIf (W.contents writer.old) ok (W.contents writer.new) result
+        (flat_map dot_text parts.now) }
 {
     let mut ok = ok;
     for part in parts {
@@ -70,7 +73,8 @@ fn put_part<W: Write>(writer: &mut W, ok: bool, part: u32) -> bool
 
 /// Writes boots and time.
 fn put_stamp<W: Write>(writer: &mut W, ok: bool, boots: u32, time: u32) -> bool
-    ensures { AppendsIf (W.contents writer.old) ok (W.contents writer.new) result (stamp_text boots time) }
+    ensures { AppendsIf (W.contents writer.old) ok (W.contents writer.new) result
+        (stamp_text boots time) }
 {
     let ok = put_number(writer, ok, u64::from(boots));
     let ok = put(writer, ok, b":");
@@ -79,7 +83,8 @@ fn put_stamp<W: Write>(writer: &mut W, ok: bool, boots: u32, time: u32) -> bool
 
 /// Writes a sample's kind and number.
 fn put_value<W: Write>(writer: &mut W, ok: bool, sample: &Sample) -> bool
-    ensures { AppendsIf (W.contents writer.old) ok (W.contents writer.new) result (value_text sample.now) }
+    ensures { AppendsIf (W.contents writer.old) ok (W.contents writer.new) result
+        (value_text sample.now) }
 {
     let ok = put(writer, ok, sample.kind().name().as_bytes());
     let ok = put(writer, ok, b"=");
@@ -99,7 +104,8 @@ fn put_rate<W: Write>(writer: &mut W, ok: bool, rate: Option<u128>) -> bool
 /// Writes a rate, given in thousandths, with three digits after the point, unless the writer failed
 /// before. Returns `true` if all is written so far.
 pub fn write_rate<W: Write>(writer: &mut W, ok: bool, rate: u128) -> bool
-    ensures { AppendsIf (W.contents writer.old) ok (W.contents writer.new) result (rate_text (Some rate)) }
+    ensures { AppendsIf (W.contents writer.old) ok (W.contents writer.new) result
+        (rate_text (Some rate)) }
 {
     let hundreds = 48 + (rate / 100 % 10) as u8;
     let tens = 48 + (rate / 10 % 10) as u8;
@@ -113,7 +119,8 @@ pub fn write_rate<W: Write>(writer: &mut W, ok: bool, rate: u128) -> bool
 #[tactic(auto, unfolding(crate::specs::Report::totals_text))]
 fn put_totals<W: Write>(writer: &mut W, ok: bool, totals: Totals) -> bool
     requires { 1000 * totals.delta < 2 ^ 128 }
-    ensures { AppendsIf (W.contents writer.old) ok (W.contents writer.new) result (totals_text totals) }
+    ensures { AppendsIf (W.contents writer.old) ok (W.contents writer.new) result
+        (totals_text totals) }
 {
     let ok = put(writer, ok, b" delta=");
     let ok = put_wide(writer, ok, totals.delta);
@@ -125,7 +132,8 @@ fn put_totals<W: Write>(writer: &mut W, ok: bool, totals: Totals) -> bool
 
 /// Writes the stamps of two samples.
 fn put_stamps<W: Write>(writer: &mut W, ok: bool, oldest: &Sample, newest: &Sample) -> bool
-    ensures { AppendsIf (W.contents writer.old) ok (W.contents writer.new) result (stamps_text oldest.now newest.now) }
+    ensures { AppendsIf (W.contents writer.old) ok (W.contents writer.new) result
+        (stamps_text oldest.now newest.now) }
 {
     let ok = put_stamp(writer, ok, oldest.boots(), oldest.time());
     let ok = put(writer, ok, b"..");
@@ -142,7 +150,8 @@ pub(crate) fn put_window<W: Write>(
 ) -> bool
     requires totals { totals ≡ sums.totals samples.now }
     requires rated { 1000 * totals.delta < 2 ^ 128 }
-    ensures { AppendsIf (W.contents writer.old) ok (W.contents writer.new) result (window_text samples.now) }
+    ensures { AppendsIf (W.contents writer.old) ok (W.contents writer.new) result
+        (window_text samples.now) }
 {
     let [oldest, others @ ..] = samples else {
         return put(writer, ok, b" n=0");
@@ -168,7 +177,8 @@ fn put_state<W: Write>(writer: &mut W, ok: bool, alarm: AlarmState) -> bool
 }
 
 fn put_raised<W: Write>(writer: &mut W, ok: bool, boots: u32, time: u32) -> bool
-    ensures { AppendsIf (W.contents writer.old) ok (W.contents writer.new) result (state_text (AlarmState.Raised boots time)) }
+    ensures { AppendsIf (W.contents writer.old) ok (W.contents writer.new) result
+        (state_text (AlarmState.Raised boots time)) }
 {
     let ok = put(writer, ok, b"raised@");
     put_stamp(writer, ok, boots, time)
@@ -177,7 +187,8 @@ fn put_raised<W: Write>(writer: &mut W, ok: bool, boots: u32, time: u32) -> bool
 /// Writes a rule's thresholds and its state over these samples.
 #[tactic(auto, unfolding(crate::specs::Report::alarm_text))]
 fn put_alarm<W: Write>(writer: &mut W, ok: bool, samples: &[Sample], rule: &Rule) -> bool
-    ensures { AppendsIf (W.contents writer.old) ok (W.contents writer.new) result (alarm_text samples.now rule.now) }
+    ensures { AppendsIf (W.contents writer.old) ok (W.contents writer.new) result
+        (alarm_text samples.now rule.now) }
 {
     let ok = put(writer, ok, b" alarm ");
     let ok = put_signed(writer, ok, i128::from(rule.rising()));
@@ -195,7 +206,8 @@ pub(crate) fn put_alarms<W: Write>(
     rules: &[Rule],
     instance: u16,
 ) -> bool
-    ensures { AppendsIf (W.contents writer.old) ok (W.contents writer.new) result (flat_map (alarm_text samples.now) (rules_on instance rules.now)) }
+    ensures { AppendsIf (W.contents writer.old) ok (W.contents writer.new) result
+        (flat_map (alarm_text samples.now) (rules_on instance rules.now)) }
 {
     let mut ok = ok;
     for rule in rules {
@@ -209,7 +221,8 @@ pub(crate) fn put_alarms<W: Write>(
 /// Writes the last line: how many instances and samples there are.
 #[tactic(auto, unfolding(crate::specs::Report::end_line))]
 pub fn write_end<W: Write>(writer: &mut W, ok: bool, instances: u64, samples: u64) -> bool
-    ensures { AppendsIf (W.contents writer.old) ok (W.contents writer.new) result (end_line instances samples) }
+    ensures { AppendsIf (W.contents writer.old) ok (W.contents writer.new) result
+        (end_line instances samples) }
 {
     let ok = put(writer, ok, b"end ");
     let ok = put_number(writer, ok, instances);

@@ -48,12 +48,14 @@ impl<'a> Model for Entry<'a> {
       alarms = alarms_from e.states.now e.instance e.samples.now 0 e.rules.now;
     } };
 
-    ghost invariant = { λ e. (e.totals ≡ sums.totals e.samples.now) × (1000 * e.totals.delta < 2 ^ 128) };
+    ghost invariant = { λ e. (e.totals ≡ sums.totals e.samples.now)
+        × (1000 * e.totals.delta < 2 ^ 128) };
 }
 
 impl<'a> Entry<'a> {
-    /// An instance with its samples, the oldest first, their totals, and the rules on it: of these rules those that are on the
-    /// instance of this number. The state of each alarm is that over the samples.
+    /// An instance with its samples, the oldest first, their totals, and the rules on it: of these
+    /// rules those that are on the instance of this number. The state of each alarm is that over
+    /// the samples.
     pub fn new(
         engine: &'a [u8],
         name: &'a Oid,
@@ -126,8 +128,8 @@ impl<'a> Entry<'a> {
         Ok(rules)
     }
 
-    /// Returns the alarms of the rules on the instance, in their order: each with the state that was
-    /// announced, or, if none was, with that over the samples.
+    /// Returns the alarms of the rules on the instance, in their order: each with the state that
+    /// was announced, or, if none was, with that over the samples.
     ///
     /// # Errors
     /// `AllocError` if there is no memory for them.
@@ -171,7 +173,8 @@ fn alarm_of(samples: &[Sample], rule: &Rule, announced: Option<AlarmState>) -> A
 /// far.
 #[tactic(auto, unfolding(crate::specs::Report::entry_line))]
 pub fn write_entry<W: Write>(writer: &mut W, ok: bool, entry: &Entry) -> bool
-    ensures { AppendsIf (W.contents writer.old) ok (W.contents writer.new) result (entry_line entry.now) }
+    ensures { AppendsIf (W.contents writer.old) ok (W.contents writer.new) result
+        (entry_line entry.now) }
 {
     let ok = put_hex(writer, ok, entry.engine);
     let ok = put(writer, ok, b" ");
@@ -183,7 +186,8 @@ pub fn write_entry<W: Write>(writer: &mut W, ok: bool, entry: &Entry) -> bool
 /// `true` if all is written so far.
 #[tactic(auto, unfolding(crate::specs::Report::entry_rest))]
 pub fn write_rest<W: Write>(writer: &mut W, ok: bool, entry: &Entry) -> bool
-    ensures { AppendsIf (W.contents writer.old) ok (W.contents writer.new) result (entry_rest entry.now) }
+    ensures { AppendsIf (W.contents writer.old) ok (W.contents writer.new) result
+        (entry_rest entry.now) }
 {
     let ok = put_window(writer, ok, entry.samples, entry.totals);
     let ok = put_alarms(writer, ok, entry.samples, entry.rules, entry.instance);
@@ -196,7 +200,8 @@ pub fn write_rest<W: Write>(writer: &mut W, ok: bool, entry: &Entry) -> bool
 /// the numbers of instances and samples. It allocates nothing. A writer that fails, or that takes
 /// nothing, has got a beginning of the report: `WriteFailed`.
 pub fn write_report<W: Write>(board: &Board, writer: &mut W) -> Result<(), ReportFault>
-    ensures { AppendsResult (W.contents writer.old) (W.contents writer.new) result (report board.now.watch (window_of board.now)) }
+    ensures { AppendsResult (W.contents writer.old) (W.contents writer.new) result
+        (report board.now.watch (window_of board.now)) }
 {
     let ok = write_lines(board, writer);
     let instances = board.watch().instances().len() as u64;
@@ -236,7 +241,8 @@ fn entry_of<'a>(
     watched: &'a Watched,
 ) -> Entry<'a>
     requires { i < length board.now.watch.instances }
-    ensures { result ≡ announced_entry states.now board.now.watch.rules (window_of board.now) i watched.now }
+    ensures { result ≡ announced_entry states.now board.now.watch.rules (window_of board.now) i
+        watched.now }
 {
     let instance = &watched.instance;
     Entry {
@@ -256,14 +262,15 @@ fn entry_of<'a>(
 /// # Errors
 /// `AllocError` if there is no memory for it.
 pub fn entries_of(alloc: Global, board: &Board) -> Result<Vec<Entry<'_>>, AllocError>
-    ensures { IfOk result (λ es. es.items ≡ entries_from board.now.watch.rules (window_of board.now) 0 board.now.watch.instances) }
+    ensures { IfOk result (λ es. es.items ≡ entries_from board.now.watch.rules (window_of board.now)
+        0 board.now.watch.instances) }
 {
     announced_entries(alloc, board, &[])
 }
 
-/// What a report says of each instance of a board, in their order, by the states of its rules' alarms
-/// that were announced, in the order of the watch's rules. A rule without one has the state over its
-/// window.
+/// What a report says of each instance of a board, in their order, by the states of its rules'
+/// alarms that were announced, in the order of the watch's rules. A rule without one has the state
+/// over its window.
 ///
 /// # Errors
 /// `AllocError` if there is no memory for it.
@@ -272,7 +279,8 @@ pub fn announced_entries<'a>(
     board: &'a Board,
     states: &'a [AlarmState],
 ) -> Result<Vec<Entry<'a>>, AllocError>
-    ensures { IfOk result (λ es. es.items ≡ announced_from states.now board.now.watch.rules (window_of board.now) 0 board.now.watch.instances) }
+    ensures { IfOk result (λ es. es.items ≡ announced_from states.now board.now.watch.rules
+        (window_of board.now) 0 board.now.watch.instances) }
 {
     let instances = board.watch().instances();
     let mut found = Vec::with_capacity(alloc, instances.len())?;
@@ -284,7 +292,8 @@ pub fn announced_entries<'a>(
 
 /// How many samples the windows of a board hold.
 fn count_samples(board: &Board) -> u64
-    ensures { result ≡ samples_in (entries_from board.now.watch.rules (window_of board.now) 0 board.now.watch.instances) }
+    ensures { result ≡ samples_in (entries_from board.now.watch.rules (window_of board.now) 0
+        board.now.watch.instances) }
 {
     let mut count = 0;
     for i in 0..board.watch().instances().len() {

@@ -19,8 +19,8 @@ pub(crate) fn put<W: Write>(writer: &mut W, ok: bool, octets: &[u8]) -> bool
     send(writer, octets) >= octets.len()
 }
 
-/// Writes the octets, and says how many were taken: all, or those before the writer failed or took nothing. An interrupted write is
-/// tried again; the turns are counted, so that the loop ends.
+/// Writes the octets, and says how many were taken: all, or those before the writer failed or took
+/// nothing. An interrupted write is tried again; the turns are counted, so that the loop ends.
 fn send<W: Write>(writer: &mut W, octets: &[u8]) -> usize
     ensures bound { result ≤ length octets.now }
     ensures taken { Appends (W.contents writer.old) (W.contents writer.new) (take result octets.now) }
@@ -61,7 +61,8 @@ pub(crate) fn put_wide<W: Write>(writer: &mut W, ok: bool, number: u128) -> bool
 
 /// Writes a number in decimal, with its sign where it is below 0.
 pub(crate) fn put_signed<W: Write>(writer: &mut W, ok: bool, number: i128) -> bool
-    ensures { AppendsIf (W.contents writer.old) ok (W.contents writer.new) result (signed_decimal number) }
+    ensures { AppendsIf (W.contents writer.old) ok (W.contents writer.new) result
+        (signed_decimal number) }
 {
     let mut buffer = Buffer::new();
     put(writer, ok, buffer.format(number).as_bytes())

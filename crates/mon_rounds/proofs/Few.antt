@@ -7,9 +7,9 @@ use Rattle.std.proofs.lemmas.Bool.Decides.{Decides-and, Decides-eqb}
 use Rattle.std.proofs.lemmas.Slice.Eq.{bytes_eq-Decides}
 use Rattle.std.proofs.lemmas.List.{length-take}
 use Rattle.std.proofs.lemmas.List.Sums.{sum_by-cons}
-use Rattle.mon_reasons.specs.Latest.{datagrams_of, if_any, newest_of}
-use Rattle.mon_reasons.specs.declared.latest.Datagram.{Datagram}
-use Rattle.mon_reasons.specs.declared.latest.Latest.{Latest}
+use Rattle.mon_reasons.specs.NewestDatagrams.{datagrams_of, if_any, newest_of}
+use Rattle.mon_reasons.specs.declared.newest_datagrams.Datagram.{Datagram}
+use Rattle.mon_reasons.specs.declared.newest_datagrams.NewestDatagrams.{NewestDatagrams}
 use Rattle.mon_station.specs.ReadEvent.{OwnedEvent}
 use Rattle.mon_station.specs.declared.event.Event.TheVariants.{FromAgent, FromPeer}
 use Rattle.mon_station.specs.declared.running.SourceFault.{SourceFault}
@@ -21,7 +21,7 @@ use Rattle.mon_rounds.specs.Kept.{AreFew, Kept, KeepsGiven, KeepsNewest, count_a
 use Rattle.mon_rounds.specs.Next.{RoundState, after_polls, event_from, event_in_phase, may_time_out, next_event, save_if, share_at, stands_in}
 use Rattle.mon_rounds.specs.Order.{RoundEvent}
 use Rattle.mon_rounds.specs.declared.round.Phase.{Phase}
-use Rattle.mon_rounds.specs.declared.round.Phase.TheVariants.{Polling, Hearing, TimingOut, Sharing, Listening, Over, Resting, Rested}
+use Rattle.mon_rounds.specs.declared.round.Phase.TheVariants.{Polling, AwaitResponses, TimingOut, Sharing, AwaitConfirmations, Over, BetweenRounds, Rested}
 use Rattle.mon_station.specs.declared.event.Event.TheVariants.{Timeout}
 
 -- ---- equal addresses
@@ -140,7 +140,7 @@ few_in_all (d ∷ ds) targets few =
     omega (arith, rest, long)
 
 -- ---- what a call keeps
-pub kept_or_refused : {E : Type 0} (result : Result (Unit {0}) E) (most : ℕ) (d : Datagram) (old new : Latest) → 0 < most
+pub kept_or_refused : {E : Type 0} (result : Result (Unit {0}) E) (most : ℕ) (d : Datagram) (old new : NewestDatagrams) → 0 < most
     → OnOk result (new.datagrams.items ≡ newest_of d.from most (d ∷ old.datagrams.items)) → OnErr result (new.datagrams.items ≡ old.datagrams.items)
     → new.unkept ≡ failed_after result old.unkept → KeepsNewest most d (kept_in old) (kept_in new)
 kept_or_refused result zero d old new some kept refused counted = absurd (omega (arith, some))
@@ -179,12 +179,12 @@ polls_none r (Some id) k =
 
 phase_none : (r : RoundState) (phase : Phase) (oldest : Option ℕ) → gives_none r (event_in_phase phase r oldest)
 phase_none r (Polling target) oldest k = refl
-phase_none r Hearing oldest k = polls_none r oldest k
+phase_none r AwaitResponses oldest k = polls_none r oldest k
 phase_none r (TimingOut last) oldest k = polls_none r oldest k
 phase_none r (Sharing slot) oldest k = share_none r r.saving r.peers slot k
-phase_none r Listening oldest k = save_none r r.saving k
+phase_none r AwaitConfirmations oldest k = save_none r r.saving k
 phase_none r Over oldest k = refl
-phase_none r Resting oldest k = refl
+phase_none r BetweenRounds oldest k = refl
 phase_none r Rested oldest k = refl
 
 pub nothing_came : (r : RoundState) (oldest : Option ℕ) (event : Option OwnedEvent) (old new : Kept) → event ≡ option_map (λ e. with_octets e []) (next_event r oldest) → new ≡ old → KeepsGiven r (Ok event) old new

@@ -7,7 +7,7 @@ use Rattle.std.proofs.lemmas.List.Sums.{sum_by-append}
 use Rattle.std.proofs.lemmas.Option.{get_or_from_slice_get, same_Some, slice_get_within}
 use Rattle.mon_rounds.specs.declared.receiver.Wait.{Wait}
 use Rattle.mon_rounds.specs.declared.round.Phase.{Phase}
-use Rattle.mon_rounds.specs.declared.round.Phase.TheVariants.{Polling, Hearing, TimingOut, Sharing, Listening, Over, Resting, Rested}
+use Rattle.mon_rounds.specs.declared.round.Phase.TheVariants.{Polling, AwaitResponses, TimingOut, Sharing, AwaitConfirmations, Over, BetweenRounds, Rested}
 use Rattle.mon_rounds.specs.Next.{RoundState, event_in_phase, events_left, is_hearing, may_time_out, phase_ended, quiets_left, save_if, settled_phase, share_at, slot_after, timed_out}
 use Rattle.mon_rounds.specs.Order.{RoundEvent, AreHeardIn, AreRising, AreSoFar, HasListened, HasPolled, HasShared, HasTimedOut, IsDatagram, IsRound, datagrams_in, datagrams_of, polls_of, saved_by, shares_with, timeouts_of}
 use Rattle.mon_rounds.specs.Orderly.{IsOrderly, IsSaving, IsSharing, IsTiming}
@@ -140,13 +140,13 @@ pub shared_none : (n m : ℕ) (peers : List ℕ) (events : List RoundEvent) → 
 shared_none n m peers events polled = record { before = events; polled = polled; are = sym (append-nil events) }
 
 pub shared_so_far : (n m slot : ℕ) (peers : List ℕ) (saves : Bool) (phase : Phase) (events : List RoundEvent) → IsSharing phase slot → AreSoFar n m peers saves phase events → HasShared n m (take slot peers) events
-shared_so_far n m slot peers saves Hearing events at polled = subst (λ k. HasShared n m (take k peers) events) (sym at) (shared_none n m peers events polled)
+shared_so_far n m slot peers saves AwaitResponses events at polled = subst (λ k. HasShared n m (take k peers) events) (sym at) (shared_none n m peers events polled)
 shared_so_far n m slot peers saves (Sharing next) events at shared = subst (λ k. HasShared n m (take k peers) events) (sym at) shared.1
 shared_so_far n m slot peers saves (Polling t) events at so_far = elim at [ ]
 shared_so_far n m slot peers saves (TimingOut last) events at timed = subst (λ k. HasShared n m (take k peers) events) (sym at) (shared_none n m peers events (timed_all n m last events timed))
-shared_so_far n m slot peers saves Listening events at so_far = elim at [ ]
+shared_so_far n m slot peers saves AwaitConfirmations events at so_far = elim at [ ]
 shared_so_far n m slot peers saves Over events at so_far = elim at [ ]
-shared_so_far n m slot peers saves Resting events at so_far = elim at [ ]
+shared_so_far n m slot peers saves BetweenRounds events at so_far = elim at [ ]
 shared_so_far n m slot peers saves Rested events at so_far = elim at [ ]
 
 pub shared_more : (n m slot : ℕ) (peers : List ℕ) (p : ℕ) (events es : List RoundEvent) → HasShared n m (take slot peers) events → slice_get peers slot ≡ Some p → es ≡ events ++ Share p ∷ []
@@ -175,23 +175,23 @@ listened_more n m peers events es e listened is more = record {
 }
 
 pub listened_so_far : (n m : ℕ) (peers : List ℕ) (saves : Bool) (phase : Phase) (events : List RoundEvent) → IsSaving phase peers → AreSoFar n m peers saves phase events → HasListened n m peers events
-listened_so_far n m peers saves Hearing events none polled =
+listened_so_far n m peers saves AwaitResponses events none polled =
     listened_none n m peers events (subst (λ ps. HasShared n m ps events) (sym none) (shared_none n m [] events polled))
 listened_so_far n m peers saves (TimingOut last) events none timed =
     listened_none n m peers events (subst (λ ps. HasShared n m ps events) (sym none) (shared_none n m [] events (timed_all n m last events timed)))
-listened_so_far n m peers saves Listening events at listened = listened
+listened_so_far n m peers saves AwaitConfirmations events at listened = listened
 listened_so_far n m peers saves (Polling t) events at so_far = elim at [ ]
 listened_so_far n m peers saves (Sharing slot) events at so_far = elim at [ ]
 listened_so_far n m peers saves Over events at so_far = elim at [ ]
-listened_so_far n m peers saves Resting events at so_far = elim at [ ]
+listened_so_far n m peers saves BetweenRounds events at so_far = elim at [ ]
 listened_so_far n m peers saves Rested events at so_far = elim at [ ]
 
 -- ---- datagrams
 pub heard_more : (n m : ℕ) (peers : List ℕ) (saves : Bool) (phase : Phase) (events es : List RoundEvent) (e : RoundEvent) → is_hearing phase ≡ true → IsDatagram e
     → AreSoFar n m peers saves phase events → es ≡ events ++ e ∷ [] → AreSoFar n m peers saves phase es
-heard_more n m peers saves Hearing events es e at is so_far more = polled_more n m events es e so_far is more
-heard_more n m peers saves Listening events es e at is so_far more = listened_more n m peers events es e so_far is more
-heard_more n m peers saves Resting events es e at is so_far more = subst (λ l. All IsDatagram l) (sym more) (All-push IsDatagram events e so_far is)
+heard_more n m peers saves AwaitResponses events es e at is so_far more = polled_more n m events es e so_far is more
+heard_more n m peers saves AwaitConfirmations events es e at is so_far more = listened_more n m peers events es e so_far is more
+heard_more n m peers saves BetweenRounds events es e at is so_far more = subst (λ l. All IsDatagram l) (sym more) (All-push IsDatagram events e so_far is)
 heard_more n m peers saves (Polling target) events es e at is so_far more = absurd cc
 heard_more n m peers saves (TimingOut last) events es e at is so_far more = absurd cc
 heard_more n m peers saves (Sharing slot) events es e at is so_far more = absurd cc
@@ -216,7 +216,7 @@ after_poll room now r t w es orderly at next more same =
 
 -- the last target is polled
 pub after_last_poll : (room now : ℕ) (r : RoundState) (t : ℕ) (w : Wait) (es : List RoundEvent) → IsOrderly room r → r.phase ≡ Polling t → length r.targets ≤ t + 1
-    → es ≡ r.events ++ StartPoll t ∷ [] → now ≡ room → IsOrderly now (record r { phase = Hearing; wait = w; events = es })
+    → es ≡ r.events ++ StartPoll t ∷ [] → now ≡ room → IsOrderly now (record r { phase = AwaitResponses; wait = w; events = es })
 after_last_poll room now r t w es orderly at next more same =
     let so_far : AreSoFar (length r.targets) (r.tries - r.quiets) r.peers r.saving (Polling t) r.events = subst (λ p. AreSoFar (length r.targets) (r.tries - r.quiets) r.peers r.saving p r.events) at orderly.order in
     let left : events_left r.phase r ≡ length r.targets - t + length r.peers + 1 = ap (λ p. events_left p r) at in
@@ -233,39 +233,39 @@ after_last_poll room now r t w es orderly at next more same =
 
 -- polls are timed out, or may be
 timing_left : (r : RoundState) (phase : Phase) → IsTiming phase → events_left phase r ≡ length r.peers + 1
-timing_left r Hearing at = refl
+timing_left r AwaitResponses at = refl
 timing_left r (TimingOut last) at = refl
 timing_left r (Polling t) at = elim at [ ]
 timing_left r (Sharing slot) at = elim at [ ]
-timing_left r Listening at = elim at [ ]
+timing_left r AwaitConfirmations at = elim at [ ]
 timing_left r Over at = elim at [ ]
-timing_left r Resting at = elim at [ ]
+timing_left r BetweenRounds at = elim at [ ]
 timing_left r Rested at = elim at [ ]
 
 -- a quiet wait is used up, and there was one
 timed_so_far : (r : RoundState) (phase : Phase) (id : ℕ) (es : List RoundEvent) → IsTiming phase → timed_out phase < id → may_time_out phase r ≡ true → r.quiets ≤ r.tries
     → AreSoFar (length r.targets) (r.tries - r.quiets) r.peers r.saving phase r.events → es ≡ r.events ++ Timeout id ∷ []
     → HasTimedOut (length r.targets) (r.tries - quiets_left phase r.quiets) id es × (quiets_left phase r.quiets ≤ r.tries)
-timed_so_far r Hearing id es at lt may le so_far more =
+timed_so_far r AwaitResponses id es at lt may le so_far more =
     let both : (0 < r.timeouts) × (0 < r.quiets) = search rules in
     let some = both.1 in
     (timed_first (length r.targets) (r.tries - r.quiets) (r.tries - (r.quiets - 1)) id r.events es so_far (omega (arith, le, some)) lt more, omega (arith, le))
 timed_so_far r (TimingOut last) id es at lt may le so_far more = (timed_more (length r.targets) (r.tries - r.quiets) last id r.events es so_far lt more, le)
 timed_so_far r (Polling t) id es at lt may le so_far more = elim at [ ]
 timed_so_far r (Sharing slot) id es at lt may le so_far more = elim at [ ]
-timed_so_far r Listening id es at lt may le so_far more = elim at [ ]
+timed_so_far r AwaitConfirmations id es at lt may le so_far more = elim at [ ]
 timed_so_far r Over id es at lt may le so_far more = elim at [ ]
-timed_so_far r Resting id es at lt may le so_far more = elim at [ ]
+timed_so_far r BetweenRounds id es at lt may le so_far more = elim at [ ]
 timed_so_far r Rested id es at lt may le so_far more = elim at [ ]
 
 pub some_timeouts : (r : RoundState) (phase : Phase) → IsTiming phase → may_time_out phase r ≡ true → 0 < r.timeouts
-some_timeouts r Hearing at may = search rules
+some_timeouts r AwaitResponses at may = search rules
 some_timeouts r (TimingOut last) at may = search rules
 some_timeouts r (Polling t) at may = elim at [ ]
 some_timeouts r (Sharing slot) at may = elim at [ ]
-some_timeouts r Listening at may = elim at [ ]
+some_timeouts r AwaitConfirmations at may = elim at [ ]
 some_timeouts r Over at may = elim at [ ]
-some_timeouts r Resting at may = elim at [ ]
+some_timeouts r BetweenRounds at may = elim at [ ]
 some_timeouts r Rested at may = elim at [ ]
 
 -- a poll is timed out
@@ -300,22 +300,22 @@ settles room r more orderly = record {
     ordered (TimingOut last) true so_far = so_far
     ordered (TimingOut last) false so_far = timed_all (length r.targets) (r.tries - r.quiets) last r.events so_far
     ordered (Polling t) more so_far = so_far
-    ordered Hearing more so_far = so_far
+    ordered AwaitResponses more so_far = so_far
     ordered (Sharing slot) more so_far = so_far
-    ordered Listening more so_far = so_far
+    ordered AwaitConfirmations more so_far = so_far
     ordered Over more so_far = so_far
-    ordered Resting more so_far = so_far
+    ordered BetweenRounds more so_far = so_far
     ordered Rested more so_far = so_far
 
     left_alike : (phase : Phase) (more : Bool) → events_left (settled_phase phase more) (record r { phase = settled_phase r.phase more }) ≡ events_left phase r
     left_alike (TimingOut last) true = refl
     left_alike (TimingOut last) false = refl
     left_alike (Polling t) more = refl
-    left_alike Hearing more = refl
+    left_alike AwaitResponses more = refl
     left_alike (Sharing slot) more = refl
-    left_alike Listening more = refl
+    left_alike AwaitConfirmations more = refl
     left_alike Over more = refl
-    left_alike Resting more = refl
+    left_alike BetweenRounds more = refl
     left_alike Rested more = refl
 
 -- a settled round is orderly, if its phase is equal to the settled one
@@ -324,13 +324,13 @@ settles_as room r next more is orderly = subst (λ p. IsOrderly room (record r {
 
 -- how much is left while peers are offered something
 pub sharing_left : (r : RoundState) (phase : Phase) (slot : ℕ) → IsSharing phase slot → events_left phase r ≡ length r.peers - slot + 1
-sharing_left r Hearing slot at = omega (arith, at)
+sharing_left r AwaitResponses slot at = omega (arith, at)
 sharing_left r (TimingOut last) slot at = omega (arith, at)
 sharing_left r (Sharing next) slot at = omega (arith, at)
 sharing_left r (Polling t) slot at = elim at [ ]
-sharing_left r Listening slot at = elim at [ ]
+sharing_left r AwaitConfirmations slot at = elim at [ ]
 sharing_left r Over slot at = elim at [ ]
-sharing_left r Resting slot at = elim at [ ]
+sharing_left r BetweenRounds slot at = elim at [ ]
 sharing_left r Rested slot at = elim at [ ]
 
 -- a peer but the last is offered something
@@ -350,7 +350,7 @@ after_share room now r slot p w es orderly at found next more same =
 
 -- the last peer is offered something
 pub after_last_share : (room now : ℕ) (r : RoundState) (slot p : ℕ) (w : Wait) (es : List RoundEvent) → IsOrderly room r → IsSharing r.phase slot → slice_get r.peers slot ≡ Some p
-    → length r.peers ≤ slot + 1 → es ≡ r.events ++ Share p ∷ [] → now ≡ room → IsOrderly now (record r { phase = Listening; wait = w; events = es })
+    → length r.peers ≤ slot + 1 → es ≡ r.events ++ Share p ∷ [] → now ≡ room → IsOrderly now (record r { phase = AwaitConfirmations; wait = w; events = es })
 after_last_share room now r slot p w es orderly at found last more same =
     let shared = shared_so_far (length r.targets) (r.tries - r.quiets) slot r.peers r.saving r.phase r.events at orderly.order in
     let left = sharing_left r r.phase slot at in
@@ -367,13 +367,13 @@ after_last_share room now r slot p w es orderly at found last more same =
 
 -- something is left before a save
 pub saving_left : (r : RoundState) (phase : Phase) → IsSaving phase r.peers → 1 ≤ events_left phase r
-saving_left r Hearing none = omega arith
+saving_left r AwaitResponses none = omega arith
 saving_left r (TimingOut last) none = omega arith
-saving_left r Listening at = omega arith
+saving_left r AwaitConfirmations at = omega arith
 saving_left r (Polling t) at = elim at [ ]
 saving_left r (Sharing slot) at = elim at [ ]
 saving_left r Over at = elim at [ ]
-saving_left r Resting at = elim at [ ]
+saving_left r BetweenRounds at = elim at [ ]
 saving_left r Rested at = elim at [ ]
 
 -- all is saved
@@ -421,27 +421,27 @@ unsaved n m peers saves events listened few off = record {
 
 ended_so_far : (r : RoundState) (phase : Phase) → datagrams_in r.events ≤ 4096 → event_in_phase phase r None ≡ None
     → AreSoFar (length r.targets) (r.tries - r.quiets) r.peers r.saving phase r.events → AreSoFar (length r.targets) (r.tries - r.quiets) r.peers r.saving (phase_ended phase) r.events
-ended_so_far r Hearing few none so_far =
+ended_so_far r AwaitResponses few none so_far =
     let done = is_done r.saving r.peers none in
-    unsaved (length r.targets) (r.tries - r.quiets) r.peers r.saving r.events (listened_so_far (length r.targets) (r.tries - r.quiets) r.peers r.saving Hearing r.events done.0 so_far) few done.1
+    unsaved (length r.targets) (r.tries - r.quiets) r.peers r.saving r.events (listened_so_far (length r.targets) (r.tries - r.quiets) r.peers r.saving AwaitResponses r.events done.0 so_far) few done.1
 ended_so_far r (TimingOut last) few none so_far =
     let done = is_done r.saving r.peers none in
     unsaved (length r.targets) (r.tries - r.quiets) r.peers r.saving r.events (listened_so_far (length r.targets) (r.tries - r.quiets) r.peers r.saving (TimingOut last) r.events done.0 so_far) few done.1
-ended_so_far r Listening few none so_far = unsaved (length r.targets) (r.tries - r.quiets) r.peers r.saving r.events so_far few (saves_not r.saving none)
+ended_so_far r AwaitConfirmations few none so_far = unsaved (length r.targets) (r.tries - r.quiets) r.peers r.saving r.events so_far few (saves_not r.saving none)
 ended_so_far r (Polling t) few none so_far = absurd (let s : Some (StartPoll t) ≡ None = none in cc)
 ended_so_far r (Sharing slot) few none so_far = absurd (share_there r.saving r.peers slot so_far.0 none)
 ended_so_far r Over few none so_far = so_far
-ended_so_far r Resting few none so_far = so_far
+ended_so_far r BetweenRounds few none so_far = so_far
 ended_so_far r Rested few none so_far = so_far
 
 nothing_left : (phase : Phase) (r : RoundState) → events_left (phase_ended phase) r ≡ 0
-nothing_left Hearing r = refl
+nothing_left AwaitResponses r = refl
 nothing_left (TimingOut last) r = refl
-nothing_left Listening r = refl
+nothing_left AwaitConfirmations r = refl
 nothing_left (Polling t) r = refl
 nothing_left (Sharing slot) r = refl
 nothing_left Over r = refl
-nothing_left Resting r = refl
+nothing_left BetweenRounds r = refl
 nothing_left Rested r = refl
 
 -- the round, or the time between two, is over without a further event
@@ -478,12 +478,12 @@ after_arrival room now r e w es orderly at some is more same =
   where
     left_alike : (phase : Phase) → events_left phase (record r { wait = w; datagrams = r.datagrams - 1; events = es }) ≡ events_left phase r
     left_alike (Polling t) = refl
-    left_alike Hearing = refl
+    left_alike AwaitResponses = refl
     left_alike (TimingOut last) = refl
     left_alike (Sharing slot) = refl
-    left_alike Listening = refl
+    left_alike AwaitConfirmations = refl
     left_alike Over = refl
-    left_alike Resting = refl
+    left_alike BetweenRounds = refl
     left_alike Rested = refl
 
 -- ---- what is shared next
@@ -498,13 +498,13 @@ share_past saves (q ∷ peers) zero past = absurd cc
 share_past saves (q ∷ peers) (suc slot) past = share_past saves peers slot past
 
 pub slot_next : (phase : Phase) (slot : ℕ) → IsSharing phase slot → slot_after phase ≡ slot + 1
-slot_next Hearing slot at = omega (arith, at)
+slot_next AwaitResponses slot at = omega (arith, at)
 slot_next (TimingOut last) slot at = omega (arith, at)
 slot_next (Sharing next) slot at = omega (arith, at)
 slot_next (Polling t) slot at = elim at [ ]
-slot_next Listening slot at = elim at [ ]
+slot_next AwaitConfirmations slot at = elim at [ ]
 slot_next Over slot at = elim at [ ]
-slot_next Resting slot at = elim at [ ]
+slot_next BetweenRounds slot at = elim at [ ]
 slot_next Rested slot at = elim at [ ]
 
 -- ---- events after which the phase is equal to one that was chosen
@@ -513,7 +513,7 @@ pub polled_then : (room now : ℕ) (r : RoundState) (t : ℕ) (w : Wait) (es : L
 polled_then room now r t w es next orderly at is lt more same =
     subst (λ p. IsOrderly now (record r { phase = p; wait = w; events = es })) (sym is) (after_poll room now r t w es orderly at lt more same)
 
-pub polled_last : (room now : ℕ) (r : RoundState) (t : ℕ) (w : Wait) (es : List RoundEvent) (next : Phase) → IsOrderly room r → r.phase ≡ Polling t → next ≡ Hearing
+pub polled_last : (room now : ℕ) (r : RoundState) (t : ℕ) (w : Wait) (es : List RoundEvent) (next : Phase) → IsOrderly room r → r.phase ≡ Polling t → next ≡ AwaitResponses
     → length r.targets ≤ t + 1 → es ≡ r.events ++ StartPoll t ∷ [] → now ≡ room → IsOrderly now (record r { phase = next; wait = w; events = es })
 polled_last room now r t w es next orderly at is last more same =
     subst (λ p. IsOrderly now (record r { phase = p; wait = w; events = es })) (sym is) (after_last_poll room now r t w es orderly at last more same)
@@ -524,6 +524,6 @@ shared_then room now r slot p w es next orderly at found is lt more same =
     subst (λ q. IsOrderly now (record r { phase = q; wait = w; events = es })) (sym is) (after_share room now r slot p w es orderly at found lt more same)
 
 pub shared_last : (room now : ℕ) (r : RoundState) (slot p : ℕ) (w : Wait) (es : List RoundEvent) (next : Phase) → IsOrderly room r → IsSharing r.phase slot → slice_get r.peers slot ≡ Some p
-    → next ≡ Listening → length r.peers ≤ slot + 1 → es ≡ r.events ++ Share p ∷ [] → now ≡ room → IsOrderly now (record r { phase = next; wait = w; events = es })
+    → next ≡ AwaitConfirmations → length r.peers ≤ slot + 1 → es ≡ r.events ++ Share p ∷ [] → now ≡ room → IsOrderly now (record r { phase = next; wait = w; events = es })
 shared_last room now r slot p w es next orderly at found is last more same =
     subst (λ q. IsOrderly now (record r { phase = q; wait = w; events = es })) (sym is) (after_last_share room now r slot p w es orderly at found last more same)

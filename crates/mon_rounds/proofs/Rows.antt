@@ -1,7 +1,7 @@
 -- Rows of rounds with late datagrams.
 use Rattle.std.proofs.Common.{◌≡◌, ℕ, ◌+◌, ◌-◌, ◌^◌, ◌≤◌, Bool, true, false, List, [], ◌∷◌, refl, ap, ◌∙◌, arith}
 use Rattle.std.specs.Prelude.{◌==◌, min, if◌then◌else◌}
-use Rattle.mon_rounds.specs.Course.{counted_on}
+use Rattle.mon_rounds.specs.Totals.{counted_on}
 use Rattle.mon_rounds.specs.Freshness.{AreQuiet, begun_row, late_after, late_over, no_row, rounds_in, with_late}
 use Rattle.mon_rounds.specs.declared.late.LateRow.{LateRow}
 use Rattle.mon_rounds.specs.declared.round.Span.{Span}

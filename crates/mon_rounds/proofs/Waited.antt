@@ -12,7 +12,7 @@ use Rattle.mon_rounds.specs.declared.receiver.Arrival.TheVariants.{Datagram, Qui
 use Rattle.mon_rounds.specs.declared.receiver.Wait.{Wait}
 use Rattle.mon_rounds.specs.declared.receiver.Wait.TheVariants.{Begin, Renew, Rest}
 use Rattle.mon_rounds.specs.declared.round.Phase.{Phase}
-use Rattle.mon_rounds.specs.declared.round.Phase.TheVariants.{Polling, Hearing, TimingOut, Sharing, Listening, Over, Resting, Rested}
+use Rattle.mon_rounds.specs.declared.round.Phase.TheVariants.{Polling, AwaitResponses, TimingOut, Sharing, AwaitConfirmations, Over, BetweenRounds, Rested}
 use Rattle.mon_rounds.specs.Next.{LeadsTo, Receives, RoundState, after_datagram, after_event, after_failure, after_polls, event_in_phase, is_hearing, is_taken, listens_to, may_time_out, must_receive, next_event, next_wait, phase_ended, quiets_left, save_if, settled, settled_phase, share_at, slot_after, wait_due, wait_in, waits_left}
 use Rattle.mon_rounds.specs.Order.{RoundEvent}
 use Rattle.mon_rounds.specs.Reception.{AreTimely, EachLasts, HasWaits, Lasts, Reception, Timed, begins_in, begins_of, end_of, time_in}
@@ -21,12 +21,12 @@ use Rattle.mon_rounds.specs.Reception.{AreTimely, EachLasts, HasWaits, Lasts, Re
 -- without the one that is due
 abbrev rest_left : Phase → RoundState → ℕ
 rest_left (Polling target) r = 1 + (r.quiets + listens_to r.peers)
-rest_left Hearing r = r.quiets + listens_to r.peers
+rest_left AwaitResponses r = r.quiets + listens_to r.peers
 rest_left (TimingOut last) r = 1 + (r.quiets + listens_to r.peers)
 rest_left (Sharing slot) r = 1
-rest_left Listening r = 0
+rest_left AwaitConfirmations r = 0
 rest_left Over r = 0
-rest_left Resting r = 0
+rest_left BetweenRounds r = 0
 rest_left Rested r = 0
 
 -- after an event, or after none
@@ -35,12 +35,12 @@ left_after r n = waits_left (after_event r n).phase (after_event r n)
 
 ended_left : (r : RoundState) (phase : Phase) → waits_left (phase_ended phase) (after_event r None) ≡ 0
 ended_left r (Polling target) = refl
-ended_left r Hearing = refl
+ended_left r AwaitResponses = refl
 ended_left r (TimingOut last) = refl
 ended_left r (Sharing slot) = refl
-ended_left r Listening = refl
+ended_left r AwaitConfirmations = refl
 ended_left r Over = refl
-ended_left r Resting = refl
+ended_left r BetweenRounds = refl
 ended_left r Rested = refl
 
 save_left : (r : RoundState) (saves : Bool) → left_after r (save_if saves) ≡ 0
@@ -48,7 +48,7 @@ save_left r true = refl
 save_left r false = ended_left r r.phase
 
 share_one : (r : RoundState) (p : ℕ) → left_after r (Some (Share p)) ≡ 1
-share_one r p = elim (nat_lt (slot_after r.phase) (length r.peers)) as (λ b. waits_left (cond b (Sharing (slot_after r.phase)) Listening) (after_event r (Some (Share p))) ≡ 1) [ true ↦ refl | false ↦ refl ]
+share_one r p = elim (nat_lt (slot_after r.phase) (length r.peers)) as (λ b. waits_left (cond b (Sharing (slot_after r.phase)) AwaitConfirmations) (after_event r (Some (Share p))) ≡ 1) [ true ↦ refl | false ↦ refl ]
 
 share_left : (r : RoundState) (saves : Bool) (peers : List ℕ) (slot : ℕ) → left_after r (share_at saves peers slot) ≤ 1
 share_left r saves [] slot = let none = save_left r saves in omega (arith, none)
@@ -67,13 +67,13 @@ polls_left r (Some id) k shares times = timed (may_time_out r.phase r) refl
     timed true is = times is
     timed false is = let first = share_first r r.saving r.peers in omega (arith, first, shares)
 
-some_quiets : (r : RoundState) → may_time_out Hearing r ≡ true → 0 < r.quiets
+some_quiets : (r : RoundState) → may_time_out AwaitResponses r ≡ true → 0 < r.quiets
 some_quiets r may = let both : (0 < r.timeouts) × (0 < r.quiets) = search rules in both.1
 
 event_left : (r : RoundState) (oldest : Option ℕ) (phase : Phase) → r.phase ≡ phase → left_after r (event_in_phase phase r oldest) ≤ rest_left phase r
 event_left r oldest (Polling target) is =
-    elim (nat_lt (target + 1) (length r.targets)) as (λ b. waits_left (cond b (Polling (target + 1)) Hearing) (after_event r (Some (StartPoll target))) ≤ 1 + (r.quiets + listens_to r.peers)) [ true ↦ omega arith | false ↦ omega arith ]
-event_left r oldest Hearing is =
+    elim (nat_lt (target + 1) (length r.targets)) as (λ b. waits_left (cond b (Polling (target + 1)) AwaitResponses) (after_event r (Some (StartPoll target))) ≤ 1 + (r.quiets + listens_to r.peers)) [ true ↦ omega arith | false ↦ omega arith ]
+event_left r oldest AwaitResponses is =
     let times : may_time_out r.phase r ≡ true → 1 + (quiets_left r.phase r.quiets + listens_to r.peers) ≤ r.quiets + listens_to r.peers =
     subst (λ p. may_time_out p r ≡ true → 1 + (quiets_left p r.quiets + listens_to r.peers) ≤ r.quiets + listens_to r.peers) (sym is)
     (λ may. let some = some_quiets r may in omega (arith, some)) in
@@ -83,9 +83,9 @@ event_left r oldest (TimingOut last) is =
     subst (λ p. may_time_out p r ≡ true → 1 + (quiets_left p r.quiets + listens_to r.peers) ≤ 1 + (r.quiets + listens_to r.peers)) (sym is) (λ may. omega arith) in
     polls_left r oldest (1 + (r.quiets + listens_to r.peers)) (omega arith) times
 event_left r oldest (Sharing slot) is = share_left r r.saving r.peers slot
-event_left r oldest Listening is = let none = save_left r r.saving in omega (arith, none)
+event_left r oldest AwaitConfirmations is = let none = save_left r r.saving in omega (arith, none)
 event_left r oldest Over is = let none = ended_left r r.phase in omega (arith, none)
-event_left r oldest Resting is = let none = ended_left r r.phase in omega (arith, none)
+event_left r oldest BetweenRounds is = let none = ended_left r r.phase in omega (arith, none)
 event_left r oldest Rested is = let none = ended_left r r.phase in omega (arith, none)
 
 next_left : (r : RoundState) (oldest : Option ℕ) → left_after r (next_event r oldest) ≤ rest_left r.phase r
@@ -93,19 +93,19 @@ next_left r oldest = event_left r oldest r.phase refl
 
 rest_within : (r : RoundState) (phase : Phase) → rest_left phase r ≤ waits_left phase r
 rest_within r (Polling target) = omega arith
-rest_within r Hearing = omega arith
+rest_within r AwaitResponses = omega arith
 rest_within r (TimingOut last) = omega arith
 rest_within r (Sharing slot) = omega arith
-rest_within r Listening = omega arith
+rest_within r AwaitConfirmations = omega arith
 rest_within r Over = omega arith
-rest_within r Resting = omega arith
+rest_within r BetweenRounds = omega arith
 rest_within r Rested = omega arith
 
 -- where datagrams are received, the one that is due is left too
 heard_left : (r : RoundState) (phase : Phase) → is_hearing phase ≡ true → waits_left phase r ≡ begins_of r.wait + rest_left phase r
-heard_left r Hearing at = refl
-heard_left r Listening at = omega arith
-heard_left r Resting at = omega arith
+heard_left r AwaitResponses at = refl
+heard_left r AwaitConfirmations at = omega arith
+heard_left r BetweenRounds at = omega arith
 heard_left r (Polling target) at = absurd (let no : false ≡ true = at in cc)
 heard_left r (TimingOut last) at = absurd (let no : false ≡ true = at in cc)
 heard_left r (Sharing slot) at = absurd (let no : false ≡ true = at in cc)
@@ -119,12 +119,12 @@ due_begins Rest last = refl
 
 in_begins : (phase : Phase) → begins_of (wait_in phase) ≡ 0
 in_begins (Polling target) = refl
-in_begins Hearing = refl
+in_begins AwaitResponses = refl
 in_begins (TimingOut last) = refl
 in_begins (Sharing slot) = refl
-in_begins Listening = refl
+in_begins AwaitConfirmations = refl
 in_begins Over = refl
-in_begins Resting = refl
+in_begins BetweenRounds = refl
 in_begins Rested = refl
 
 -- what is due, if something must be received
@@ -145,9 +145,9 @@ arrived_uses r new oldest None result at leads =
     subst (λ (n : RoundState). waits_left n.phase n ≤ rest_left r.phase r) (sym leads.after) (let left = heard_left (after_failure r) r.phase at in same_left r.phase at left)
   where
     same_left : (phase : Phase) → is_hearing phase ≡ true → waits_left phase (after_failure r) ≡ begins_of Rest + rest_left phase (after_failure r) → waits_left phase (after_failure r) ≤ rest_left phase r
-    same_left Hearing at left = omega arith
-    same_left Listening at left = omega arith
-    same_left Resting at left = omega arith
+    same_left AwaitResponses at left = omega arith
+    same_left AwaitConfirmations at left = omega arith
+    same_left BetweenRounds at left = omega arith
     same_left (Polling target) at left = omega arith
     same_left (TimingOut last) at left = omega arith
     same_left (Sharing slot) at left = omega arith
@@ -159,9 +159,9 @@ arrived_uses r new oldest (Some (Datagram from octets)) result at leads =
     subst (λ (n : RoundState). waits_left n.phase n ≤ rest_left r.phase r) (sym leads.after) (none_left r.phase at (in_begins r.phase))
   where
     none_left : (phase : Phase) → is_hearing phase ≡ true → begins_of (after_datagram r from).wait ≡ 0 → waits_left phase (after_datagram r from) ≤ rest_left phase r
-    none_left Hearing at none = omega (arith, none)
-    none_left Listening at none = omega (arith, none)
-    none_left Resting at none = omega (arith, none)
+    none_left AwaitResponses at none = omega (arith, none)
+    none_left AwaitConfirmations at none = omega (arith, none)
+    none_left BetweenRounds at none = omega (arith, none)
     none_left (Polling target) at none = omega arith
     none_left (TimingOut last) at none = omega arith
     none_left (Sharing slot) at none = omega arith
@@ -191,17 +191,17 @@ settled_left : (r : RoundState) (phase : Phase) (more : Bool) → waits_left (se
 settled_left r (TimingOut last) true = omega arith
 settled_left r (TimingOut last) false = let one = begins_one r.wait in omega (arith, one)
 settled_left r (Polling target) more = omega arith
-settled_left r Hearing more = omega arith
+settled_left r AwaitResponses more = omega arith
 settled_left r (Sharing slot) more = omega arith
-settled_left r Listening more = omega arith
+settled_left r AwaitConfirmations more = omega arith
 settled_left r Over more = omega arith
-settled_left r Resting more = omega arith
+settled_left r BetweenRounds more = omega arith
 settled_left r Rested more = omega arith
 
 -- ---- how long each wait is
 -- a wait that begins lasts so long, or none begins any more
 abbrev pub Keeps : ℕ → RoundState → Type 0
-Keeps m r = (r.phase ≡ Rested) ⊎ (Lasts m r.wait × ((r.wait_ms ≡ m) ⊎ (r.phase ≡ Resting)))
+Keeps m r = (r.phase ≡ Rested) ⊎ (Lasts m r.wait × ((r.wait_ms ≡ m) ⊎ (r.phase ≡ BetweenRounds)))
 
 due_lasts : (m : ℕ) (w : Wait) (last : Option Answer) → Lasts m w → Lasts m (wait_due w last)
 due_lasts m (Begin milliseconds) last lasts = lasts
@@ -210,12 +210,12 @@ due_lasts m Rest last lasts = tt
 
 in_lasts : (m : ℕ) (phase : Phase) → Lasts m (wait_in phase)
 in_lasts m (Polling target) = tt
-in_lasts m Hearing = tt
+in_lasts m AwaitResponses = tt
 in_lasts m (TimingOut last) = tt
 in_lasts m (Sharing slot) = tt
-in_lasts m Listening = tt
+in_lasts m AwaitConfirmations = tt
 in_lasts m Over = tt
-in_lasts m Resting = tt
+in_lasts m BetweenRounds = tt
 in_lasts m Rested = tt
 
 next_keeps : (m : ℕ) (r : RoundState) (oldest : Option ℕ) (n : Option RoundEvent) → next_event r oldest ≡ n → Keeps m r → Keeps m (after_event r n)

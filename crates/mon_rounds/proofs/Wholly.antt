@@ -13,7 +13,7 @@ use Rattle.mon_udp.specs.declared.addr.Addr.{Addr}
 use Rattle.mon_rounds.specs.declared.receiver.Arrival.{Arrival}
 use Rattle.mon_rounds.specs.declared.receiver.Arrival.TheVariants.{Datagram, Quiet}
 use Rattle.mon_rounds.specs.declared.round.Phase.{Phase}
-use Rattle.mon_rounds.specs.declared.round.Phase.TheVariants.{Polling, Hearing, TimingOut, Sharing, Listening, Over, Resting, Rested}
+use Rattle.mon_rounds.specs.declared.round.Phase.TheVariants.{Polling, AwaitResponses, TimingOut, Sharing, AwaitConfirmations, Over, BetweenRounds, Rested}
 use Rattle.mon_rounds.specs.declared.round.Span.{Span}
 use Rattle.mon_rounds.specs.declared.round.Span.TheVariants.{Round, Between}
 use Rattle.mon_rounds.specs.Given.{AreGiven, IsGiven, with_octets}
@@ -52,13 +52,13 @@ given_none events given are = subst (AreGiven events) (sym (append-nil given)) a
 
 -- the time between two rounds
 abbrev is_rest : Phase → Bool
-is_rest Resting = true
+is_rest BetweenRounds = true
 is_rest Rested = true
 is_rest (Polling target) = false
-is_rest Hearing = false
+is_rest AwaitResponses = false
 is_rest (TimingOut last) = false
 is_rest (Sharing slot) = false
-is_rest Listening = false
+is_rest AwaitConfirmations = false
 is_rest Over = false
 
 -- what a call leaves
@@ -77,12 +77,12 @@ rest_after r n = is_rest (after_event r n).phase
 
 ended_rest : (phase : Phase) → is_rest (phase_ended phase) ≡ is_rest phase
 ended_rest (Polling target) = refl
-ended_rest Hearing = refl
+ended_rest AwaitResponses = refl
 ended_rest (TimingOut last) = refl
 ended_rest (Sharing slot) = refl
-ended_rest Listening = refl
+ended_rest AwaitConfirmations = refl
 ended_rest Over = refl
-ended_rest Resting = refl
+ended_rest BetweenRounds = refl
 ended_rest Rested = refl
 
 save_rest : (r : RoundState) (saves : Bool) → is_rest r.phase ≡ false → rest_after r (save_if saves) ≡ false
@@ -91,7 +91,7 @@ save_rest r false round = ended_rest r.phase ∙ round
 
 share_rest : (r : RoundState) (saves : Bool) (peers : List ℕ) (slot : ℕ) → is_rest r.phase ≡ false → rest_after r (share_at saves peers slot) ≡ false
 share_rest r saves [] slot round = save_rest r saves round
-share_rest r saves (p ∷ peers) zero round = elim (nat_lt (slot_after r.phase) (length r.peers)) as (λ b. is_rest (cond b (Sharing (slot_after r.phase)) Listening) ≡ false) [ true ↦ refl | false ↦ refl ]
+share_rest r saves (p ∷ peers) zero round = elim (nat_lt (slot_after r.phase) (length r.peers)) as (λ b. is_rest (cond b (Sharing (slot_after r.phase)) AwaitConfirmations) ≡ false) [ true ↦ refl | false ↦ refl ]
 share_rest r saves (p ∷ peers) (suc slot) round = share_rest r saves peers slot round
 
 -- after the polls a round goes on
@@ -106,13 +106,13 @@ polls_rest r (Some id) round = timed (may_time_out r.phase r)
 -- the phase that the next event of a round leaves, or its end
 event_rest : (r : RoundState) (oldest : Option ℕ) (phase : Phase) → r.phase ≡ phase → rest_after r (event_in_phase phase r oldest) ≡ is_rest phase
 event_rest r oldest (Polling target) is =
-    elim (nat_lt (target + 1) (length r.targets)) as (λ b. is_rest (cond b (Polling (target + 1)) Hearing) ≡ false) [ true ↦ refl | false ↦ refl ]
-event_rest r oldest Hearing is = polls_rest r oldest (ap is_rest is)
+    elim (nat_lt (target + 1) (length r.targets)) as (λ b. is_rest (cond b (Polling (target + 1)) AwaitResponses) ≡ false) [ true ↦ refl | false ↦ refl ]
+event_rest r oldest AwaitResponses is = polls_rest r oldest (ap is_rest is)
 event_rest r oldest (TimingOut last) is = polls_rest r oldest (ap is_rest is)
 event_rest r oldest (Sharing slot) is = share_rest r r.saving r.peers slot (ap is_rest is)
-event_rest r oldest Listening is = save_rest r r.saving (ap is_rest is)
+event_rest r oldest AwaitConfirmations is = save_rest r r.saving (ap is_rest is)
 event_rest r oldest Over is = ended_rest r.phase ∙ ap is_rest is
-event_rest r oldest Resting is = ended_rest r.phase ∙ ap is_rest is
+event_rest r oldest BetweenRounds is = ended_rest r.phase ∙ ap is_rest is
 event_rest r oldest Rested is = ended_rest r.phase ∙ ap is_rest is
 
 -- the next event of the round, if it has one
@@ -152,11 +152,11 @@ settled_rest : (phase : Phase) (more : Bool) → is_rest (settled_phase phase mo
 settled_rest (TimingOut last) true = refl
 settled_rest (TimingOut last) false = refl
 settled_rest (Polling target) more = refl
-settled_rest Hearing more = refl
+settled_rest AwaitResponses more = refl
 settled_rest (Sharing slot) more = refl
-settled_rest Listening more = refl
+settled_rest AwaitConfirmations more = refl
 settled_rest Over more = refl
-settled_rest Resting more = refl
+settled_rest BetweenRounds more = refl
 settled_rest Rested more = refl
 
 call_left : (r new : RoundState) (open_polls : Open) (last : Option Answer) (log : List Reception) (result : Result (Option OwnedEvent) SourceFault) → GivesNext r open_polls last log result new → IsLeft r new result

@@ -26,12 +26,15 @@ IsSentTo Sent (Some to) octets = Sent octets to
 
 -- what is received if these octets are in the buffer, this many of them, from this address
 abbrev pub IsArrival : List ℕ → ℕ → SocketAddr → Arrival → Type 0
-IsArrival room len from (Datagram address octets) = (addr_in from ≡ Some address) × (octets ≡ take len room)
+IsArrival room len from (Datagram address octets) = (addr_in from ≡ Some address)
+    × (octets ≡ take len room)
 IsArrival room len from Quiet = ⊥
 
 -- What is received in a wait: a datagram that the system put into this room while the wait was on,
 -- or nothing if the wait is over.
-abbrev pub IsGot : (Told : Instant → Type 0) (Silent : ℕ → Type 0) (Received : List ℕ → ℕ → SocketAddr → Type 0) → List ℕ → Timer → Arrival → Type 0
+abbrev pub IsGot : (Told : Instant → Type 0) (Silent : ℕ → Type 0)
+    (Received : List ℕ → ℕ → SocketAddr → Type 0) → List ℕ → Timer → Arrival → Type 0
 IsGot Told Silent Received room t (Datagram address octets) =
-    IsOn Told t × (len : ℕ) × (from : SocketAddr) × Received room len from × IsArrival room len from (Datagram address octets)
+    IsOn Told t × (len : ℕ) × (from : SocketAddr) × Received room len from
+    × IsArrival room len from (Datagram address octets)
 IsGot Told Silent Received room t Quiet = IsOver Told Silent t

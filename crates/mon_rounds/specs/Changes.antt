@@ -1,17 +1,21 @@
 -- What is wrong with targets, peers and instances, and what changed in that: each change is said
 -- once.
-use Rattle.std.specs.Prelude.{ℕ, zero, suc, ◌+◌, ◌==◌, Bool, true, false, ◌||◌, nat_le, nat_lt, if◌then◌else◌, List, [], ◌∷◌, ◌++◌, Option, Some, None, get_or, map, slice_get}
+use Rattle.std.specs.Prelude.{ℕ, zero, suc, ◌+◌, ◌==◌, Bool, true, false, ◌||◌, nat_le, nat_lt}
+use Rattle.std.specs.Prelude.{if◌then◌else◌, List, [], ◌∷◌, ◌++◌, Option, Some, None, get_or, map}
+use Rattle.std.specs.Prelude.{slice_get}
 use Rattle.std.specs.Global.{Vec}
 use Rattle.std.specs.Str.{bytes_eq}
 use Rattle.mon_poller.specs.declared.fault.ResponseFault.TheVariants as response
-use Rattle.mon_reasons.specs.Latest.{other_engine}
-use Rattle.mon_reasons.specs.declared.latest.Datagram.{Datagram}
+use Rattle.mon_reasons.specs.NewestDatagrams.{other_engine}
+use Rattle.mon_reasons.specs.declared.newest_datagrams.Datagram.{Datagram}
 use Rattle.mon_station.specs.declared.fault.StationFault.{StationFault}
 use Rattle.mon_station.specs.declared.fault.StationFault.TheVariants as fault
 use Rattle.mon_rounds.specs.Freshness.{is_late}
 use Rattle.mon_rounds.specs.declared.changes.Change.{Change}
 use Rattle.mon_rounds.specs.declared.changes.Trouble.{Trouble}
-use Rattle.mon_rounds.specs.declared.changes.Trouble.TheVariants.{SilentTarget, OtherEngine, LateTarget, SilentPeer, OffersOften, StaleInstance}
+use Rattle.mon_rounds.specs.declared.changes.Trouble.TheVariants.{SilentTarget, OtherEngine}
+use Rattle.mon_rounds.specs.declared.changes.Trouble.TheVariants.{LateTarget, SilentPeer}
+use Rattle.mon_rounds.specs.declared.changes.Trouble.TheVariants.{OffersOften, StaleInstance}
 use Rattle.mon_rounds.specs.declared.changes.Troubles.{Troubles}
 use Rattle.mon_rounds.specs.declared.freshness.Freshness.{Freshness}
 use Rattle.mon_rounds.specs.declared.freshness.InstanceAge.{InstanceAge}
@@ -30,7 +34,15 @@ pub record Told : Type 0 where
 
 -- nothing is wrong
 abbrev pub no_troubles : Told
-no_troubles = record { silent_targets = []; other_engines = []; late_targets = []; silent_peers = []; often_peers = []; stale_instances = [] }
+no_troubles = record {
+  silent_targets = [];
+  other_engines = [];
+  late_targets = [];
+  silent_peers =
+      [];
+  often_peers = [];
+  stale_instances = [];
+}
 
 -- what was said
 abbrev pub told_by : Troubles → Told
@@ -57,8 +69,8 @@ is_of_another _ = false
 abbrev pub is_other : TargetAge → Bool
 is_other t = is_of_another t.refusal
 
--- the engine that answers in place of a target's: that of its newest message with another one, if its
--- last response was of another one
+-- the engine that answers in place of a target's: that of its newest message with another one, if
+-- its last response was of another one
 abbrev pub other_if : List Datagram → TargetAge → (engine : List ℕ) → Option (List ℕ)
 other_if latest t engine = if is_other t then other_engine t.address engine latest else None
 
@@ -71,7 +83,8 @@ other_at latest _ _ = None
 abbrev pub others_of : List Datagram → List TargetAge → List (Vec ℕ) → ℕ → List (Option (List ℕ))
 others_of latest targets engines zero = []
 others_of latest targets engines (suc n) =
-    others_of latest targets engines n ++ (other_at latest (slice_get targets n) (slice_get engines n) ∷ [])
+    others_of latest targets engines n ++ (other_at latest (slice_get targets n)
+    (slice_get engines n) ∷ [])
 
 -- whether a peer is silent: nothing came from it in the last rounds, as many as the limit
 abbrev pub is_lost : ℕ → PeerAge → Bool
@@ -96,7 +109,8 @@ answers targets (Some number) = is_up (slice_get targets number)
 -- in the last rounds, as many as the limit; else from when the target that is polled for it
 -- answers.
 abbrev pub is_stale : ℕ → List Bool → List TargetAge → InstanceAge → Bool
-is_stale limit said targets i = if nat_lt i.rounds limit then false else get_or said i.number false || answers targets i.target
+is_stale limit said targets i = if nat_lt i.rounds limit then false
+    else get_or said i.number false || answers targets i.target
 
 -- what is wrong now, where this was said before and these engines answer in place of others
 abbrev pub troubles_after : ℕ → Told → (others : List (Option (List ℕ))) → Freshness → Told
@@ -114,21 +128,33 @@ troubles_after limit told others f = record {
 abbrev pub change_at : Trouble → ℕ → Bool → Bool → List Change
 change_at trouble number true true = []
 change_at trouble number false false = []
-change_at trouble number false true = record { trouble = trouble; number = number; begins = true } ∷ []
-change_at trouble number true false = record { trouble = trouble; number = number; begins = false } ∷ []
+change_at trouble number false true = record { trouble = trouble; number = number; begins = true }
+    ∷ []
+change_at trouble number true false = record { trouble = trouble; number = number; begins = false }
+    ∷ []
 
 -- of another engine that answers: none where it is the one before, and else it begins, or ends if
 -- there is none any more
 abbrev pub engine_change : ℕ → Option (List ℕ) → Option (List ℕ) → List Change
 engine_change number None None = []
-engine_change number None (Some is) = record { trouble = OtherEngine; number = number; begins = true } ∷ []
-engine_change number (Some was) None = record { trouble = OtherEngine; number = number; begins = false } ∷ []
+engine_change number None (Some is) = record {
+  trouble = OtherEngine;
+  number = number;
+  begins = true;
+} ∷ []
+engine_change number (Some was) None = record {
+  trouble = OtherEngine;
+  number = number;
+  begins =
+      false;
+} ∷ []
 engine_change number (Some was) (Some is) = if bytes_eq was is then []
     else (record { trouble = OtherEngine; number = number; begins = true } ∷ [])
 
--- the changes between what was said and what is, by numbers from this one on; of one of which nothing
--- was said this was so before
-abbrev pub changes_by : {A : Type 0} → (ℕ → A → A → List Change) → A → ℕ → List A → List A → List Change
+-- the changes between what was said and what is, by numbers from this one on; of one of which
+-- nothing was said this was so before
+abbrev pub changes_by : {A : Type 0} → (ℕ → A → A → List Change) → A → ℕ → List A → List A
+    → List Change
 changes_by change nothing n said [] = []
 changes_by change nothing n said (is ∷ now) =
     change n (get_or said n nothing) is ++ changes_by change nothing (n + 1) said now

@@ -1,5 +1,7 @@
 -- How long ago targets answered, peers sent something and instances had a new sample.
-use Rattle.std.specs.Prelude.{ℕ, ◌≡◌, ◌≤◌, ◌+◌, ◌-◌, ◌/◌, ◌^◌, ◌==◌, ◌&&◌, min, nat_le, nat_lt, Bool, true, false, not, ◌||◌, if◌then◌else◌, List, [], ◌∷◌, Option, Some, None, filter, get_or, length, option_map, slice_get}
+use Rattle.std.specs.Prelude.{ℕ, ◌≡◌, ◌≤◌, ◌+◌, ◌-◌, ◌/◌, ◌^◌, ◌==◌, ◌&&◌, min, nat_le, nat_lt}
+use Rattle.std.specs.Prelude.{Bool, true, false, not, ◌||◌, if◌then◌else◌, List, [], ◌∷◌, Option}
+use Rattle.std.specs.Prelude.{Some, None, filter, get_or, length, option_map, slice_get}
 use Rattle.std.specs.List.{fold, list_any}
 use Rattle.mon_sample.specs.Key.{boots_of, discontinuity_of, kind_of, sample_value, time_of}
 use Rattle.mon_sample.specs.Kind.{kind_tag}
@@ -12,7 +14,7 @@ use Rattle.mon_poller.specs.declared.fault.ResponseFault.TheVariants.{Stray}
 use Rattle.mon_station.specs.declared.fault.StationFault.{StationFault}
 use Rattle.mon_station.specs.declared.fault.StationFault.TheVariants.{Response}
 use Rattle.mon_rounds.specs.Clock.{clock_after, no_clock}
-use Rattle.mon_rounds.specs.Course.{counted_on}
+use Rattle.mon_rounds.specs.Totals.{counted_on}
 use Rattle.mon_rounds.specs.declared.freshness.InstanceAge.{InstanceAge}
 use Rattle.mon_rounds.specs.declared.freshness.PeerAge.{PeerAge}
 use Rattle.mon_rounds.specs.declared.freshness.SampleFields.{SampleFields}
@@ -68,10 +70,15 @@ late_from address notices = length (filter (is_late_from address) notices)
 -- a row at the beginning of a round: it goes on if a late datagram came in the round before, or in
 -- the time after it, and else ends
 abbrev pub begun_row : LateRow → LateRow
-begun_row row = if row.counted then record { rounds = row.rounds; datagrams = row.datagrams; counted = false } else no_row
+begun_row row = if row.counted then record {
+  rounds = row.rounds;
+  datagrams = row.datagrams;
+  counted
+      = false;
+} else no_row
 
--- a row with this many late datagrams more: the first ones of a round, or of the time after it, make
--- it one round longer
+-- a row with this many late datagrams more: the first ones of a round, or of the time after it,
+-- make it one round longer
 abbrev pub with_late : ℕ → LateRow → LateRow
 with_late n row =
     if n == 0 then row
@@ -112,7 +119,17 @@ rounds_in ((Between milliseconds, n) ∷ spells) = rounds_in spells
 -- ---- targets
 -- at the station's start: nothing is known of the target of this number, at this address
 abbrev pub new_target : ℕ → Addr → TargetAge
-new_target number address = record { number = number; address = address; up = false; rounds = 0; answered = 0; given_up = 0; refusal = None; late = no_row; clock = no_clock }
+new_target number address = record {
+  number = number;
+  address = address;
+  up = false;
+  rounds = 0;
+  answered = 0;
+  given_up = 0;
+  refusal = None;
+  late = no_row;
+  clock = no_clock;
+}
 
 -- whether a response that was taken answered a poll of the target of this number
 abbrev pub has_answered : ℕ → List TargetStamp → Bool
@@ -141,7 +158,8 @@ gave_up_by number notices = length (filter (is_given_up_by number) notices)
 
 -- why a response from this address was refused, by one notice more
 abbrev pub refusal_with : Addr → Option StationFault → Notice → Option StationFault
-refusal_with address before (notice.BadResponse from fault) = if same_addr from address then Some fault else before
+refusal_with address before (notice.BadResponse from fault) = if same_addr from address
+    then Some fault else before
 refusal_with address before (notice.GaveUp target) = before
 refusal_with address before (notice.Astray from) = before
 refusal_with address before (notice.NotPolled target fault) = before
@@ -179,7 +197,8 @@ target_with span answered responses notices now t = record {
 -- a target after a round, or the time after it, of which this is reported and that ended at this
 -- time
 abbrev pub target_after : Span → RoundReport → ℕ → TargetAge → TargetAge
-target_after span report now t = target_with span (has_answered t.number report.answered.items) report.answered.items report.notices.items now t
+target_after span report now t = target_with span (has_answered t.number report.answered.items)
+    report.answered.items report.notices.items now t
 
 -- how many seconds before this time a target answered, or the station began
 abbrev pub seconds_since : ℕ → TargetAge → ℕ
@@ -188,7 +207,15 @@ seconds_since now t = (now - t.answered) / 1000
 -- ---- peers
 -- at the station's start: nothing came from the peer of this slot and station number
 abbrev pub new_peer : ℕ → ℕ → PeerAge
-new_peer slot station = record { slot = slot; station = station; rounds = 0; offers = 0; counted = false; often = 0 }
+new_peer slot station = record {
+  slot = slot;
+  station = station;
+  rounds = 0;
+  offers = 0;
+  counted =
+      false;
+  often = 0;
+}
 
 -- a count after one more, at most 2^32 - 1; it stays where that is not counted
 abbrev pub count_on : ℕ → Bool → ℕ
@@ -271,15 +298,28 @@ is_same (Some s) (Some t) = have_same s t
 -- at the station's start: the newest sample of the instance of this number is known, and no round
 -- went by without one
 abbrev pub new_instance : Board → ℕ → Option ℕ → InstanceAge
-new_instance b number target = record { number = number; target = target; newest = newest_on b number; rounds = 0 }
+new_instance b number target = record {
+  number = number;
+  target = target;
+  newest = newest_on b
+      number;
+  rounds = 0;
+}
 
 -- the instances of a board at the station's start, each with the target that is polled for it
 abbrev pub new_instances : List (Option ℕ) → Board → List InstanceAge
-new_instances polled b = numbered (λ number watched. new_instance b number (get_or polled number None)) 0 b.watch.instances
+new_instances polled b = numbered (λ number watched. new_instance b number
+    (get_or polled number None)) 0 b.watch.instances
 
 -- an instance that has this newest sample after a round, or the time after it
 abbrev pub instance_with : Span → Option SampleFields → InstanceAge → InstanceAge
-instance_with span newest i = record { number = i.number; target = i.target; newest = newest; rounds = age_after span (not (is_same i.newest newest)) i.rounds }
+instance_with span newest i = record {
+  number = i.number;
+  target = i.target;
+  newest = newest;
+  rounds
+      = age_after span (not (is_same i.newest newest)) i.rounds;
+}
 
 -- an instance after a round, or the time after it, that left this board
 abbrev pub instance_after : Span → Board → InstanceAge → InstanceAge
@@ -291,11 +331,13 @@ abbrev pub length_after : Span → ℕ → ℕ → ℕ
 length_after Round took before = took
 length_after (Between milliseconds) took before = before
 
--- whether a round that took this long took longer than its interval, both in milliseconds; an interval of 0 is none
+-- whether a round that took this long took longer than its interval, both in milliseconds; an
+-- interval of 0 is none
 abbrev pub is_overrun : (took interval : ℕ) → Bool
 is_overrun took interval = nat_lt 0 interval && nat_lt interval took
 
 -- how many rounds took longer than their interval, after one more round or the time between two
 abbrev pub overruns_after : Span → (took interval before : ℕ) → ℕ
-overruns_after Round took interval before = if is_overrun took interval then counted_on before 1 else before
+overruns_after Round took interval before = if is_overrun took interval then counted_on before 1
+    else before
 overruns_after (Between milliseconds) took interval before = before

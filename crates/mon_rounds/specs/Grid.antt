@@ -18,4 +18,5 @@ milliseconds_of nanoseconds = min (nanoseconds / 1_000_000) (2 ^ 60)
 
 -- of k stations, by their numbers, the j-th begins at j/k of the interval, j from 0
 abbrev pub share_of : ℕ → List ℕ → ℕ → ℕ
-share_of station peers interval = interval * count_by (λ peer. nat_lt peer station) peers / (length peers + 1)
+share_of station peers interval = interval * count_by (λ peer. nat_lt peer station) peers /
+    (length peers + 1)

@@ -2,7 +2,7 @@ pub mod AtSocket
 pub mod Changes
 pub mod Clock
 pub mod Polled
-pub mod Course
+pub mod Totals
 pub mod Explained
 pub mod Freshness
 pub mod Given

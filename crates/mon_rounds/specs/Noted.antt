@@ -1,5 +1,6 @@
 -- What is reported of a round to an operator.
-use Rattle.std.specs.Prelude.{ℕ, ◌-◌, ◌^◌, min, Bool, true, false, not, cond, List, [], ◌∷◌, ◌++◌, Option, Some, None, filter, length, map, sum_by}
+use Rattle.std.specs.Prelude.{ℕ, ◌-◌, ◌^◌, min, Bool, true, false, not, cond, List, [], ◌∷◌, ◌++◌}
+use Rattle.std.specs.Prelude.{Option, Some, None, filter, length, map, sum_by}
 use Rattle.std.specs.List.{flat_map, list_any}
 use Rattle.mon_rounds.specs.Order.{RoundEvent}
 use Rattle.mon_udp.specs.declared.addr.Addr.{Addr}
@@ -13,7 +14,8 @@ use Rattle.mon_station.specs.declared.fault.StationFault.TheVariants.{Response}
 use Rattle.mon_station.specs.declared.event.TargetStamp.{TargetStamp}
 use Rattle.mon_station.specs.declared.running.Answer.{Answer}
 use Rattle.mon_station.specs.declared.running.Answer.TheVariants as answer
-use Rattle.mon_station.specs.declared.event.Event.TheVariants.{StartPoll, Timeout, FromAgent, FromPeer, Share, Save}
+use Rattle.mon_station.specs.declared.event.Event.TheVariants.{StartPoll, Timeout, FromAgent}
+use Rattle.mon_station.specs.declared.event.Event.TheVariants.{FromPeer, Share, Save}
 
 -- whether an event is a stranger's datagram: from an address that is no peer's and none of these
 -- targets'
@@ -36,7 +38,8 @@ stranger_notice from _ = None
 
 -- the notice of a refused datagram that is no peer's
 abbrev pub response_notice : List Addr → Addr → StationFault → Option Notice
-response_notice targets from fault = cond (stands_in targets from) (Some (notice.BadResponse from fault)) (stranger_notice from fault)
+response_notice targets from fault = cond (stands_in targets from)
+    (Some (notice.BadResponse from fault)) (stranger_notice from fault)
 
 -- the notice of a refused event. A timeout and a save are not refused: they run out of memory or
 -- have the keeper's faults.
@@ -69,7 +72,8 @@ told_of targets e a = listed (notice_of targets e a)
 abbrev pub notices_of : List Addr → List RoundEvent → List Answer → List Notice
 notices_of targets [] answers = []
 notices_of targets (e ∷ events) [] = []
-notices_of targets (e ∷ events) (a ∷ answers) = told_of targets e a ++ notices_of targets events answers
+notices_of targets (e ∷ events) (a ∷ answers) = told_of targets e a
+    ++ notices_of targets events answers
 
 -- how many samples were offered in an event that was answered so
 abbrev pub samples_in : Answer → ℕ
@@ -124,8 +128,8 @@ abbrev pub unsaved : List Notice → ℕ
 unsaved notices = length (filter is_unsaved notices)
 
 -- ---- targets that answered
--- the target whose poll an event with this answer answered, and the stamp of the response: none where
--- no response was taken
+-- the target whose poll an event with this answer answered, and the stamp of the response: none
+-- where no response was taken
 abbrev pub stamp_in : Answer → Option TargetStamp
 stamp_in (answer.Handled n answered) = answered
 stamp_in (answer.GaveUp target) = None

@@ -1,11 +1,16 @@
 -- The order of a round's events: each target is polled, what comes is received, each peer is
 -- offered what it is owed, what comes is received, and all is saved, if the round saves. After a
--- wait that ran out with open polls each of them is timed out, by rising request-id, before the next wait.
-use Rattle.std.specs.Prelude.{ℕ, zero, suc, ◌≡◌, ◌≤◌, ◌<◌, Bool, true, false, List, [], ◌∷◌, ◌++◌, All, map, take, length, sum_by}
+-- wait that ran out with open polls each of them is timed out, by rising request-id, before the
+-- next wait.
+use Rattle.std.specs.Prelude.{ℕ, zero, suc, ◌≡◌, ◌≤◌, ◌<◌, Bool, true, false, List, [], ◌∷◌, ◌++◌}
+use Rattle.std.specs.Prelude.{All, map, take, length, sum_by}
 use Rattle.mon_rounds.specs.declared.round.Phase.{Phase}
-use Rattle.mon_rounds.specs.declared.round.Phase.TheVariants.{Polling, Hearing, TimingOut, Sharing, Listening, Over, Resting, Rested}
+use Rattle.mon_rounds.specs.declared.round.Phase.TheVariants.{Polling, AwaitResponses, TimingOut}
+use Rattle.mon_rounds.specs.declared.round.Phase.TheVariants.{Sharing, AwaitConfirmations, Over}
+use Rattle.mon_rounds.specs.declared.round.Phase.TheVariants.{BetweenRounds, Rested}
 use Rattle.mon_station.specs.declared.event.Event.{Event}
-use Rattle.mon_station.specs.declared.event.Event.TheVariants.{StartPoll, Timeout, FromAgent, FromPeer, Share, Save}
+use Rattle.mon_station.specs.declared.event.Event.TheVariants.{StartPoll, Timeout, FromAgent}
+use Rattle.mon_station.specs.declared.event.Event.TheVariants.{FromPeer, Share, Save}
 use Rattle.mon_udp.specs.declared.addr.Addr.{Addr}
 
 -- an event of a round: its octets went with it, and of a datagram its address is known
@@ -49,7 +54,8 @@ abbrev pub timeouts_of : List ℕ → List RoundEvent
 timeouts_of ids = map Timeout ids
 
 -- After a quiet wait polls are timed out, up to this one: each once, by rising request-id.
-pub record AreTimedOut (Earlier : List RoundEvent → Type 0) (last : ℕ) (events : List RoundEvent) : Type 0 where
+pub record AreTimedOut (Earlier : List RoundEvent → Type 0) (last : ℕ) (events : List RoundEvent) :
+    Type 0 where
   pub before : List RoundEvent
   pub earlier : Earlier before
   pub ids : List ℕ
@@ -57,13 +63,14 @@ pub record AreTimedOut (Earlier : List RoundEvent → Type 0) (last : ℕ) (even
   pub are : events ≡ before ++ timeouts_of ids
 
 -- after that datagrams came in the next wait
-pub record AreHeardAfter (Earlier : List RoundEvent → Type 0) (events : List RoundEvent) : Type 0 where
-  pub before : List RoundEvent
-  pub last : ℕ
-  pub timed_out : AreTimedOut Earlier last before
-  pub heard : List RoundEvent
-  pub each : All IsDatagram heard
-  pub are : events ≡ before ++ heard
+pub record AreHeardAfter (Earlier : List RoundEvent → Type 0) (events : List RoundEvent) : Type 0
+  where
+    pub before : List RoundEvent
+    pub last : ℕ
+    pub timed_out : AreTimedOut Earlier last before
+    pub heard : List RoundEvent
+    pub each : All IsDatagram heard
+    pub are : events ≡ before ++ heard
 
 -- What comes while polls are open, in waits of which this many were quiet: datagrams in each wait,
 -- and between two of them timeouts.
@@ -80,8 +87,8 @@ pub record HasPolled (targets most : ℕ) (events : List RoundEvent) : Type 0 wh
   pub each : AreHeardIn quiet heard
   pub are : events ≡ polls_of targets ++ heard
 
--- all targets are polled; then datagrams came, and timeouts after some quiet waits, after the last of
--- which polls up to this one are timed out so far
+-- all targets are polled; then datagrams came, and timeouts after some quiet waits, after the last
+-- of which polls up to this one are timed out so far
 pub record HasTimedOut (targets most last : ℕ) (events : List RoundEvent) : Type 0 where
   pub quiet : ℕ
   pub few_quiet : quiet < most
@@ -111,7 +118,8 @@ saved_by false = []
 -- The events of a whole round: after that all was saved, if this round saves, and at most 4096
 -- datagrams came. Polls were timed out after at most this many idle waits, each at most once after
 -- each of them.
-pub record IsRound (targets most : ℕ) (peers : List ℕ) (saves : Bool) (events : List RoundEvent) : Type 0 where
+pub record IsRound (targets most : ℕ) (peers : List ℕ) (saves : Bool) (events : List RoundEvent) :
+    Type 0 where
   pub before : List RoundEvent
   pub listened : HasListened targets most peers before
   pub are : events ≡ before ++ saved_by saves
@@ -119,14 +127,17 @@ pub record IsRound (targets most : ℕ) (peers : List ℕ) (saves : Bool) (event
 
 -- the events of a round, which saves at its end or does not, or of the time between two, that is in
 -- this phase, with timeouts after at most this many idle waits so far
-abbrev pub AreSoFar : (targets most : ℕ) → List ℕ → (saves : Bool) → Phase → List RoundEvent → Type 0
-AreSoFar targets most peers saves (Polling target) events = (target < targets) × (events ≡ polls_of target)
-AreSoFar targets most peers saves Hearing events = HasPolled targets most events
+abbrev pub AreSoFar : (targets most : ℕ) → List ℕ → (saves : Bool) → Phase → List RoundEvent
+    → Type 0
+AreSoFar targets most peers saves (Polling target) events = (target < targets)
+    × (events ≡ polls_of target)
+AreSoFar targets most peers saves AwaitResponses events = HasPolled targets most events
 AreSoFar targets most peers saves (TimingOut last) events = HasTimedOut targets most last events
-AreSoFar targets most peers saves (Sharing slot) events = (slot < length peers) × HasShared targets most (take slot peers) events
-AreSoFar targets most peers saves Listening events = HasListened targets most peers events
+AreSoFar targets most peers saves (Sharing slot) events = (slot < length peers)
+    × HasShared targets most (take slot peers) events
+AreSoFar targets most peers saves AwaitConfirmations events = HasListened targets most peers events
 AreSoFar targets most peers saves Over events = IsRound targets most peers saves events
-AreSoFar targets most peers saves Resting events = All IsDatagram events
+AreSoFar targets most peers saves BetweenRounds events = All IsDatagram events
 AreSoFar targets most peers saves Rested events = All IsDatagram events
 
 -- ---- saves

@@ -3,7 +3,9 @@ use Rattle.std.specs.Prelude.{ℕ, ◌≡◌, ◌≤◌, ◌+◌, ◌-◌, true,
 use Rattle.mon_udp.specs.declared.addr.Addr.{Addr}
 use Rattle.mon_rounds.specs.declared.receiver.Wait.TheVariants.{Begin}
 use Rattle.mon_rounds.specs.declared.round.Phase.{Phase}
-use Rattle.mon_rounds.specs.declared.round.Phase.TheVariants.{Polling, Hearing, TimingOut, Sharing, Listening, Resting, Rested}
+use Rattle.mon_rounds.specs.declared.round.Phase.TheVariants.{Polling, AwaitResponses, TimingOut}
+use Rattle.mon_rounds.specs.declared.round.Phase.TheVariants.{Sharing, AwaitConfirmations}
+use Rattle.mon_rounds.specs.declared.round.Phase.TheVariants.{BetweenRounds, Rested}
 use Rattle.mon_rounds.specs.declared.round.Span.{Span}
 use Rattle.mon_rounds.specs.declared.round.Span.TheVariants.{Round, Between}
 use Rattle.mon_rounds.specs.Next.{RoundState, events_left, listens_to}
@@ -30,9 +32,9 @@ unbegun targets peers peer_addresses wait_ms tries = record {
 
 -- the phase in which a round over these targets begins, or the time between two
 abbrev pub first_phase : Span → List Addr → Phase
-first_phase Round [] = Hearing
+first_phase Round [] = AwaitResponses
 first_phase Round (t ∷ targets) = Polling 0
-first_phase (Between milliseconds) targets = Resting
+first_phase (Between milliseconds) targets = BetweenRounds
 
 -- how long the first wait is: in a round as each of its waits, between two rounds the whole time
 abbrev pub first_wait : Span → ℕ → ℕ
@@ -43,7 +45,17 @@ first_wait (Between milliseconds) wait_ms = milliseconds
 -- timeouts as polls are tried, 512 timeouts and 16 failures at most; it saves if it was said of the
 -- next round
 abbrev pub begun : Span → RoundState → RoundState
-begun span r = record r { saving = r.saves; phase = first_phase span r.targets; wait = Begin (first_wait span r.wait_ms); datagrams = 4096; quiets = r.tries; timeouts = 512; failures = 16; events = [] }
+begun span r = record r {
+  saving = r.saves;
+  phase = first_phase span r.targets;
+  wait = Begin
+      (first_wait span r.wait_ms);
+  datagrams = 4096;
+  quiets = r.tries;
+  timeouts = 512;
+  failures = 16;
+  events = [];
+}
 
 -- how many waits begin at most: in a round one, one after each quiet wait with timeouts, and one
 -- after the shares with peers; between two rounds one
@@ -63,20 +75,20 @@ pub record IsOrderly (room : ℕ) (r : RoundState) : Type 0 where
 
 -- polls may be timed out
 abbrev pub IsTiming : Phase → Type 0
-IsTiming Hearing = Unit {0}
+IsTiming AwaitResponses = Unit {0}
 IsTiming (TimingOut last) = Unit {0}
 IsTiming phase = ⊥
 
 -- the peer of this slot is offered next, or the round is done if there is no such peer
 abbrev pub IsSharing : Phase → ℕ → Type 0
-IsSharing Hearing slot = slot ≡ 0
+IsSharing AwaitResponses slot = slot ≡ 0
 IsSharing (TimingOut last) slot = slot ≡ 0
 IsSharing (Sharing next) slot = slot ≡ next
 IsSharing phase slot = ⊥
 
 -- the round is done: all is saved next, if it saves
 abbrev pub IsSaving : Phase → List ℕ → Type 0
-IsSaving Hearing peers = peers ≡ []
+IsSaving AwaitResponses peers = peers ≡ []
 IsSaving (TimingOut last) peers = peers ≡ []
-IsSaving Listening peers = Unit {0}
+IsSaving AwaitConfirmations peers = Unit {0}
 IsSaving phase peers = ⊥

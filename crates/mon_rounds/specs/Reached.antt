@@ -10,4 +10,5 @@ address_at addresses (Some place) = slice_get addresses place
 
 -- the address at the first place of a number
 abbrev pub peer_address : List ℕ → List Addr → ℕ → Option Addr
-peer_address numbers addresses station = address_at addresses (position (λ number. number == station) numbers)
+peer_address numbers addresses station = address_at addresses
+    (position (λ number. number == station) numbers)

@@ -1,5 +1,6 @@
 -- What happens at a receiver.
-use Rattle.std.specs.Prelude.{ℕ, ◌≡◌, ◌≤◌, ◌<◌, ◌+◌, ◌*◌, ◌-◌, ◌⊎◌, List, [], ◌∷◌, Option, Some, None, Result, Ok, Err, All, sum_by}
+use Rattle.std.specs.Prelude.{ℕ, ◌≡◌, ◌≤◌, ◌<◌, ◌+◌, ◌*◌, ◌-◌, ◌⊎◌, List, [], ◌∷◌, Option, Some}
+use Rattle.std.specs.Prelude.{None, Result, Ok, Err, All, sum_by}
 use Rattle.std.specs.declared.time.Instant.{Instant}
 use Rattle.mon_udp.specs.declared.timer.Timer.{Timer}
 use Rattle.mon_udp.specs.Wait.{Begins, Renews}
@@ -68,7 +69,9 @@ end_of Rest from end = end
 -- its receptions follow one another, and each is over when its wait is, or at once.
 abbrev pub AreTimely : (now end : ℕ) → List Timed → Type 0
 AreTimely now end [] = Unit {0}
-AreTimely now end (t ∷ all) = (now ≤ t.from) × (t.from ≤ t.to) × ((t.to ≤ t.from) ⊎ (t.to ≤ end_of t.reception.wait t.from end)) × AreTimely t.to (end_of t.reception.wait t.from end) all
+AreTimely now end (t ∷ all) = (now ≤ t.from) × (t.from ≤ t.to)
+    × ((t.to ≤ t.from) ⊎ (t.to ≤ end_of t.reception.wait t.from end))
+    × AreTimely t.to (end_of t.reception.wait t.from end) all
 
 -- how long these receptions took together, in nanoseconds
 abbrev pub time_in : List Timed → ℕ

@@ -32,8 +32,10 @@ view_of r heard kept = record { round = r; heard = heard; kept = kept }
 -- A call for the next event returns what the round has next, by what the receiver got in it, and a
 -- target's datagram that it returns is kept. Each call but the last leaves fewer of them, and where
 -- nothing is given the round, or the time between two, is over.
-pub record GivesOn (before : RoundsView) (open_polls : Open) (last : Option Answer) (result : Result (Option OwnedEvent) SourceFault) (after : RoundsView) : Type 0 where
-  pub step : GoesOnBy (λ log. GivesNext before.round open_polls last log result after.round) before.heard after.heard
+pub record GivesOn (before : RoundsView) (open_polls : Open) (last : Option Answer)
+    (result : Result (Option OwnedEvent) SourceFault) (after : RoundsView) : Type 0 where
+  pub step : GoesOnBy (λ log. GivesNext before.round open_polls last log result after.round)
+      before.heard after.heard
   pub kept : KeepsGiven before.round result before.kept after.kept
   pub turns : TakesTurn result (turns_left before.round) (turns_left after.round)
   pub ended : result ≡ Ok None → IsEnded after.round.phase
@@ -71,6 +73,7 @@ IsWhole (Between milliseconds) = IsWholeRest
 
 -- a station was run, in at most 5000 calls for an event, and this holds of the events that it was
 -- given
-pub record HasRun {X : Type 0} {G : Ghosts X} (Are : List OwnedEvent → Type 0) (before after : Seen RoundsView G) (run : Run) : Type 0 where
+pub record HasRun {X : Type 0} {G : Ghosts X} (Are : List OwnedEvent → Type 0)
+    (before after : Seen RoundsView G) (run : Run) : Type 0 where
   pub ran : Ran GivesOn before after 5000 run
   pub are : Are (events_of (turns_of ran.calls))

@@ -6,7 +6,7 @@ ghost use Rattle.mon_rounds.specs.Reached.{peer_address};
 ghost use Rattle.mon_rounds.specs.Kept.{count_at};
 ghost use Rattle.mon_rounds.specs.Next.{stands_in};
 
-use mon_core::Core;
+use mon_config::Core;
 use mon_poller::Target;
 use mon_udp::Addr;
 use std::alloc::{AllocError, Global};

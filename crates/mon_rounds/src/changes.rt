@@ -8,7 +8,7 @@ ghost use Rattle.mon_rounds.specs.Freshness.{is_late};
 use crate::freshness::{Freshness, InstanceAge, PeerAge, TargetAge};
 use mon_ber::Octets;
 use mon_poller::ResponseFault;
-use mon_reasons::Latest;
+use mon_reasons::NewestDatagrams;
 use mon_station::StationFault;
 use std::alloc::{AllocError, Global};
 
@@ -99,8 +99,10 @@ impl Troubles {
         others: Vec<Option<Octets>>,
         limit: u32,
     ) -> Result<Vec<Change>, AllocError>
-        ensures changes { IfOk result (λ v. v.items ≡ changes_between (told_by self.old) (troubles_after limit (told_by self.old) others.items freshness.now)) }
-        ensures told { OnOk result (told_by self.new ≡ troubles_after limit (told_by self.old) others.items freshness.now) }
+        ensures changes { IfOk result (λ v. v.items ≡ changes_between (told_by self.old)
+            (troubles_after limit (told_by self.old) others.items freshness.now)) }
+        ensures told { OnOk result (told_by self.new ≡ troubles_after limit (told_by self.old)
+            others.items freshness.now) }
         ensures kept { OnErr result (told_by self.new ≡ told_by self.old) }
     {
         let now = self.after(alloc, freshness, others, limit)?;
@@ -117,7 +119,8 @@ impl Troubles {
         others: Vec<Option<Octets>>,
         limit: u32,
     ) -> Result<Self, AllocError>
-        ensures { IfOk result (λ t. told_by t ≡ troubles_after limit (told_by self.now) others.items freshness.now) }
+        ensures { IfOk result (λ t. told_by t ≡ troubles_after limit (told_by self.now) others.items
+            freshness.now) }
     {
         let (targets, peers) = (freshness.targets(), freshness.peers());
         let said = self.stale_instances.as_slice();
@@ -165,7 +168,8 @@ fn put_changes(
     said: &[bool],
     is: &[bool],
 ) -> Result<(), AllocError>
-    ensures { OnOk result (changes.new.items ≡ changes.old.items ++ changes_from trouble 0 said.now is.now) }
+    ensures { OnOk result (changes.new.items ≡ changes.old.items
+        ++ changes_from trouble 0 said.now is.now) }
 {
     for number in 0..is.len() {
         put_change(changes, trouble, number, is_said(said, number), is[number])?;
@@ -199,7 +203,8 @@ fn put_engine_changes(
     said: &[Option<Octets>],
     is: &[Option<Octets>],
 ) -> Result<(), AllocError>
-    ensures { OnOk result (changes.new.items ≡ changes.old.items ++ engine_changes 0 said.now is.now) }
+    ensures { OnOk result (changes.new.items ≡ changes.old.items
+        ++ engine_changes 0 said.now is.now) }
 {
     for number in 0..is.len() {
         put_engine_change(
@@ -274,11 +279,12 @@ fn silent_targets(alloc: Global, targets: &[TargetAge]) -> Result<Vec<bool>, All
 /// `AllocError` if memory is refused.
 pub fn other_engines(
     alloc: Global,
-    latest: &Latest,
+    latest: &NewestDatagrams,
     targets: &[TargetAge],
     engines: &[Vec<u8>],
 ) -> Result<Vec<Option<Octets>>, AllocError>
-    ensures { IfOk result (λ v. v.items ≡ others_of latest.now.datagrams.items targets.now engines.now (length targets.now)) }
+    ensures { IfOk result (λ v. v.items ≡ others_of latest.now.datagrams.items targets.now
+        engines.now (length targets.now)) }
 {
     let mut others = Vec::with_capacity(alloc, targets.len())?;
     for place in 0..targets.len() {
@@ -290,7 +296,7 @@ pub fn other_engines(
 /// Returns the engine that answers in place of a target's, if one does.
 fn other_at(
     alloc: Global,
-    latest: &Latest,
+    latest: &NewestDatagrams,
     target: Option<&TargetAge>,
     engine: Option<&Vec<u8>>,
 ) -> Result<Option<Octets>, AllocError>
@@ -307,11 +313,12 @@ fn other_at(
 /// another.
 fn other_if(
     alloc: Global,
-    latest: &Latest,
+    latest: &NewestDatagrams,
     target: &TargetAge,
     engine: &[u8],
 ) -> Result<Option<Octets>, AllocError>
-    ensures { IfOk result (λ other. other ≡ other_if latest.now.datagrams.items target.now engine.now) }
+    ensures { IfOk result (λ other. other ≡ other_if latest.now.datagrams.items target.now
+        engine.now) }
 {
     if is_other(target) {
         return latest.other_engine(alloc, target.address, engine);
@@ -369,7 +376,8 @@ fn stale_instances(
     said: &[bool],
     limit: u32,
 ) -> Result<Vec<bool>, AllocError>
-    ensures { IfOk result (λ v. v.items ≡ map (is_stale limit said.now freshness.now.targets.items) freshness.now.instances.items) }
+    ensures { IfOk result (λ v. v.items ≡ map (is_stale limit said.now freshness.now.targets.items)
+        freshness.now.instances.items) }
 {
     let (targets, instances) = (freshness.targets(), freshness.instances());
     let mut stale = Vec::with_capacity(alloc, instances.len())?;

@@ -5,8 +5,8 @@ ghost use Rattle.mon_rounds.specs.Clock.{clock_after, clock_by, clock_with, grea
 
 use mon_station::TargetStamp;
 
-/// A restart of an agent between two responses to polls of a target, of which one was taken directly
-/// after the other.
+/// A restart of an agent between two responses to polls of a target, of which one was taken
+/// directly after the other.
 #[derive(Clone, Copy, Debug)]
 pub struct Restart {
     /// The agent's snmpEngineBoots in the response after it.

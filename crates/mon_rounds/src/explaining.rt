@@ -5,7 +5,7 @@ ghost use Rattle.mon_rounds.specs.Explained.{address_for, stale_reason};
 
 use crate::freshness::{Freshness, InstanceAge, TargetAge};
 use mon_board::Board;
-use mon_reasons::{Latest, Reason};
+use mon_reasons::{NewestDatagrams, Reason};
 use mon_udp::Addr;
 use std::alloc::{AllocError, Global};
 
@@ -17,12 +17,13 @@ use std::alloc::{AllocError, Global};
 /// `AllocError` if memory is refused.
 pub fn explain_stale(
     alloc: Global,
-    latest: &Latest,
+    latest: &NewestDatagrams,
     freshness: &Freshness,
     board: &Board,
     number: usize,
 ) -> Result<Option<Reason>, AllocError>
-    ensures { IfOk result (λ r. r ≡ stale_reason latest.now.datagrams.items freshness.now board.now number) }
+    ensures { IfOk result (λ r. r ≡ stale_reason latest.now.datagrams.items freshness.now board.now
+        number) }
 {
     let Some(watched) = board.watch().instances().get(number) else {
         return Ok(None);

@@ -1,7 +1,7 @@
 //! How long ago targets answered, peers sent something and instances had a new sample.
 
 ghost use Rattle.std.specs.Prelude.{◌≡◌, ◌≤◌, IfOk, None, get_or, false, length, map};
-ghost use Rattle.mon_rounds.specs.Course.{counted_on};
+ghost use Rattle.mon_rounds.specs.Totals.{counted_on};
 ghost use Rattle.mon_rounds.specs.Freshness.{age_after, count_on, fields_of, gave_up_by, has_answered, have_same, instance_after, instance_with, is_given_up_by, is_late, is_overrun, is_same, last_refusal, length_after, new_instance, new_instances, new_peer, new_target, newest_on, numbered, older, overruns_after, peer_after, refusal_after, refusal_with, row_after, seconds_since, target_after, target_with, up_after};
 
 use crate::addresses::Addresses;
@@ -38,12 +38,13 @@ pub struct TargetAge {
     pub answered: u64,
     /// How many of its polls were given up, at most 2^64 - 1.
     pub given_up: u64,
-    /// Why the last response from its address was refused, if one was and no round with an answer of
-    /// this target and without a refusal came after it.
+    /// Why the last response from its address was refused, if one was and no round with an answer
+    /// of this target and without a refusal came after it.
     pub refusal: Option<StationFault>,
     /// The rounds, one after another, in which late datagrams came from its address.
     pub late: LateRow,
-    /// What the responses to its polls say of its agent's clock, and of a restart in the last spell.
+    /// What the responses to its polls say of its agent's clock, and of a restart in the last
+    /// spell.
     pub clock: Clock,
 }
 
@@ -160,9 +161,12 @@ impl Freshness {
         polled: &[Option<u16>],
         board: &Board,
     ) -> Result<Self, AllocError>
-        ensures targets { IfOk result (λ f. f.targets.items ≡ numbered new_target 0 addresses.now.targets.items) }
-        ensures peers { IfOk result (λ f. f.peers.items ≡ numbered new_peer 0 addresses.now.peers.items) }
-        ensures instances { IfOk result (λ f. f.instances.items ≡ new_instances polled.now board.now) }
+        ensures targets { IfOk result (λ f. f.targets.items ≡ numbered new_target 0
+            addresses.now.targets.items) }
+        ensures peers { IfOk result (λ f. f.peers.items ≡ numbered new_peer 0
+            addresses.now.peers.items) }
+        ensures instances { IfOk result (λ f. f.instances.items
+            ≡ new_instances polled.now board.now) }
         ensures failed_saves { IfOk result (λ f. f.failed_saves ≡ 0) }
         ensures strangers { IfOk result (λ f. f.strangers ≡ 0) }
         ensures round_ms { IfOk result (λ f. f.round_ms ≡ 0) }
@@ -232,13 +236,18 @@ impl Freshness {
     /// Adds what a round did, or the time after it, of which this is reported and that left this
     /// board.
     pub fn add(&mut self, spell: Spell, report: &RoundReport, board: &Board)
-        ensures targets { self.new.targets.items ≡ map (target_after spell.span report.now spell.ended) self.old.targets.items }
-        ensures peers { self.new.peers.items ≡ map (peer_after spell.span report.now) self.old.peers.items }
-        ensures instances { self.new.instances.items ≡ map (instance_after spell.span board.now) self.old.instances.items }
-        ensures failed_saves { self.new.failed_saves ≡ counted_on self.old.failed_saves report.now.failed_saves }
+        ensures targets { self.new.targets.items ≡ map (target_after spell.span report.now
+            spell.ended) self.old.targets.items }
+        ensures peers { self.new.peers.items ≡ map (peer_after spell.span report.now)
+            self.old.peers.items }
+        ensures instances { self.new.instances.items ≡ map (instance_after spell.span board.now)
+            self.old.instances.items }
+        ensures failed_saves { self.new.failed_saves ≡ counted_on self.old.failed_saves
+            report.now.failed_saves }
         ensures strangers { self.new.strangers ≡ counted_on self.old.strangers report.now.strangers }
         ensures round_ms { self.new.round_ms ≡ length_after spell.span spell.took self.old.round_ms }
-        ensures overruns { self.new.overruns ≡ overruns_after spell.span spell.took spell.interval self.old.overruns }
+        ensures overruns { self.new.overruns ≡ overruns_after spell.span spell.took spell.interval
+            self.old.overruns }
     {
         add_to_targets(&mut self.targets, spell, report);
         add_to_peers(&mut self.peers, spell.span, report);
@@ -447,7 +456,8 @@ fn length_after(spell: Spell, before: u64) -> u64
     }
 }
 
-/// Returns `true` if a round that took this long took longer than its interval, both in milliseconds.
+/// Returns `true` if a round that took this long took longer than its interval, both in
+/// milliseconds.
 fn is_overrun(took: u64, interval: u64) -> bool
     ensures { result ≡ is_overrun took interval }
 {

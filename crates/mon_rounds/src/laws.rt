@@ -17,7 +17,8 @@ ghost use Rattle.mon_rounds.specs.declared.round.Span.TheVariants.{Round};
 /// If each reception is over when its wait is, then receptions in which at most so many waits begin
 /// take at most four times the length of a wait for each of them, whatever comes and whenever.
 pub fn waiting_ends()
-    ensures { (most wait_ms now end : ℕ) (all : List Timed) → end ≤ now → AreTimely now end all → HasWaits most wait_ms (map (λ t. t.reception) all)
+    ensures { (most wait_ms now end : ℕ) (all : List Timed) → end ≤ now → AreTimely now end all
+        → HasWaits most wait_ms (map (λ t. t.reception) all)
         → time_in all ≤ most * (4 * (wait_ms * 1_000_000)) }
 {}
 
@@ -32,26 +33,35 @@ pub fn saves_once()
 
 /// If at most one spell of a peer is counted between two rounds, it is never said to offer often.
 pub fn seldom_is_unnamed()
-    ensures { (slot station : ℕ) (spells : List (Span × Bool)) → IsSeldom spells (new_peer slot station) → offers_often (peer_over spells (new_peer slot station)) ≡ false }
+    ensures { (slot station : ℕ) (spells : List (Span × Bool))
+        → IsSeldom spells (new_peer slot station) → offers_often
+        (peer_over spells (new_peer slot station)) ≡ false }
 {}
 
 /// A round without a late datagram, and none in the time after it, ends the row of rounds: the next
 /// round begins another one.
 pub fn late_ends()
-    ensures { (n : ℕ) (spells : List (Span × ℕ)) (row : LateRow) → AreQuiet spells → late_after Round n (late_over spells (late_after Round 0 row)) ≡ late_after Round n no_row }
+    ensures { (n : ℕ) (spells : List (Span × ℕ)) (row : LateRow) → AreQuiet spells
+        → late_after Round n (late_over spells (late_after Round 0 row))
+        ≡ late_after Round n no_row }
 {}
 
 /// A row that begins in a round has no more rounds than there were since: a target is named in the
 /// third at the earliest.
 pub fn late_in_a_row()
-    ensures { (n : ℕ) (spells : List (Span × ℕ)) → (late_over spells (late_after Round n no_row)).rounds ≤ rounds_in spells + 1 }
+    ensures { (n : ℕ) (spells : List (Span × ℕ)) → (late_over spells
+        (late_after Round n no_row)).rounds ≤ rounds_in spells + 1 }
 {}
 
 /// Each restart that is said happened between two responses of the target, of which one was taken
-/// directly after the other. If each response has the boots of the one before it and no lesser time,
-/// none is said.
+/// directly after the other. If each response has the boots of the one before it and no lesser
+/// time, none is said.
 pub fn restarts_happened()
-    ensures happened { (number : ℕ) (answered : List TargetStamp) (clock : Clock) (r : Restart) → (clock_after number answered clock).restart ≡ Some r → Happened (responses_of number clock answered) r }
-    ensures none { (number : ℕ) (answered : List TargetStamp) (clock : Clock) → ((a b : TargetStamp) → Follows a b (responses_of number clock answered) → (a.boots ≡ b.boots) × (a.time ≤ b.time))
+    ensures happened { (number : ℕ) (answered : List TargetStamp) (clock : Clock) (r : Restart)
+        → (clock_after number answered clock).restart ≡ Some r
+        → Happened (responses_of number clock answered) r }
+    ensures none { (number : ℕ) (answered : List TargetStamp) (clock : Clock)
+        → ((a b : TargetStamp) → Follows a b (responses_of number clock answered)
+        → (a.boots ≡ b.boots) × (a.time ≤ b.time))
         → (clock_after number answered clock).restart ≡ None }
 {}

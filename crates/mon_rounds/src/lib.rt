@@ -12,7 +12,6 @@
 mod addresses;
 mod changes;
 mod clock;
-mod course;
 mod explaining;
 mod freshness;
 mod grid;
@@ -25,11 +24,11 @@ mod round;
 mod running;
 mod socket;
 mod source;
+mod totals;
 
 pub use addresses::Addresses;
 pub use changes::{Change, Trouble, Troubles, other_engines};
 pub use clock::{Clock, Restart};
-pub use course::{Course, debts_of, is_due, left_of};
 pub use explaining::explain_stale;
 pub use freshness::{Freshness, InstanceAge, PeerAge, SampleFields, Spell, TargetAge};
 pub use grid::{milliseconds, next_start, phase_of};
@@ -40,3 +39,4 @@ pub use reporting::{Notice, RoundReport};
 pub use round::{Phase, Round, RoundEvent, Span};
 pub use socket::{Sends, SocketOutbox, SocketReceiver, arrival_of};
 pub use source::Rounds;
+pub use totals::{Totals, debts_of, is_due, left_of};

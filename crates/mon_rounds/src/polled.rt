@@ -4,7 +4,7 @@ ghost use Rattle.std.specs.Prelude.{◌≡◌, ◌==◌, ◌≤◌, IfOk, length
 ghost use Rattle.std.specs.List.{list_any};
 ghost use Rattle.mon_rounds.specs.Polled.{polled_targets, polls, target_for};
 
-use mon_core::Core;
+use mon_config::Core;
 use mon_poller::Target;
 use std::alloc::{AllocError, Global};
 

@@ -144,16 +144,19 @@ impl RoundReport {
     pub fn of(alloc: Global, round: &Round, run: &Run) -> Result<Self, AllocError>
         // The notice of each event's answer, in order; a stranger's datagram that was refused is
         // only counted.
-        ensures notices { IfOk result (λ r. r.notices.items ≡ notices_of round.now.targets round.now.events run.now.answers.items) }
+        ensures notices { IfOk result (λ r. r.notices.items ≡ notices_of round.now.targets
+            round.now.events run.now.answers.items) }
         ensures datagrams { IfOk result (λ r. r.datagrams ≡ datagrams_in round.now.events) }
-        ensures strangers { IfOk result (λ r. r.strangers ≡ strangers_in round.now.targets round.now.events) }
+        ensures strangers { IfOk result (λ r. r.strangers ≡ strangers_in round.now.targets
+            round.now.events) }
         ensures source { IfOk result (λ r. r.source_faults ≡ run.now.source_faults) }
         ensures sends { IfOk result (λ r. r.send_faults ≡ run.now.send_faults) }
         ensures taken { IfOk result (λ r. r.taken ≡ samples_taken run.now.answers.items) }
         ensures given_up { IfOk result (λ r. r.given_up ≡ gave_up r.notices.items) }
         ensures failed_saves { IfOk result (λ r. r.failed_saves ≡ unsaved r.notices.items) }
         ensures answered { IfOk result (λ r. r.answered.items ≡ answered_of run.now.answers.items) }
-        ensures heard { IfOk result (λ r. r.heard.items ≡ heard_of round.now.peer_addresses round.now.events) }
+        ensures heard { IfOk result (λ r. r.heard.items ≡ heard_of round.now.peer_addresses
+            round.now.events) }
     {
         let events = round.events();
         let answers = run.answers.as_slice();
@@ -300,7 +303,8 @@ fn is_from_peer(address: Addr, event: RoundEvent) -> bool
 
 /// Returns the notices of the events of a round with these answers.
 fn notices_of(alloc: Global, round: &Round, answers: &[Answer]) -> Result<Vec<Notice>, AllocError>
-    ensures { IfOk result (λ notices. notices.items ≡ notices_of round.now.targets round.now.events answers.now) }
+    ensures { IfOk result (λ notices. notices.items ≡ notices_of round.now.targets round.now.events
+        answers.now) }
 {
     let events = round.events();
     let mut notices = Vec::new(alloc);
@@ -317,7 +321,8 @@ fn put_notice(
     event: RoundEvent,
     answer: Answer,
 ) -> Result<(), AllocError>
-    ensures { OnOk result (notices.new.items ≡ notices.old.items ++ told_of round.now.targets event answer) }
+    ensures { OnOk result (notices.new.items ≡ notices.old.items
+        ++ told_of round.now.targets event answer) }
 {
     if let Some(notice) = notice_of(round, event, answer) {
         notices.push(notice)?;

@@ -16,16 +16,16 @@ use std::alloc::{AllocError, Global};
 use std::marker::Model;
 
 /// The most datagrams of a round.
-const MOST_DATAGRAMS: u32 = 4096;
+const MAX_DATAGRAMS: u32 = 4096;
 
 /// The most timeouts of a round: 64 polls, each sent 8 times.
-const MOST_TIMEOUTS: u32 = 512;
+const MAX_TIMEOUTS: u32 = 512;
 
 /// The greatest number of a response's fault that ends no poll.
 const LAST_STRAY: u8 = 5;
 
 /// The most failures of the receiver in a round.
-const MOST_FAILURES: u32 = 16;
+const MAX_FAILURES: u32 = 16;
 
 /// For how many events a round has capacity, more than it can have: 64 polls, 15 shares and a save,
 /// and what is received and times out.
@@ -46,18 +46,18 @@ pub enum Phase {
     /// The target of this number is polled next.
     Polling(u16),
     /// Datagrams are received; after a quiet wait the open polls are timed out.
-    Hearing,
+    AwaitResponses,
     /// Open polls are timed out, the next of them after this request-id; then a wait begins.
     TimingOut(u32),
     /// The peer of this slot is offered next what it is owed.
     Sharing(u16),
     /// Datagrams are received after the shares; if a wait times out, all is saved, if the round
     /// saves, and the round is over.
-    Listening,
+    AwaitConfirmations,
     /// The round is over.
     Over,
     /// Datagrams are received between two rounds.
-    Resting,
+    BetweenRounds,
     /// The time between two rounds is over.
     Rested,
 }
@@ -154,7 +154,8 @@ impl Round {
         wait_ms: u32,
         tries: u8,
     ) -> Result<Self, AllocError>
-        ensures state { IfOk result (λ r. r ≡ unbegun addresses.targets.items addresses.peers.items addresses.peer_addresses.items wait_ms tries) }
+        ensures state { IfOk result (λ r. r ≡ unbegun addresses.targets.items addresses.peers.items
+            addresses.peer_addresses.items wait_ms tries) }
     {
         Ok(Round {
             addresses,
@@ -164,7 +165,7 @@ impl Round {
             saving: true,
             phase: Phase::Rested,
             wait: Wait::Begin(wait_ms),
-            datagrams: MOST_DATAGRAMS,
+            datagrams: MAX_DATAGRAMS,
             quiets: 0,
             timeouts: 0,
             failures: 0,
@@ -187,14 +188,14 @@ impl Round {
     {
         self.events.clear();
         self.saving = self.saves;
-        self.datagrams = MOST_DATAGRAMS;
+        self.datagrams = MAX_DATAGRAMS;
         self.quiets = self.tries;
-        self.timeouts = MOST_TIMEOUTS;
-        self.failures = MOST_FAILURES;
+        self.timeouts = MAX_TIMEOUTS;
+        self.failures = MAX_FAILURES;
         (self.phase, self.wait) = match span {
-            Span::Between(milliseconds) => (Phase::Resting, Wait::Begin(milliseconds)),
+            Span::Between(milliseconds) => (Phase::BetweenRounds, Wait::Begin(milliseconds)),
             Span::Round if self.addresses.targets.is_empty() => {
-                (Phase::Hearing, Wait::Begin(self.wait_ms))
+                (Phase::AwaitResponses, Wait::Begin(self.wait_ms))
             }
             Span::Round => (Phase::Polling(0), Wait::Begin(self.wait_ms)),
         };
@@ -221,7 +222,7 @@ impl Round {
     pub fn datagrams(&self) -> u32
         ensures { result ≡ datagrams_in self.now.events }
     {
-        MOST_DATAGRAMS - self.datagrams
+        MAX_DATAGRAMS - self.datagrams
     }
 
     /// Returns the addresses of the peers, in their order.
@@ -327,10 +328,10 @@ impl Round {
     {
         match self.phase {
             Phase::Polling(target) => Some(self.poll(target)),
-            Phase::Hearing | Phase::TimingOut(_) => self.time_out(oldest),
+            Phase::AwaitResponses | Phase::TimingOut(_) => self.time_out(oldest),
             Phase::Sharing(slot) => self.share(slot),
-            Phase::Listening => self.finish(),
-            Phase::Resting | Phase::Over | Phase::Rested => {
+            Phase::AwaitConfirmations => self.finish(),
+            Phase::BetweenRounds | Phase::Over | Phase::Rested => {
                 self.end();
                 None
             }
@@ -357,7 +358,7 @@ impl Round {
         self.phase = if usize::from(target) + 1 < self.addresses.targets.len() {
             Phase::Polling(target + 1)
         } else {
-            Phase::Hearing
+            Phase::AwaitResponses
         };
         self.events.push_reserved(RoundEvent::StartPoll(target));
         OwnedEvent::StartPoll(target)
@@ -432,7 +433,7 @@ impl Round {
         self.phase = if usize::from(slot) + 1 < self.addresses.peers.len() {
             Phase::Sharing(slot + 1)
         } else {
-            Phase::Listening
+            Phase::AwaitConfirmations
         };
         self.events.push_reserved(RoundEvent::Share(peer));
         OwnedEvent::Share(peer)
@@ -472,7 +473,7 @@ fn is_hearing(phase: Phase) -> bool
     ensures { result ≡ is_hearing phase }
 {
     match phase {
-        Phase::Hearing | Phase::Listening | Phase::Resting => true,
+        Phase::AwaitResponses | Phase::AwaitConfirmations | Phase::BetweenRounds => true,
         Phase::Polling(_) | Phase::TimingOut(_) | Phase::Sharing(_) | Phase::Over | Phase::Rested =>
             false,
     }
@@ -484,7 +485,7 @@ fn settled_phase(phase: Phase, more: bool) -> Phase
     ensures { result ≡ settled_phase phase more }
 {
     match phase {
-        Phase::TimingOut(_) if !more => Phase::Hearing,
+        Phase::TimingOut(_) if !more => Phase::AwaitResponses,
         phase => phase,
     }
 }
@@ -494,7 +495,7 @@ fn phase_ended(phase: Phase) -> Phase
     ensures { result ≡ phase_ended phase }
 {
     match phase {
-        Phase::Resting | Phase::Rested => Phase::Rested,
+        Phase::BetweenRounds | Phase::Rested => Phase::Rested,
         _ => Phase::Over,
     }
 }
@@ -504,7 +505,7 @@ fn wait_in(phase: Phase) -> Wait
     ensures { result ≡ wait_in phase }
 {
     match phase {
-        Phase::Resting => Wait::Rest,
+        Phase::BetweenRounds => Wait::Rest,
         _ => Wait::Renew,
     }
 }

@@ -21,9 +21,9 @@ const TURNS: u64 = 5000;
 
 impl<R: Receiver + Drop> Rounds<R> {
     /// Runs a station through a round or the time between two, and puts into `run` what was done,
-    /// in place of what it held. A round ends with a save, unless `set_saves` said that it does not.
-    /// What was refused or failed is counted, and the run goes on. The time between two rounds is
-    /// cut short after 4096 datagrams or 16 receptions that failed.
+    /// in place of what it held. A round ends with a save, unless `set_saves` said that it does
+    /// not. What was refused or failed is counted, and the run goes on. The time between two rounds
+    /// is cut short after 4096 datagrams or 16 receptions that failed.
     ///
     /// # Errors
     /// `OutOfMemory` if there is no memory for the answers, before anything is asked.
@@ -37,13 +37,19 @@ impl<R: Receiver + Drop> Rounds<R> {
     ) -> Result<(), StationFault>
         // The station was given the events of a whole round, which saves if that was said, or what
         // came between two, and answered them so.
-        ensures ran { OnOk result (HasRun (IsWhole span self.old.round self.new.round) (seen station.old (view_of (begun span self.old.round) (R.heard self.old.receiver) (kept_in self.old.latest)) (O.handed outbox.old))
+        ensures ran { OnOk result (HasRun (IsWhole span self.old.round self.new.round)
+            (seen station.old (view_of (begun span self.old.round) (R.heard self.old.receiver)
+            (kept_in self.old.latest)) (O.handed outbox.old))
             (seen station.new (view_of self.new.round (R.heard self.new.receiver) (kept_in self.new.latest)) (O.handed outbox.new)) run.new) }
         // At most so many waits begin, each as long as a wait is, whatever comes.
-        ensures waits { OnOk result (GoesOnBy (HasWaits (most_waits span self.old.round) (first_wait span self.old.round.wait_ms)) (R.heard self.old.receiver) (R.heard self.new.receiver)) }
+        ensures waits { OnOk result (GoesOnBy (HasWaits (most_waits span self.old.round)
+            (first_wait span self.old.round.wait_ms)) (R.heard self.old.receiver)
+            (R.heard self.new.receiver)) }
         ensures refused { OnOk result (run.new.refused ≡ faults_in run.new.answers.items) }
-        ensures source { OnOk result (R.failures self.new.receiver ≡ failures_after run.new.source_faults (R.failures self.old.receiver)) }
-        ensures outbox { OnOk result (HasFailed (O.failures outbox.old) (O.failures outbox.new) run.new.send_faults) }
+        ensures source { OnOk result (R.failures self.new.receiver
+            ≡ failures_after run.new.source_faults (R.failures self.old.receiver)) }
+        ensures outbox { OnOk result (HasFailed (O.failures outbox.old) (O.failures outbox.new)
+            run.new.send_faults) }
         ensures fault { IfErr result (λ f. f ≡ StationFault.OutOfMemory) }
         ensures nothing { OnErr result (IsEmpty run.new) }
         // A run that had the capacity once keeps it, and is not refused then.

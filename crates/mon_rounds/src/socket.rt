@@ -46,7 +46,8 @@ impl<'a, R: Ticks, S: Receives> SocketReceiver<'a, R, S> {
 impl<R: Ticks, S: Receives> SocketReceiver<'_, R, S> {
     /// Begins a wait, begins its quiet anew, or goes on with it.
     fn begin(&mut self, wait: Wait) -> io::Result<()>
-        ensures wait { OnOk result (IsTimed (R.told self.old.waiting.rt.now self.old.waiting.timer.quiet) wait self.old.waiting.timer self.new.waiting.timer) }
+        ensures wait { OnOk result (IsTimed (R.told self.old.waiting.rt.now
+            self.old.waiting.timer.quiet) wait self.old.waiting.timer self.new.waiting.timer) }
         ensures rt { self.new.waiting.rt ≡ self.old.waiting.rt }
         ensures socket { self.new.socket ≡ self.old.socket }
         ensures room { self.new.buffer ≡ self.old.buffer }
@@ -60,7 +61,9 @@ impl<R: Ticks, S: Receives> SocketReceiver<'_, R, S> {
 
     /// Receives something in the rest of the wait.
     fn receive_rest(&mut self) -> Result<Arrival, ReceiverFault>
-        ensures got { IfOk result (IsGot (R.told self.old.waiting.rt.now self.old.waiting.timer.quiet) (S.quiet self.old.socket.now) (S.received self.old.socket.now) self.new.buffer.items self.old.waiting.timer) }
+        ensures got { IfOk result (IsGot (R.told self.old.waiting.rt.now
+            self.old.waiting.timer.quiet) (S.quiet self.old.socket.now)
+            (S.received self.old.socket.now) self.new.buffer.items self.old.waiting.timer) }
         ensures waiting { self.new.waiting ≡ self.old.waiting }
         ensures room { length self.new.buffer.items ≡ length self.old.buffer.items }
     {
@@ -76,8 +79,11 @@ impl<R: Ticks, S: Receives> SocketReceiver<'_, R, S> {
 
     /// Receives something in this wait.
     fn receive_in(&mut self, wait: Wait) -> Result<Arrival, ReceiverFault>
-        ensures wait { OnOk result (IsTimed (R.told self.old.waiting.rt.now self.old.waiting.timer.quiet) wait self.old.waiting.timer self.new.waiting.timer) }
-        ensures got { IfOk result (IsGot (R.told self.old.waiting.rt.now self.new.waiting.timer.quiet) (S.quiet self.old.socket.now) (S.received self.old.socket.now) self.new.buffer.items self.new.waiting.timer) }
+        ensures wait { OnOk result (IsTimed (R.told self.old.waiting.rt.now
+            self.old.waiting.timer.quiet) wait self.old.waiting.timer self.new.waiting.timer) }
+        ensures got { IfOk result (IsGot (R.told self.old.waiting.rt.now
+            self.new.waiting.timer.quiet) (S.quiet self.old.socket.now)
+            (S.received self.old.socket.now) self.new.buffer.items self.new.waiting.timer) }
         ensures room { length self.new.buffer.items ≡ length self.old.buffer.items }
     {
         match self.begin(wait) {
@@ -118,9 +124,12 @@ impl<R: Ticks, S: Receives> Receiver for SocketReceiver<'_, R, S> {
     fn receive(&mut self, wait: Wait) -> Result<Arrival, ReceiverFault>
         ensures failures { self.new.failures ≡ failed_after result self.old.failures }
         // The wait begins, or is quiet since, the time that the clock tells in this call.
-        ensures wait { OnOk result (IsTimed (R.told self.old.waiting.rt.now self.old.waiting.timer.quiet) wait self.old.waiting.timer self.new.waiting.timer) }
+        ensures wait { OnOk result (IsTimed (R.told self.old.waiting.rt.now
+            self.old.waiting.timer.quiet) wait self.old.waiting.timer self.new.waiting.timer) }
         // A datagram is the system's; there is none only if the wait is over.
-        ensures got { IfOk result (IsGot (R.told self.old.waiting.rt.now self.new.waiting.timer.quiet) (S.quiet self.old.socket.now) (S.received self.old.socket.now) self.new.buffer.items self.new.waiting.timer) }
+        ensures got { IfOk result (IsGot (R.told self.old.waiting.rt.now
+            self.new.waiting.timer.quiet) (S.quiet self.old.socket.now)
+            (S.received self.old.socket.now) self.new.buffer.items self.new.waiting.timer) }
         ensures room { length self.new.buffer.items ≡ length self.old.buffer.items }
     {
         let failures = self.failures;
@@ -198,7 +207,8 @@ impl<'a, S: Sends> SocketOutbox<'a, S> {
     fn put(&self, out: &Outgoing) -> Result<(), OutboxFault>
         ensures nowhere { goes_to self.now.addresses out.now.to ≡ None → IsErr result }
         // What is answered as sent was sent: its octets, to where it goes.
-        ensures sent { OnOk result (IsSentTo (S.sent self.now.socket.now) (goes_to self.now.addresses out.now.to) out.now.octets) }
+        ensures sent { OnOk result (IsSentTo (S.sent self.now.socket.now)
+            (goes_to self.now.addresses out.now.to) out.now.octets) }
     {
         let Some(to) = self.address_of(out.to) else {
             return Err(OutboxFault);
@@ -223,7 +233,8 @@ impl<S: Sends> Outbox for SocketOutbox<'_, S> {
         // What has no address is not sent, and that counts as a failure.
         ensures nowhere { goes_to self.old.addresses out.now.to ≡ None → IsErr result }
         // What is answered as sent was sent: its octets, to where it goes.
-        ensures sent { OnOk result (IsSentTo (S.sent self.old.socket.now) (goes_to self.old.addresses out.now.to) out.now.octets) }
+        ensures sent { OnOk result (IsSentTo (S.sent self.old.socket.now)
+            (goes_to self.old.addresses out.now.to) out.now.octets) }
     {
         let sent = self.put(out);
         self.failures = failed_after(self.failures, &sent);

@@ -15,7 +15,7 @@ use crate::receiver::{Arrival, Receiver, Wait};
 use crate::round::{Round, Span};
 use mon_ber::Octets;
 use mon_poller::Poller;
-use mon_reasons::{Latest, laws};
+use mon_reasons::{NewestDatagrams, laws};
 use mon_station::{Answer, OwnedEvent, Source, SourceFault};
 use mon_udp::Addr;
 use std::alloc::{AllocError, Global};
@@ -26,7 +26,7 @@ pub struct Rounds<R: Receiver + Drop> {
     pub(crate) round: Round,
     pub(crate) receiver: R,
     alloc: Global,
-    latest: Latest,
+    latest: NewestDatagrams,
     ghost few: { AreFew latest.datagrams.items round.targets },
 }
 
@@ -54,7 +54,8 @@ impl<R: Receiver + Drop> Rounds<R> {
         tries: u8,
         receiver: R,
     ) -> Result<Self, AllocError>
-        ensures round { IfOk result (λ r. r.round ≡ unbegun addresses.targets.items addresses.peers.items addresses.peer_addresses.items wait_ms tries) }
+        ensures round { IfOk result (λ r. r.round ≡ unbegun addresses.targets.items
+            addresses.peers.items addresses.peer_addresses.items wait_ms tries) }
         ensures receiver { IfOk result (λ r. r.receiver ≡ receiver) }
         ensures latest { IfOk result (λ r. r.latest.datagrams.items ≡ []) }
     {
@@ -62,7 +63,7 @@ impl<R: Receiver + Drop> Rounds<R> {
             round: Round::new(alloc, addresses, wait_ms, tries)?,
             receiver,
             alloc,
-            latest: Latest::new(alloc),
+            latest: NewestDatagrams::new(alloc),
         })
     }
 
@@ -85,7 +86,7 @@ impl<R: Receiver + Drop> Rounds<R> {
 
     /// Returns the newest datagrams of targets: of each address as many as there are targets at it.
     /// One for which memory was refused is not among them.
-    pub fn latest(&self) -> &Latest
+    pub fn latest(&self) -> &NewestDatagrams
         ensures latest { result.now ≡ self.now.latest }
         ensures few { length result.now.datagrams.items ≤ length self.now.round.targets }
     {
@@ -103,7 +104,8 @@ impl<R: Receiver + Drop> Rounds<R> {
     pub fn receiver_mut(&mut self) -> &mut R
         ensures value { result.now ≡ self.old.receiver }
         // All else stays, and the receiver is then what was left behind the result.
-        ensures* writes_back { sem 𝓛 (Lends (the_row R.row R.Receiver) R.row self.entry result (λ w. record self.old { receiver = w })) }
+        ensures* writes_back { sem 𝓛 (Lends (the_row R.row R.Receiver) R.row self.entry result
+            (λ w. record self.old { receiver = w })) }
     {
         &mut self.receiver
     }
@@ -135,9 +137,12 @@ impl<R: Receiver + Drop> Rounds<R> {
         polls: &Poller,
         last: Option<Answer>,
     ) -> Result<Option<OwnedEvent>, SourceFault>
-        ensures step { GoesOnBy (λ log. GivesNext self.old.round polls.now.polls.open_polls last log result self.new.round) (R.heard self.old.receiver) (R.heard self.new.receiver) }
-        ensures failures { R.failures self.new.receiver ≡ failed_after result (R.failures self.old.receiver) }
-        ensures latest { KeepsGiven self.old.round result (kept_in self.old.latest) (kept_in self.new.latest) }
+        ensures step { GoesOnBy (λ log. GivesNext self.old.round polls.now.polls.open_polls last log
+            result self.new.round) (R.heard self.old.receiver) (R.heard self.new.receiver) }
+        ensures failures { R.failures self.new.receiver ≡ failed_after result
+            (R.failures self.old.receiver) }
+        ensures latest { KeepsGiven self.old.round result (kept_in self.old.latest)
+            (kept_in self.new.latest) }
         ensures ended { result ≡ Ok None → IsEnded self.new.round.phase }
         ensures turns { TakesTurn result (turns_left self.old.round) (turns_left self.new.round) }
     {
@@ -154,9 +159,12 @@ impl<R: Receiver + Drop> Rounds<R> {
         last: Option<Answer>,
     ) -> Result<Option<OwnedEvent>, SourceFault>
         requires later { IfSome oldest (λ id. timed_out self.old.round.phase < id) }
-        ensures step { GoesOnBy (λ log. Receives self.old.round oldest last log result self.new.round) (R.heard self.old.receiver) (R.heard self.new.receiver) }
-        ensures failures { R.failures self.new.receiver ≡ failed_after result (R.failures self.old.receiver) }
-        ensures latest { KeepsGiven self.old.round result (kept_in self.old.latest) (kept_in self.new.latest) }
+        ensures step { GoesOnBy (λ log. Receives self.old.round oldest last log result
+            self.new.round) (R.heard self.old.receiver) (R.heard self.new.receiver) }
+        ensures failures { R.failures self.new.receiver ≡ failed_after result
+            (R.failures self.old.receiver) }
+        ensures latest { KeepsGiven self.old.round result (kept_in self.old.latest)
+            (kept_in self.new.latest) }
         ensures ended { result ≡ Ok None → IsEnded self.new.round.phase }
         ensures turns { TakesTurn result (turns_left self.old.round) (turns_left self.new.round) }
     {
@@ -176,9 +184,12 @@ impl<R: Receiver + Drop> Rounds<R> {
         requires due { next_wait self.old.round last ≡ Some wait }
         requires must { must_receive self.old.round ≡ true }
         requires later { IfSome oldest (λ id. timed_out self.old.round.phase < id) }
-        ensures step { GoesOnBy (λ log. Receives self.old.round oldest last log result self.new.round) (R.heard self.old.receiver) (R.heard self.new.receiver) }
-        ensures failures { R.failures self.new.receiver ≡ failed_after result (R.failures self.old.receiver) }
-        ensures latest { KeepsGiven self.old.round result (kept_in self.old.latest) (kept_in self.new.latest) }
+        ensures step { GoesOnBy (λ log. Receives self.old.round oldest last log result
+            self.new.round) (R.heard self.old.receiver) (R.heard self.new.receiver) }
+        ensures failures { R.failures self.new.receiver ≡ failed_after result
+            (R.failures self.old.receiver) }
+        ensures latest { KeepsGiven self.old.round result (kept_in self.old.latest)
+            (kept_in self.new.latest) }
         ensures ended { result ≡ Ok None → IsEnded self.new.round.phase }
         ensures turns { TakesTurn result (turns_left self.old.round) (turns_left self.new.round) }
     {
@@ -203,7 +214,9 @@ impl<R: Receiver + Drop> Rounds<R> {
     fn keep_latest(&mut self, from: Addr, octets: &Octets)
         ensures round { self.new.round ≡ self.old.round }
         ensures receiver { self.new.receiver ≡ self.old.receiver }
-        ensures latest { KeepsNewest (most_kept self.old.round from) (record { from = from; octets = octets.now }) (kept_in self.old.latest) (kept_in self.new.latest) }
+        ensures latest { KeepsNewest (most_kept self.old.round from)
+            (record { from = from; octets = octets.now }) (kept_in self.old.latest)
+            (kept_in self.new.latest) }
     {
         laws::newest_stay();
         let most = self.round.most_kept(from);

@@ -1,7 +1,7 @@
 //! Does what each line of standard input says, and prints what is answered, a line for each, to be
-//! compared with the expected lines: tests/calls runs it over the rows of tests/cases/calls. A line that
-//! is empty or begins with # is passed over. Where no answer can be given, the program ends with
-//! status 1.
+//! compared with the expected lines: tests/calls runs it over the rows of tests/cases/calls. A line
+//! that is empty or begins with # is passed over. Where no answer can be given, the program ends
+//! with status 1.
 //!
 //! The crate of each group has its lines:
 //!

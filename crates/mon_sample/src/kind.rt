@@ -1,8 +1,8 @@
 ghost use Rattle.std.specs.Prelude.{◌≡◌, ◌≢◌, IfSome, IfNone};
 ghost use Rattle.mon_sample.specs.Kind.{kind_tag, kind_at, kind_name, holds, number_of};
 
-/// The type of a sampled value, with its BER tag: universal 2 for INTEGER, and application 1, 2, 3 and 6
-/// for the others (RFC 2578 section 2).
+/// The type of a sampled value, with its BER tag: universal 2 for INTEGER, and application 1, 2, 3
+/// and 6 for the others (RFC 2578 section 2).
 #[derive(Clone, Copy, Debug, PartialEq, Eq)]
 pub enum Kind {
     /// A signed number of 32 bits (RFC 2578 section 7.1.1).

@@ -8,7 +8,8 @@ ghost use Rattle.mon_sample.specs.Record.{octets_of, spelled, layout};
 
 /// The order of the samples' octets is the order of their numbers.
 pub fn order()
-    ensures { (s t : ℕ) → IsSample s → IsSample t → slice_cmp nat_cmp (octets_of s) (octets_of t) ≡ nat_cmp s t }
+    ensures { (s t : ℕ) → IsSample s → IsSample t → slice_cmp nat_cmp (octets_of s) (octets_of t)
+        ≡ nat_cmp s t }
 {}
 
 /// A sample's octets spell it.
@@ -18,6 +19,8 @@ pub fn one_number()
 
 /// A sample's octets are those of its boots, time, discontinuity, tag and value, one after another.
 pub fn octets_by_field()
-    ensures { (boots time discontinuity tag value : ℕ) → time < 2 ^ 32 → discontinuity < 2 ^ 32 → tag < 2 ^ 8 → value < 2 ^ 64
-        → octets_of (key boots time discontinuity tag value) ≡ layout boots time discontinuity tag value }
+    ensures { (boots time discontinuity tag value : ℕ) → time < 2 ^ 32 → discontinuity < 2 ^ 32
+        → tag < 2 ^ 8 → value < 2 ^ 64
+        → octets_of (key boots time discontinuity tag value)
+        ≡ layout boots time discontinuity tag value }
 {}

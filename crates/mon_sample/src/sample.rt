@@ -13,8 +13,8 @@ use std::marker::Model;
 /// One more than the greatest boots and time.
 const STAMP_LIMIT: u32 = 1 << 31;
 
-/// A value that an agent gave for an object, and when. Contracts see the number that its record's octets spell,
-/// so the newer of two samples is the greater number.
+/// A value that an agent gave for an object, and when. Contracts see the number that its record's
+/// octets spell, so the newer of two samples is the greater number.
 #[derive(Clone, Copy, Debug, PartialEq, Eq)]
 pub struct Sample {
     boots: u32,
@@ -36,15 +36,31 @@ impl Model for Sample {
 
     ghost invariant = { λ s. AreFields s.boots s.time s.discontinuity s.kind s.value };
 
-    ghost inverse = { λ k. record { boots = boots_of k; time = time_of k; discontinuity = discontinuity_of k; kind = kind_of k; value = sample_value k } };
+    ghost inverse = { λ k. record {
+      boots = boots_of k;
+      time = time_of k;
+      discontinuity =
+          discontinuity_of k;
+      kind = kind_of k;
+      value = sample_value k;
+    } };
 
-    ghost inverse_ok = { λ a h. λ i. let e = fields_back a.boots a.time a.discontinuity a.kind a.value h in record { boots = e.boots_back i; time = e.time_back i; discontinuity = e.discontinuity_back i; kind = e.kind_is i; value = e.value_back i } };
+    ghost inverse_ok = { λ a h. λ i. let e = fields_back a.boots a.time a.discontinuity a.kind
+        a.value h in record {
+          boots = e.boots_back i;
+          time = e.time_back i;
+          discontinuity =
+              e.discontinuity_back i;
+          kind = e.kind_is i;
+          value = e.value_back i;
+        } };
 }
 
 impl Sample {
-    /// A sample of these fields. `boots` and `time` are the agent's snmpEngineBoots and snmpEngineTime, at most 2147483647
-    /// (RFC 3411 section 5); `discontinuity` is the value of the object's discontinuity indicator, 0 where it has none; `value` is
-    /// the object's value modulo 2^64.
+    /// A sample of these fields. `boots` and `time` are the agent's snmpEngineBoots and
+    /// snmpEngineTime, at most 2147483647 (RFC 3411 section 5); `discontinuity` is the value of the
+    /// object's discontinuity indicator, 0 where it has none; `value` is the object's value modulo
+    /// 2^64.
     pub fn new(boots: u32, time: u32, discontinuity: u32, kind: Kind, value: u64) -> Self
         requires boots { boots < 2 ^ 31 }
         requires time { time < 2 ^ 31 }
@@ -76,7 +92,8 @@ impl Sample {
         self.time
     }
 
-    /// The value of the object's discontinuity indicator (RFC 2578 section 7.1.6), 0 where it has none.
+    /// The value of the object's discontinuity indicator (RFC 2578 section 7.1.6), 0 where it has
+    /// none.
     pub fn discontinuity(&self) -> u32
         ensures { result ≡ discontinuity_of self.now }
     {
@@ -159,7 +176,8 @@ impl Sample {
 
         // The first fault that the octets have.
         ensures tag { (result ≡ Err SampleFault.BadTag) ↔ ¬ (HasTag (spelled octets.now)) }
-        ensures stamp { (result ≡ Err SampleFault.BadStamp) ↔ (HasTag (spelled octets.now) × ¬ (HasStamp (spelled octets.now))) }
+        ensures stamp { (result ≡ Err SampleFault.BadStamp) ↔
+            (HasTag (spelled octets.now) × ¬ (HasStamp (spelled octets.now))) }
         ensures value { (result ≡ Err SampleFault.BadValue)
             ↔ (HasTag (spelled octets.now) × HasStamp (spelled octets.now) × ¬ (HasValue (spelled octets.now))) }
     {
@@ -207,7 +225,8 @@ fn digits_of(octets: &[u8; 21]) -> Parts
     ensures discontinuity { result.discontinuity ≡ discontinuity_of (spelled octets.now) }
     ensures tag { result.tag ≡ tag_of (spelled octets.now) }
     ensures value { result.value ≡ sample_value (spelled octets.now) }
-    ensures whole { key result.boots result.time result.discontinuity result.tag result.value ≡ spelled octets.now }
+    ensures whole { key result.boots result.time result.discontinuity result.tag result.value
+        ≡ spelled octets.now }
     ensures octets { octets.now ≡ octets_of (spelled octets.now) }
 {
     parts_of(octets)

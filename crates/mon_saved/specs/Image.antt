@@ -30,24 +30,29 @@ before_entry Two e = e.window ∷ e.epoch ∷ []
 
 -- the entry of an instance: its sizes, the instance, how many samples there are, these
 unfoldable pub entry_octets : ImageVersion → Instance → Entry → List ℕ
-entry_octets v i e = before_entry v e ++ (instance_octets i.engine i.name ++ (length e.samples ∷ samples_octets e.samples))
+entry_octets v i e = before_entry v e ++ (instance_octets i.engine i.name
+    ++ (length e.samples ∷ samples_octets e.samples))
 
 -- an entry for each instance
 abbrev pub entries_octets : ImageVersion → List Instance → List Entry → List ℕ
 entries_octets v [] entries = []
 entries_octets v (i ∷ instances) [] = []
-entries_octets v (i ∷ instances) (e ∷ entries) = entry_octets v i e ++ entries_octets v instances entries
+entries_octets v (i ∷ instances) (e ∷ entries) = entry_octets v i e
+    ++ entries_octets v instances entries
 
--- an image: MI, the version, the incarnation of four octets, the count of instances of two, the entries
+-- an image: MI, the version, the incarnation of four octets, the count of instances of two, the
+-- entries
 unfoldable pub image_octets : ImageVersion → List Instance → Image → List ℕ
 image_octets v instances image = 77 ∷ 73 ∷ version_octet v ∷ (to_be_bytes w32 image.incarnation
-    ++ (before_count v ++ (to_be_bytes w16 (length instances) ++ entries_octets v instances image.entries)))
+    ++ (before_count v ++ (to_be_bytes w16 (length instances)
+    ++ entries_octets v instances image.entries)))
 
 -- how many of the samples have this boots number
 abbrev pub of_boots : ℕ → List ℕ → ℕ
 of_boots boots samples = length (filter (λ s. nat_eq (boots_of s) boots) samples)
 
--- the sizes are in range, the samples rise, and neither all of them nor those of one boots number are too many
+-- the sizes are in range, the samples rise, and neither all of them nor those of one boots number
+-- are too many
 pub record IsEntry (e : Entry) : Type 0 where
   pub small : e.window ≤ 64
   pub part : e.epoch ≤ e.window

@@ -16,28 +16,35 @@ use Rattle.mon_saved.specs.declared.kept.KeptImage.{KeptImage}
 
 -- the octets of the image of these windows and this incarnation
 abbrev pub image_with : List Watched → (ℕ → Samples) → ℕ → List ℕ
-image_with watched windows incarnation = image_octets Two (instances_of watched) (record { incarnation = incarnation; entries = entries_from windows 0 watched })
+image_with watched windows incarnation = image_octets Two (instances_of watched)
+    (record { incarnation = incarnation; entries = entries_from windows 0 watched })
 
 -- the entries from the instance of this number on
 abbrev pub entries_on : List Watched → (ℕ → Samples) → ℕ → List ℕ
-entries_on watched windows i = entries_octets Two (instances_of (drop i watched)) (entries_from windows i (drop i watched))
+entries_on watched windows i = entries_octets Two (instances_of (drop i watched))
+    (entries_from windows i (drop i watched))
 
 -- the end of an image, from the records of the instance of this number on
 abbrev pub records_on : List Watched → (ℕ → Samples) → ℕ → List ℕ
-records_on watched windows i = samples_octets (rising (windows i)) ++ entries_on watched windows (i + 1)
+records_on watched windows i = samples_octets (rising (windows i))
+    ++ entries_on watched windows (i + 1)
 
 -- behind 16 octets the image of these windows and this incarnation, at most 484633 octets in all,
 -- and the places in these octets where the records of each instance begin
-pub record HoldsImage (octets begins : List ℕ) (watched : List Watched) (windows : ℕ → Samples) (incarnation : ℕ) : Type 0 where
+pub record HoldsImage (octets begins : List ℕ) (watched : List Watched) (windows : ℕ → Samples)
+    (incarnation : ℕ) : Type 0 where
   pub image : drop 16 octets ≡ image_with watched windows incarnation
   pub few : length octets ≤ 484633
   pub number : length begins ≡ length watched
-  pub places : (i : ℕ) → i < length watched → get_or begins i 0 + length (records_on watched windows i) ≡ length octets
-  pub samples : (i k : ℕ) → i < length watched → k < length (rising (windows i)) → IsSample (get_or (rising (windows i)) k 0)
+  pub places : (i : ℕ) → i < length watched → get_or begins i 0
+      + length (records_on watched windows i) ≡ length octets
+  pub samples : (i k : ℕ) → i < length watched → k < length (rising (windows i))
+      → IsSample (get_or (rising (windows i)) k 0)
 
 -- it is the image of the board's windows, unless it names no incarnation
 abbrev pub IsKept : KeptImage → Board → Type 0
-IsKept image board = 1 ≤ image.incarnation → HoldsImage image.octets.items image.places.items board.watch.instances (window_of board) image.incarnation
+IsKept image board = 1 ≤ image.incarnation → HoldsImage image.octets.items image.places.items
+    board.watch.instances (window_of board) image.incarnation
 
 -- it was the image of the windows before an insertion into that of this instance
 pub record WasKept (image : KeptImage) (board : Board) (i : ℕ) (how : Inserted) : Type 0 where

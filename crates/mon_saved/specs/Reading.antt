@@ -1,5 +1,6 @@
 -- Reading images of given instances from left to right, with the first fault that is met.
-use Rattle.std.specs.Prelude.{◌≡◌, ℕ, Bool, List, [], ◌∷◌, length, Result, Ok, Err, nat_lt, ◌==◌, ◌||◌, if◌then◌else◌, not}
+use Rattle.std.specs.Prelude.{◌≡◌, ℕ, Bool, List, [], ◌∷◌, length, Result, Ok, Err, nat_lt, ◌==◌}
+use Rattle.std.specs.Prelude.{◌||◌, if◌then◌else◌, not}
 use Rattle.std.specs.Int.{w16, w32, to_be_bytes}
 use Rattle.std.specs.Cmp.Lexicographic.{pointwise}
 use Rattle.std.specs.Prelude.{nat_eq}
@@ -10,7 +11,8 @@ use Rattle.mon_board.specs.declared.instance.Instance.{Instance}
 use Rattle.mon_fields.specs.declared.fault.LayoutFault.{LayoutFault}
 use Rattle.mon_fields.specs.Reading.{octet_at, field_at, u32_at, samples_at}
 use Rattle.mon_saved.specs.declared.fault.ImageFault.{ImageFault}
-use Rattle.mon_saved.specs.declared.fault.ImageFault.TheVariants.{OutOfMemory, Truncated, BadVersion, OtherWatch, BadImage}
+use Rattle.mon_saved.specs.declared.fault.ImageFault.TheVariants.{OutOfMemory, Truncated}
+use Rattle.mon_saved.specs.declared.fault.ImageFault.TheVariants.{BadVersion, OtherWatch, BadImage}
 use Rattle.mon_saved.specs.declared.image.Entry.{Entry}
 use Rattle.mon_saved.specs.declared.image.Image.{Image}
 use Rattle.mon_saved.specs.Fault.{image_fault}
@@ -55,7 +57,8 @@ incarnation_at octets = do
 
 -- the one window of version 1, 0 in version 2, and what follows it
 unfoldable pub window_at : ℕ → List ℕ → Result (ℕ × List ℕ) ImageFault
-window_at version octets = if version == 1 then octet_within 1 64 BadImage octets else Ok (0, octets)
+window_at version octets = if version == 1 then octet_within 1 64 BadImage octets
+    else Ok (0, octets)
 
 -- these octets, and what follows them
 unfoldable pub expected_at : List ℕ → List ℕ → Result (List ℕ) ImageFault
@@ -76,14 +79,17 @@ instance_is i octets = do
   c ← expected_at (length i.name ∷ []) b
   numbers_are i.name c
 
--- the window and the epoch of an instance: the one window, or two octets where that is 0; and what follows
+-- the window and the epoch of an instance: the one window, or two octets where that is 0; and what
+-- follows
 unfoldable pub sizes_at : ℕ → List ℕ → Result ((ℕ × ℕ) × List ℕ) ImageFault
 sizes_at window octets = if nat_lt 0 window then Ok ((window, window), octets) else
-    (octet_within 1 64 BadImage octets >>= λ w. octet_within 1 w.0 BadImage w.1 >>= λ e. Ok ((w.0, e.0), e.1))
+    (octet_within 1 64 BadImage octets >>= λ w. octet_within 1 w.0 BadImage w.1 >>= λ e. Ok
+    ((w.0, e.0), e.1))
 
 -- whether no boots number has more than this many of the samples
 abbrev pub fits_epoch : ℕ → List ℕ → Bool
-fits_epoch epoch samples = list_all (λ s. not (nat_lt epoch (of_boots (boots_of s) samples))) samples
+fits_epoch epoch samples = list_all (λ s. not (nat_lt epoch (of_boots (boots_of s) samples)))
+    samples
 
 -- samples that fit the window and the epoch, and what follows them
 unfoldable pub saved_at : ℕ × ℕ → List ℕ → Result (List ℕ × List ℕ) ImageFault
@@ -103,9 +109,11 @@ entry_at window i octets = do
 -- an entry_of for each instance, and what follows them
 unfoldable pub entries_at : ℕ → List Instance → List ℕ → Result (List Entry × List ℕ) ImageFault
 entries_at window [] octets = Ok ([], octets)
-entries_at window (i ∷ instances) octets = entry_at window i octets >>= λ e. entries_at window instances e.1 >>= λ es. Ok (e.0 ∷ es.0, es.1)
+entries_at window (i ∷ instances) octets = entry_at window i octets >>= λ e. entries_at window
+    instances e.1 >>= λ es. Ok (e.0 ∷ es.0, es.1)
 
--- the incarnation and the one window, 0 in version 2, of an image of this many instances, and what follows them
+-- the incarnation and the one window, 0 in version 2, of an image of this many instances, and what
+-- follows them
 unfoldable pub header_at : ℕ → List ℕ → Result ((ℕ × ℕ) × List ℕ) ImageFault
 header_at many octets = do
   mark ← magic_at octets

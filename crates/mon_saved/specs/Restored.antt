@@ -23,10 +23,11 @@ IsUnmarked board = (slot i s : ℕ) → is_marked board slot i s ≡ false
 
 -- the octets spell an image of the watch's instances with this incarnation, and the board has of
 -- each instance what the watch keeps of the image's samples, none of them marked
-pub record IsRestored (watch : Watch) (octets : List ℕ) (board : Board) (incarnation : ℕ) : Type 0 where
-  pub image : Image
-  pub spelled : SpellsImage octets (instances_of watch.instances) image
-  pub incarnation_is : incarnation ≡ image.incarnation
-  pub watch_is : board.watch ≡ watch
-  pub windows : (i : ℕ) → window_of board i ≡ window watch (saved_pairs image) i
-  pub unmarked : IsUnmarked board
+pub record IsRestored (watch : Watch) (octets : List ℕ) (board : Board) (incarnation : ℕ) : Type 0
+  where
+    pub image : Image
+    pub spelled : SpellsImage octets (instances_of watch.instances) image
+    pub incarnation_is : incarnation ≡ image.incarnation
+    pub watch_is : board.watch ≡ watch
+    pub windows : (i : ℕ) → window_of board i ≡ window watch (saved_pairs image) i
+    pub unmarked : IsUnmarked board

@@ -23,8 +23,8 @@ pub enum ImageFault {
     /// The instances are not those of the watch.
     #[error("the file holds other instances than these settings name")]
     OtherWatch = 4,
-    /// The octets are no image: the first two octets, the incarnation, a size, a count or a sample is wrong, or octets
-    /// are left over.
+    /// The octets are no image: the first two octets, the incarnation, a size, a count or a sample
+    /// is wrong, or octets are left over.
     #[error("the octets are no image")]
     BadImage = 5,
 }

@@ -16,15 +16,17 @@ use crate::reading::read;
 use mon_board::{Board, Watch, laws};
 use std::alloc::Global;
 
-/// The board of the watch and the incarnation that the octets, all of them, spell in version 1 or 2: of each instance what
-/// the watch keeps of the image's samples, whatever sizes the image has; no sample is marked. Otherwise the first fault from
-/// the left, and nothing is kept.
+/// The board of the watch and the incarnation that the octets, all of them, spell in version 1 or
+/// 2: of each instance what the watch keeps of the image's samples, whatever sizes the image has;
+/// no sample is marked. Otherwise the first fault from the left, and nothing is kept.
 pub fn read_image(alloc: Global, watch: &Watch, octets: &[u8]) -> Result<(Board, u32), ImageFault>
     ensures found { IfOk result (λ r. IsRestored watch.now octets.now r.0 r.1) }
     // Where the octets spell an image of the watch's instances, only memory can be refused.
-    ensures only { (image : AnyImage) → SpellsImage octets.now (instances_of watch.now.instances) image → IfErr result (λ e. e ≡ OutOfMemory) }
+    ensures only { (image : AnyImage) → SpellsImage octets.now (instances_of watch.now.instances)
+        image → IfErr result (λ e. e ≡ OutOfMemory) }
     // Which fault it is: the first from left to right.
-    ensures fault { IfErr result (λ e. Fails e (image_at (instances_of watch.now.instances) octets.now)) }
+    ensures fault { IfErr result (λ e. Fails e (image_at (instances_of watch.now.instances)
+        octets.now)) }
 {
     let image = read(alloc, watch, octets)?;
     let mut board = Board::new(alloc, watch.try_clone(alloc)?)?;
@@ -36,7 +38,8 @@ pub fn read_image(alloc: Global, watch: &Watch, octets: &[u8]) -> Result<(Board,
 fn fill(board: &mut Board, entries: &[Entry])
     requires { length entries.now ≡ length board.old.watch.instances }
     ensures watch { board.new.watch ≡ board.old.watch }
-    ensures windows { (i : ℕ) → window_of board.new i ≡ joined board.old.watch (window_of board.old) (pairs_from 0 entries.now) i }
+    ensures windows { (i : ℕ) → window_of board.new i ≡ joined board.old.watch (window_of board.old)
+        (pairs_from 0 entries.now) i }
     ensures unmarked { IsUnmarked board.old → IsUnmarked board.new }
 {
     laws::taken_in_turn();

@@ -76,7 +76,8 @@ impl KeptImage {
         ensures kept { IsKept self.new board.now }
 
         // What has the capacity allocates nothing, and keeps it.
-        ensures spared { 16 + length (written_image board.now incarnation) ≤ vec_capacity self.old.octets
+        ensures spared { 16 + length (written_image board.now incarnation)
+            ≤ vec_capacity self.old.octets
             → length board.now.watch.instances ≤ vec_capacity self.old.places → IsOk result }
         ensures capacity { vec_capacity self.old.octets ≤ vec_capacity self.new.octets }
         ensures places_capacity { vec_capacity self.old.places ≤ vec_capacity self.new.places }
@@ -103,7 +104,8 @@ impl KeptImage {
         ensures kept { IsKept self.new board.now }
 
         // What has the capacity allocates nothing, and keeps it.
-        ensures spared { 16 + length (written_image board.now incarnation) ≤ vec_capacity self.old.octets
+        ensures spared { 16 + length (written_image board.now incarnation)
+            ≤ vec_capacity self.old.octets
             → length board.now.watch.instances ≤ vec_capacity self.old.places → IsOk result }
         ensures capacity { vec_capacity self.old.octets ≤ vec_capacity self.new.octets }
         ensures places_capacity { vec_capacity self.old.places ≤ vec_capacity self.new.places }
@@ -214,7 +216,8 @@ fn move_records(octets: &mut [u8], start: usize, items: &[Sample])
 fn put_places(places: &mut Vec<usize>, board: &Board) -> Result<usize, AllocError>
     ensures number { OnOk result (length places.new.items ≡ length board.now.watch.instances) }
     ensures places { OnOk result ((i : ℕ) → i < length board.now.watch.instances
-        → get_or places.new.items i 0 + length (records_on board.now.watch.instances (window_of board.now) i)
+        → get_or places.new.items i 0 + length (records_on board.now.watch.instances
+        (window_of board.now) i)
         ≡ 16 + length (written_image board.now 1)) }
     ensures size { IfOk result (λ n. n ≡ 16 + length (written_image board.now 1)) }
     ensures few { IfOk result (λ n. n ≤ 484633) }

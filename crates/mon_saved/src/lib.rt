@@ -1,7 +1,7 @@
-//! Saved images: the windows of a board and the incarnation of its station, as octets. An image is written in version 2, and
-//! read in versions 1 and 2.
-//! Contract: an image that is written spells the board and the incarnation; octets are read exactly where they spell an
-//! image of the watch's instances, and what is read is what the watch keeps of the image's samples.
+//! Saved images: the windows of a board and the incarnation of its station, as octets. An image is
+//! written in version 2, and read in versions 1 and 2. Contract: an image that is written spells
+//! the board and the incarnation; octets are read exactly where they spell an image of the watch's
+//! instances, and what is read is what the watch keeps of the image's samples.
 #![tactic(auto)]
 
 mod fault;

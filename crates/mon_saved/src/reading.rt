@@ -38,7 +38,8 @@ pub fn octet_within(
     reader: &mut Reader<'_>,
 ) -> Result<u8, ImageFault>
     ensures octets { AreOctets reader.old }
-    ensures gives { Gives (λ octet. (octet, reader.new)) result (octet_within least most fault reader.old) }
+    ensures gives { Gives (λ octet. (octet, reader.new)) result
+        (octet_within least most fault reader.old) }
 {
     let octet = reader.octet()?;
     if octet < least || octet > most {
@@ -168,7 +169,8 @@ pub fn saved_at(
     sizes: Sizes,
     reader: &mut Reader<'_>,
 ) -> Result<SampleList, ImageFault>
-    ensures { Gives (λ samples. (samples, reader.new)) result (saved_at (sizes.window, sizes.epoch) reader.old) }
+    ensures { Gives (λ samples. (samples, reader.new)) result
+        (saved_at (sizes.window, sizes.epoch) reader.old) }
 {
     let count = octet_within(0, sizes.window, ImageFault::BadImage, reader)?;
     let samples = reader.samples(alloc, count)?;
@@ -255,11 +257,14 @@ fn image_at(alloc: Global, watch: &Watch, octets: &[u8]) -> Result<Image, ImageF
 /// The first fault from the left.
 pub fn read(alloc: Global, watch: &Watch, octets: &[u8]) -> Result<Image, ImageFault>
     // What is read is spelled so.
-    ensures found { IfOk result (λ image. SpellsImage octets.now (instances_of watch.now.instances) image) }
+    ensures found { IfOk result (λ image. SpellsImage octets.now (instances_of watch.now.instances)
+        image) }
     // What is spelled so is read, unless memory runs out.
-    ensures only { (image : Image) → SpellsImage octets.now (instances_of watch.now.instances) image → Gives (λ x. x) result (Ok image) }
+    ensures only { (image : Image) → SpellsImage octets.now (instances_of watch.now.instances) image
+        → Gives (λ x. x) result (Ok image) }
     // Which fault it is: the first from left to right.
-    ensures fault { IfErr result (λ e. Fails e (image_at (instances_of watch.now.instances) octets.now)) }
+    ensures fault { IfErr result (λ e. Fails e (image_at (instances_of watch.now.instances)
+        octets.now)) }
 {
     mon_fields::laws::samples();
     image_at(alloc, watch, octets)

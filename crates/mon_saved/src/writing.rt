@@ -22,7 +22,8 @@ use std::alloc::{AllocError, Global};
 fn entry_size(watched: &Watched, samples: &[Sample]) -> usize
     requires engine { length watched.now.instance.engine ≤ 32 }
     requires few { length samples.now ≤ 64 }
-    ensures size { result ≡ length (entry_octets Two watched.now.instance (entry_of watched.now samples.now)) }
+    ensures size { result ≡ length (entry_octets Two watched.now.instance
+        (entry_of watched.now samples.now)) }
     ensures few { result ≤ 1893 }
 {
     let instance = &watched.instance;
@@ -36,9 +37,12 @@ fn put_entry(out: &mut Vec<u8>, watched: &Watched, samples: &[Sample])
     requires window { watched.now.window ≤ 64 }
     requires epoch { watched.now.epoch ≤ 64 }
     requires few { length samples.now ≤ 64 }
-    requires room { vec_len out.old + length (entry_octets Two watched.now.instance (entry_of watched.now samples.now)) ≤ vec_capacity out.old }
-    ensures items { out.new.items ≡ out.old.items ++ entry_octets Two watched.now.instance (entry_of watched.now samples.now) }
-    ensures len { vec_len out.new ≡ vec_len out.old + length (entry_octets Two watched.now.instance (entry_of watched.now samples.now)) }
+    requires room { vec_len out.old + length (entry_octets Two watched.now.instance
+        (entry_of watched.now samples.now)) ≤ vec_capacity out.old }
+    ensures items { out.new.items ≡ out.old.items ++ entry_octets Two watched.now.instance
+        (entry_of watched.now samples.now) }
+    ensures len { vec_len out.new ≡ vec_len out.old + length
+        (entry_octets Two watched.now.instance (entry_of watched.now samples.now)) }
     ensures capacity { vec_capacity out.old ≤ vec_capacity out.new }
     ensures samples { AllByRecursion IsSample samples.now }
 {
@@ -52,9 +56,13 @@ fn put_entry(out: &mut Vec<u8>, watched: &Watched, samples: &[Sample])
 
 /// Appends the entries of all instances.
 fn put_entries(out: &mut Vec<u8>, board: &Board)
-    requires room { vec_len out.old + length (entries_octets Two (instances_of board.now.watch.instances) (image_of board.now 1).entries) ≤ vec_capacity out.old }
-    ensures items { out.new.items ≡ out.old.items ++ entries_octets Two (instances_of board.now.watch.instances) (image_of board.now 1).entries }
-    ensures len { vec_len out.new ≡ vec_len out.old + length (entries_octets Two (instances_of board.now.watch.instances) (image_of board.now 1).entries) }
+    requires room { vec_len out.old + length (entries_octets Two
+        (instances_of board.now.watch.instances) (image_of board.now 1).entries)
+        ≤ vec_capacity out.old }
+    ensures items { out.new.items ≡ out.old.items ++ entries_octets Two
+        (instances_of board.now.watch.instances) (image_of board.now 1).entries }
+    ensures len { vec_len out.new ≡ vec_len out.old + length
+        (entries_octets Two (instances_of board.now.watch.instances) (image_of board.now 1).entries) }
     ensures capacity { vec_capacity out.old ≤ vec_capacity out.new }
     ensures valid { AllByRecursion IsEntry (image_of board.now 1).entries }
 {
@@ -66,7 +74,8 @@ fn put_entries(out: &mut Vec<u8>, board: &Board)
     }
 }
 
-/// How many octets the image of the board takes: at most 484617, those of 256 full windows of 64 samples.
+/// How many octets the image of the board takes: at most 484617, those of 256 full windows of 64
+/// samples.
 pub fn image_size(board: &Board) -> usize
     ensures size { (incarnation : ℕ) → result ≡ length (written_image board.now incarnation) }
     ensures few { result ≤ 484617 }
@@ -84,9 +93,11 @@ pub fn image_size(board: &Board) -> usize
 #[tactic(auto, unfolding(crate::specs::Image::image_octets))]
 pub fn write_within(out: &mut Vec<u8>, board: &Board, incarnation: u32)
     requires positive { 1 ≤ incarnation }
-    requires room { vec_len out.old + length (written_image board.now incarnation) ≤ vec_capacity out.old }
+    requires room { vec_len out.old + length (written_image board.now incarnation)
+        ≤ vec_capacity out.old }
     ensures items { out.new.items ≡ out.old.items ++ written_image board.now incarnation }
-    ensures spells { SpellsImage (written_image board.now incarnation) (instances_of board.now.watch.instances) (image_of board.now incarnation) }
+    ensures spells { SpellsImage (written_image board.now incarnation)
+        (instances_of board.now.watch.instances) (image_of board.now incarnation) }
     ensures len { vec_len out.new ≡ vec_len out.old + length (written_image board.now incarnation) }
     ensures capacity { vec_capacity out.old ≤ vec_capacity out.new }
 {
@@ -101,16 +112,19 @@ pub fn write_within(out: &mut Vec<u8>, board: &Board, incarnation: u32)
 fn image_buffer(alloc: Global, board: &Board) -> Result<Vec<u8>, AllocError>
     ensures empty { IfOk result (λ buffer. buffer.items ≡ []) }
     ensures len { IfOk result (λ buffer. vec_len buffer ≡ 0) }
-    ensures capacity { IfOk result (λ buffer. (incarnation : ℕ) → vec_capacity buffer ≡ length (written_image board.now incarnation)) }
+    ensures capacity { IfOk result (λ buffer. (incarnation : ℕ)
+        → vec_capacity buffer ≡ length (written_image board.now incarnation)) }
 {
     Vec::with_capacity(alloc, image_size(board))
 }
 
-/// The image of the board and the incarnation, which is not 0, in a vector of just its size: the one allocation.
+/// The image of the board and the incarnation, which is not 0, in a vector of just its size: the
+/// one allocation.
 pub fn write_image(alloc: Global, board: &Board, incarnation: u32) -> Result<Vec<u8>, AllocError>
     requires { 1 ≤ incarnation }
     ensures written { IfOk result (λ octets. octets.items ≡ written_image board.now incarnation) }
-    ensures spells { IfOk result (λ octets. SpellsImage octets.items (instances_of board.now.watch.instances) (image_of board.now incarnation)) }
+    ensures spells { IfOk result (λ octets. SpellsImage octets.items
+        (instances_of board.now.watch.instances) (image_of board.now incarnation)) }
 {
     let mut out = image_buffer(alloc, board)?;
     write_within(&mut out, board, incarnation);

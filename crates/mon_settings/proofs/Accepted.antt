@@ -13,10 +13,10 @@ use Rattle.mon_mib.specs.Sim.{indexes_of}
 use Rattle.mon_mib.specs.declared.interface.Growth.{Growth}
 use Rattle.mon_mib.specs.declared.interface.Interface.{Interface}
 use Rattle.mon_mib.specs.declared.sys_texts.SysTexts.{SysTexts}
-use Rattle.mon_vacm.specs.Tables.{Lists, IsPolicy}
+use Rattle.mon_vacm.specs.Tables.{PolicyTables, IsPolicy}
 use Rattle.mon_vacm.specs.declared.access_entry.AccessEntry.{AccessEntry}
 use Rattle.mon_vacm.specs.declared.community.Community.{Community}
-use Rattle.mon_vacm.specs.declared.family.Family.{Family}
+use Rattle.mon_vacm.specs.declared.family.ViewTreeFamily.{ViewTreeFamily}
 use Rattle.mon_vacm.specs.declared.group.Group.{Group}
 use Rattle.mon_settings.specs.declared.agent.System.{System}
 use Rattle.mon_settings.specs.declared.key.Key.{Key}
@@ -116,7 +116,7 @@ access_of-to t x h =
 pub access_of-is : (t : Members) (x : AccessEntry) → (access_entry_of t ≡ Ok x) ↔ IsAccess t x
 access_of-is t x = (access_of-from t x, access_of-to t x)
 
-family_of-from : (t : Members) (x : Family) → family_of t ≡ Ok x → IsFamily t x
+family_of-from : (t : Members) (x : ViewTreeFamily) → family_of t ≡ Ok x → IsFamily t x
 unfolding family_of
 family_of-from t x h =
     let (v0, p0, h1) = bind_from (only (table_keys key.View) t) _ x h in
@@ -124,9 +124,9 @@ family_of-from t x h =
     let (v2, p2, h3) = bind_from (needed_at key.Subtree oid_in t) _ x h2 in
     let (v3, p3, h4) = bind_from (default_at key.Mask [] (hex_in 0 16) t) _ x h3 in
     let (v4, p4, h5) = bind_from (needed_at key.Included as_bool t) _ x h4 in
-    let made : Family = record { view_name = v1; subtree = v2; mask = v3; included = v4 } in
+    let made : ViewTreeFamily = record { view_name = v1; subtree = v2; mask = v3; included = v4 } in
     let is : made ≡ x = ok_same made x h5 in
-    subst (λ (y : Family). IsFamily t y) is (record {
+    subst (λ (y : ViewTreeFamily). IsFamily t y) is (record {
       known = only_from (table_keys key.View) t _ p0;
       view = needed_from key.View (text_in 1 32) t _ p1;
       subtree = needed_from key.Subtree oid_in t _ p2;
@@ -134,7 +134,7 @@ family_of-from t x h =
       included = needed_from key.Included as_bool t _ p4;
     })
 
-family_of-to : (t : Members) (x : Family) → IsFamily t x → family_of t ≡ Ok x
+family_of-to : (t : Members) (x : ViewTreeFamily) → IsFamily t x → family_of t ≡ Ok x
 unfolding family_of
 family_of-to t x h =
     bind_to (only (table_keys key.View) t) _ tt x (only_to (table_keys key.View) t h.known)
@@ -144,7 +144,7 @@ family_of-to t x h =
     (bind_to (needed_at key.Included as_bool t) _ x.included x (needed_to key.Included as_bool t _ h.included)
     refl))))
 
-pub family_of-is : (t : Members) (x : Family) → (family_of t ≡ Ok x) ↔ IsFamily t x
+pub family_of-is : (t : Members) (x : ViewTreeFamily) → (family_of t ≡ Ok x) ↔ IsFamily t x
 family_of-is t x = (family_of-from t x, family_of-to t x)
 
 growth_of-from : (t : Members) (x : Growth) → growth_of t ≡ Ok x → IsGrowth t x
@@ -353,23 +353,23 @@ module _ (t : Members) (ps : List Interface) where
       bind_to (list_at key.Interface interface_of t) rising ps ps (list_to key.Interface interface_of IsInterface interface_of-is t ps listed) kept
 
 -- the policy
-record IsTables (t : Members) (p : Lists) : Type 0 where
+record IsTables (t : Members) (p : PolicyTables) : Type 0 where
   pub communities : HoldsRows key.Community IsCommunity t p.communities
   pub groups : HoldsRows key.Group IsGroup t p.groups
   pub accesses : HoldsRows key.Access IsAccess t p.accesses
   pub families : HoldsRows key.View IsFamily t p.families
   pub policy : IsPolicy p
 
-policy_from : (t : Members) (p : Lists) → policy_in t ≡ Ok p → IsTables t p
+policy_from : (t : Members) (p : PolicyTables) → policy_in t ≡ Ok p → IsTables t p
 unfolding policy_in
 policy_from t p h =
     let (v0, p0, h1) = bind_from (list_at key.Community community_of t) _ p h in
     let (v1, p1, h2) = bind_from (list_at key.Group group_of t) _ p h1 in
     let (v2, p2, h3) = bind_from (list_at key.Access access_entry_of t) _ p h2 in
     let (v3, p3, h4) = bind_from (list_at key.View family_of t) _ p h3 in
-    let made : Lists = record { communities = v0; groups = v1; accesses = v2; families = v3 } in
+    let made : PolicyTables = record { communities = v0; groups = v1; accesses = v2; families = v3 } in
     let (same, is) = policy_accepted made p h4 in
-    subst (λ (y : Lists). IsTables t y) same (record {
+    subst (λ (y : PolicyTables). IsTables t y) same (record {
       communities = list_from key.Community community_of IsCommunity community_of-is t v0 p0;
       groups = list_from key.Group group_of IsGroup group_of-is t v1 p1;
       accesses = list_from key.Access access_entry_of IsAccess access_of-is t v2 p2;
@@ -377,7 +377,7 @@ policy_from t p h =
       policy = is;
     })
 
-policy_to : (t : Members) (p : Lists) → IsTables t p → policy_in t ≡ Ok p
+policy_to : (t : Members) (p : PolicyTables) → IsTables t p → policy_in t ≡ Ok p
 unfolding policy_in
 policy_to t p h =
     bind_to (list_at key.Community community_of t) _ p.communities p (list_to key.Community community_of IsCommunity community_of-is t p.communities h.communities)

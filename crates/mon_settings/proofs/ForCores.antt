@@ -26,7 +26,7 @@ use Rattle.mon_settings.specs.StationAccepted.{Scalars, core_from}
 use Rattle.mon_settings.specs.Lists.{rows_between, rows_up_to}
 use Rattle.mon_settings.specs.Placing.{instances_of_rows, with_alarms}
 use Rattle.mon_settings.specs.Station.{rules_at, scalars_of}
-use Rattle.mon_core.specs.StationCore.{AreInstancesOf, ArePeersOf, ArePolledAs, IsCore, IsPolledAs}
+use Rattle.mon_config.specs.StationCore.{AreInstancesOf, ArePeersOf, ArePolledAs, IsCore, IsPolledAs}
 use Rattle.mon_settings.specs.StationTables.{alarm_of, target_of}
 use Rattle.mon_settings.specs.Watching.{all_watched, watched_at, AreInstancesOfRows, AreRulesOf, IsRuleOf, number_of_instance, object_from, or_zero, target_from, watched_cmp, watched_of}
 use Rattle.mon_settings.proofs.ForWatches.{instances_are, number_to, rules_are}

@@ -3,7 +3,7 @@ use Rattle.std.proofs.Common.{◌≡◌, Bool, true, false, List, [], ◌∷◌,
 use Rattle.std.specs.List.{list_all}
 use Rattle.toml.specs.Data.{Data, Items, no_items, item, Members, get_member, as_table, as_bool}
 use Rattle.mon_mib.specs.declared.interface.Interface.{Interface}
-use Rattle.mon_vacm.specs.Tables.{Lists}
+use Rattle.mon_vacm.specs.Tables.{PolicyTables}
 use Rattle.mon_settings.specs.declared.key.Key.{Key}
 use Rattle.mon_settings.specs.declared.key.Key.TheVariants as key
 use Rattle.mon_settings.specs.declared.fault.SettingsFault.{SettingsFault}
@@ -178,7 +178,7 @@ interfaces_in-own : (t : Members) → Own (interfaces_in t)
 unfolding interfaces_in
 interfaces_in-own t = bind_own (list_at key.Interface interface_of t) rising (list_own key.Interface interface_of interface_of-own t) rising-own
 
-policy_of-own : (p : Lists) → Own (policy_of p)
+policy_of-own : (p : PolicyTables) → Own (policy_of p)
 unfolding policy_of
 policy_of-own p =
     either_own (communities_differ p.communities) _ _

@@ -8,7 +8,7 @@ use Rattle.mon_settings.specs.declared.key.Key.TheVariants as key
 use Rattle.mon_settings.specs.declared.station_tables.PeerRow.{PeerRow}
 use Rattle.mon_settings.specs.declared.station_tables.TargetRow.{TargetRow}
 use Rattle.mon_settings.specs.Station.{are_apart, are_peer_numbers, checked_peers}
-use Rattle.mon_core.specs.StationCore.{ArePeersOf}
+use Rattle.mon_config.specs.StationCore.{ArePeersOf}
 use Rattle.mon_settings.proofs.Policies.{all_from, all_to, pairs_from, pairs_to}
 
 other_is : (a b : ℕ) → (not (a == b) ≡ true) ↔ (a ≢ b)

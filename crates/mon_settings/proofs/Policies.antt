@@ -7,10 +7,10 @@ use Rattle.std.proofs.lemmas.Bool.{and_parts, cases_Bool}
 use Rattle.std.proofs.lemmas.List.Elements.{All-cons, All-tail, All-nil}
 use Rattle.std.proofs.lemmas.List.Kept.{AllPairs-cons}
 use Rattle.std.proofs.lemmas.Slice.Eq.{bytes_eq-Decides}
-use Rattle.mon_vacm.specs.Tables.{Lists, IsPolicy, AreCommunitiesDistinct, AreFamiliesDistinct, NamesViews, HasView}
+use Rattle.mon_vacm.specs.Tables.{PolicyTables, IsPolicy, AreCommunitiesDistinct, AreFamiliesDistinct, NamesViews, HasView}
 use Rattle.mon_vacm.specs.declared.access_entry.AccessEntry.{AccessEntry}
 use Rattle.mon_vacm.specs.declared.community.Community.{Community}
-use Rattle.mon_vacm.specs.declared.family.Family.{Family}
+use Rattle.mon_vacm.specs.declared.family.ViewTreeFamily.{ViewTreeFamily}
 use Rattle.mon_vacm.specs.declared.fault.PolicyFault.{PolicyFault}
 use Rattle.mon_vacm.specs.declared.fault.PolicyFault.TheVariants.{DuplicateCommunity, UnknownView, DuplicateFamily}
 use Rattle.mon_settings.specs.declared.key.Key.{Key}
@@ -61,7 +61,7 @@ names_differ a b =
 both_true : (a b : Bool) → a ≡ true → b ≡ true → (a && b) ≡ true
 both_true a b p q = rw (p, q)
 
-subtrees_differ : (f g : Family) → (other_families f g ≡ true) ↔ (((f.view_name ≡ g.view_name) × (f.subtree ≡ g.subtree)) → ⊥)
+subtrees_differ : (f g : ViewTreeFamily) → (other_families f g ≡ true) ↔ (((f.view_name ≡ g.view_name) × (f.subtree ≡ g.subtree)) → ⊥)
 subtrees_differ f g =
     let names = bytes_eq-Decides f.view_name g.view_name in
     let subtrees = bytes_eq-Decides f.subtree g.subtree in
@@ -71,7 +71,7 @@ subtrees_differ f g =
       λ h. true_not (a && b) (λ t. let (p, q) = and_parts a b t in h (names.0 p, subtrees.0 q)),
     )
 
-view_from : (view : List ℕ) (fs : List Family) → has_view view fs ≡ true → HasView fs view
+view_from : (view : List ℕ) (fs : List ViewTreeFamily) → has_view view fs ≡ true → HasView fs view
 view_from view [] h = absurd cc
 view_from view (f ∷ fs) h =
     elim (cases_Bool (bytes_eq f.view_name view)) [
@@ -82,9 +82,9 @@ view_from view (f ∷ fs) h =
           (suc k, g, omega arith, at, same)
     ]
 
-view_to : (view : List ℕ) (fs : List Family) → HasView fs view → has_view view fs ≡ true
+view_to : (view : List ℕ) (fs : List ViewTreeFamily) → HasView fs view → has_view view fs ≡ true
 view_to view [] (k, g, lt, at, same) = absurd (omega arith)
-view_to view (f ∷ fs) (zero, g, lt, at, same) = rw ((bytes_eq-Decides f.view_name view).1 (ap (λ (x : Family). x.view_name) at ∙ same))
+view_to view (f ∷ fs) (zero, g, lt, at, same) = rw ((bytes_eq-Decides f.view_name view).1 (ap (λ (x : ViewTreeFamily). x.view_name) at ∙ same))
 view_to view (f ∷ fs) (suc k, g, lt, at, same) =
     let rest = view_to view fs (k, g, omega arith, at, same) in
     elim (cases_Bool (bytes_eq f.view_name view)) [
@@ -92,15 +92,15 @@ view_to view (f ∷ fs) (suc k, g, lt, at, same) =
       | inr other ↦ rw (other, rest)
     ]
 
-known_from : (fs : List Family) (o : Option (List ℕ)) → is_known fs o ≡ true → IfSome o (HasView fs)
+known_from : (fs : List ViewTreeFamily) (o : Option (List ℕ)) → is_known fs o ≡ true → IfSome o (HasView fs)
 known_from fs None h = tt
 known_from fs (Some view) h = view_from view fs h
 
-known_to : (fs : List Family) (o : Option (List ℕ)) → IfSome o (HasView fs) → is_known fs o ≡ true
+known_to : (fs : List ViewTreeFamily) (o : Option (List ℕ)) → IfSome o (HasView fs) → is_known fs o ≡ true
 known_to fs None h = refl
 known_to fs (Some view) h = view_to view fs h
 
-views_known : (fs : List Family) (e : AccessEntry) → (knows_views fs e ≡ true) ↔ NamesViews fs e
+views_known : (fs : List ViewTreeFamily) (e : AccessEntry) → (knows_views fs e ≡ true) ↔ NamesViews fs e
 views_known fs e = (
   λ h.
       let (read, write) = and_parts (is_known fs e.read_view) (is_known fs e.write_view) h in
@@ -112,7 +112,7 @@ not_false : (b : Bool) → (b ≡ true → ⊥) → b ≡ false
 not_false true h = absurd (h refl)
 not_false false h = refl
 
-abbrev failed : Key → Result Lists SettingsFault
+abbrev failed : Key → Result PolicyTables SettingsFault
 failed k = Err (bad_value k)
 
 module _ (t : Lists) where
@@ -148,7 +148,7 @@ module _ (t : Lists) where
       let third = not_false (families_differ t.families) (λ h. (c refl).2 (apart.0 h)) in
       rw (first, second, third)
 
-  pub policy_accepted : (u : Lists) → policy_of t ≡ Ok u → (t ≡ u) × IsPolicy t
+  pub policy_accepted : (u : PolicyTables) → policy_of t ≡ Ok u → (t ≡ u) × IsPolicy t
   unfolding policy_of
   policy_accepted u h =
       elim (cases_Bool (communities_differ t.communities)) [
@@ -159,7 +159,7 @@ module _ (t : Lists) where
               | inl second ↦
                   elim (cases_Bool (families_differ t.families)) [
                     | inr third ↦ let refused : failed key.View ≡ Ok u = rw (first, second, third) at h in absurd cc
-                    | inl third ↦ let found : (let r : Result Lists SettingsFault = Ok t in r) ≡ Ok u = rw (first, second, third) at h in
+                    | inl third ↦ let found : (let r : Result PolicyTables SettingsFault = Ok t in r) ≡ Ok u = rw (first, second, third) at h in
                         (cc, record { communities = distinct.0 first; views = known.0 second; families = apart.0 third })
                   ]
             ]

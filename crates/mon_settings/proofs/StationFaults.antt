@@ -1,4 +1,5 @@
--- A tree is refused as a station's settings for a key, a value or a name in it, and for nothing else.
+-- A tree is refused as a station's settings for a key, a value or a name in it, and for nothing
+-- else.
 use Rattle.std.proofs.Common.{◌≡◌, refl, ℕ, ◌+◌, ◌&&◌, nat_le, List, [], ◌∷◌, length, map, Option, Some, None, option_map, Result, Ok, Err, ap, sym, subst}
 use Rattle.std.specs.Prelude.{int_lt, min}
 use Rattle.mon_alarms.specs.Rule.{Rule}

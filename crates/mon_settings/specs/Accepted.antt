@@ -9,24 +9,25 @@ use Rattle.mon_mib.specs.Held.{AreIndexes}
 use Rattle.mon_mib.specs.Sim.{indexes_of}
 use Rattle.mon_mib.specs.declared.interface.Growth.{Growth}
 use Rattle.mon_mib.specs.declared.interface.Interface.{Interface}
-use Rattle.mon_vacm.specs.Tables.{IsPolicy, Lists}
+use Rattle.mon_vacm.specs.Tables.{IsPolicy, PolicyTables}
 use Rattle.mon_vacm.specs.declared.access_entry.AccessEntry.{AccessEntry}
 use Rattle.mon_vacm.specs.declared.community.Community.{Community}
-use Rattle.mon_vacm.specs.declared.family.Family.{Family}
+use Rattle.mon_vacm.specs.declared.family.ViewTreeFamily.{ViewTreeFamily}
 use Rattle.mon_vacm.specs.declared.group.Group.{Group}
 use Rattle.mon_settings.specs.declared.agent.AgentSettings.{AgentSettings}
 use Rattle.mon_settings.specs.declared.key.Key.{Key}
 use Rattle.mon_settings.specs.declared.key.Key.TheVariants as key
 use Rattle.mon_settings.specs.Grammar.{agent_keys, growth_keys, table_keys}
 use Rattle.mon_settings.specs.Key.{key_name}
-use Rattle.mon_settings.specs.Leaf.{number_in, int_in, text_in, hex_in, oid_in, addr_in, model_in, long_in, list_in}
+use Rattle.mon_settings.specs.Leaf.{number_in, int_in, text_in, hex_in, oid_in, addr_in, model_in}
+use Rattle.mon_settings.specs.Leaf.{long_in, list_in}
 
 -- the settings, with their lists as lists
 pub record Agent : Type 0 where
   pub listen : Addr
   pub settings : Settings
   pub texts : SysTexts
-  pub policy : Lists
+  pub policy : PolicyTables
   pub interfaces : List Interface
 
 -- the settings as contracts compare them
@@ -41,7 +42,8 @@ agent_view s = record {
 
 -- each key of a table is one of these
 abbrev pub KnowsOnly : List Key → Members → Type 0
-KnowsOnly ks t = (name : List ℕ) (d : Data) → get_member name t ≡ Some d → Any (λ k. key_name k ≡ name) ks
+KnowsOnly ks t = (name : List ℕ) (d : Data) → get_member name t ≡ Some d
+    → Any (λ k. key_name k ≡ name) ks
 
 -- the key is there, and its value is this one
 abbrev pub Holds : {A : Type 0} → Key → (Data → Option A) → Members → A → Type 0
@@ -87,7 +89,7 @@ pub record IsAccess (t : Members) (a : AccessEntry) : Type 0 where
   pub write : MayHold key.Write (text_in 1 32) t a.write_view
 
 -- a table of the list of view families
-pub record IsFamily (t : Members) (f : Family) : Type 0 where
+pub record IsFamily (t : Members) (f : ViewTreeFamily) : Type 0 where
   pub known : KnowsOnly (table_keys key.View) t
   pub view : Holds key.View (text_in 1 32) t f.view_name
   pub subtree : Holds key.Subtree oid_in t f.subtree
@@ -121,8 +123,8 @@ pub record IsInterface (t : Members) (p : Interface) : Type 0 where
   pub out_octets : HoldsGrowth key.OutOctets t p.out_octets
   pub out_packets : HoldsGrowth key.OutPackets t p.out_packets
 
--- The settings of an agent: each key that is asked for is there, each key there is one of these, no value is out of its
--- range, the tables make a policy, and the indexes of the interfaces rise.
+-- The settings of an agent: each key that is asked for is there, each key there is one of these, no
+-- value is out of its range, the tables make a policy, and the indexes of the interfaces rise.
 pub record IsAgent (t : Members) (a : Agent) : Type 0 where
   pub known : KnowsOnly agent_keys t
   pub listen : Holds key.Listen addr_in t a.listen

@@ -1,4 +1,5 @@
--- Which fault of an agent's tree comes first: the keys in the order of reading. What is accepted is said in Accepted, and a law ties both.
+-- Which fault of an agent's tree comes first: the keys in the order of reading. What is accepted is
+-- said in Accepted, and a law ties both.
 use Rattle.std.specs.Prelude.{Result, Ok, pos}
 use Rattle.toml.specs.Data.{Members}
 use Rattle.mon_mib.specs.declared.sys_texts.SysTexts.{SysTexts}

@@ -8,13 +8,15 @@ use Rattle.mon_settings.specs.declared.key.Key.TheVariants as key
 -- the keys of an agent's settings
 abbrev pub agent_keys : List Key
 agent_keys =
-    key.Listen ∷ key.Limit ∷ key.Engine ∷ key.Boots ∷ key.Descr ∷ key.ObjectId ∷ key.Contact ∷ key.Name ∷ key.Location
+    key.Listen ∷ key.Limit ∷ key.Engine ∷ key.Boots ∷ key.Descr ∷ key.ObjectId ∷ key.Contact
+    ∷ key.Name ∷ key.Location
     ∷ key.Services ∷ key.Community ∷ key.Group ∷ key.Access ∷ key.View ∷ key.Interface ∷ []
 
 -- the keys of a station's settings
 abbrev pub station_keys : List Key
 station_keys =
-    key.Station ∷ key.Listen ∷ key.File ∷ key.Window ∷ key.Epoch ∷ key.WaitMs ∷ key.Label ∷ key.Modules ∷ key.Target ∷ key.Peer ∷ key.Alarm ∷ []
+    key.Station ∷ key.Listen ∷ key.File ∷ key.Window ∷ key.Epoch ∷ key.WaitMs ∷ key.Label
+    ∷ key.Modules ∷ key.Target ∷ key.Peer ∷ key.Alarm ∷ []
 
 -- the keys of a count
 abbrev pub growth_keys : List Key
@@ -33,7 +35,8 @@ table_keys key.InOctets = growth_keys
 table_keys key.InPackets = growth_keys
 table_keys key.OutOctets = growth_keys
 table_keys key.OutPackets = growth_keys
-table_keys key.Target = key.Address ∷ key.Community ∷ key.Engine ∷ key.Tries ∷ key.Label ∷ key.Objects ∷ []
+table_keys key.Target = key.Address ∷ key.Community ∷ key.Engine ∷ key.Tries ∷ key.Label
+    ∷ key.Objects ∷ []
 table_keys key.Objects = key.Name ∷ key.Mark ∷ key.Window ∷ key.Epoch ∷ []
 table_keys key.Peer = key.Station ∷ key.Address ∷ []
 table_keys key.Alarm = key.Engine ∷ key.Name ∷ key.Rising ∷ key.Falling ∷ []

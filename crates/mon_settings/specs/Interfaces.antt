@@ -1,5 +1,6 @@
 -- Which fault of the interfaces comes first.
-use Rattle.std.specs.Prelude.{Bool, true, ◌&&◌, ℕ, nat_lt, List, [], ◌∷◌, Result, Ok, Err, if◌then◌else◌}
+use Rattle.std.specs.Prelude.{Bool, true, ◌&&◌, ℕ, nat_lt, List, [], ◌∷◌, Result, Ok, Err}
+use Rattle.std.specs.Prelude.{if◌then◌else◌}
 use Rattle.toml.specs.Data.{Members, as_table}
 use Rattle.mon_mib.specs.Held.{at_start}
 use Rattle.mon_mib.specs.declared.interface.Growth.{Growth}
@@ -35,7 +36,13 @@ counts_of t = do
   in_packets ← growth_at key.InPackets t
   out_octets ← growth_at key.OutOctets t
   out_packets ← growth_at key.OutPackets t
-  Ok (record { in_octets = in_octets; in_packets = in_packets; out_octets = out_octets; out_packets = out_packets })
+  Ok (record {
+    in_octets = in_octets;
+    in_packets = in_packets;
+    out_octets = out_octets;
+    out_packets
+        = out_packets;
+  })
 
 -- the interface of a table
 unfoldable pub interface_of : Members → Result Interface SettingsFault

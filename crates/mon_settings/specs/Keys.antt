@@ -1,5 +1,6 @@
 -- Which fault of a key comes first.
-use Rattle.std.specs.Prelude.{◌≡◌, ◌⊎◌, Bool, false, ◌||◌, ℕ, List, [], ◌∷◌, Option, Some, None, option_map, Result, Ok, Err, if◌then◌else◌}
+use Rattle.std.specs.Prelude.{◌≡◌, ◌⊎◌, Bool, false, ◌||◌, ℕ, List, [], ◌∷◌, Option, Some, None}
+use Rattle.std.specs.Prelude.{option_map, Result, Ok, Err, if◌then◌else◌}
 use Rattle.std.specs.Str.{bytes_eq}
 use Rattle.toml.specs.Data.{Data, Members, no_members, member, get_member}
 use Rattle.mon_settings.specs.Place.{at}
@@ -31,16 +32,19 @@ abbrev pub needed_at : {A : Type 0} → Key → (Data → Option A) → Members 
 needed_at k f t = needed k f (get_member (key_name k) t)
 
 -- what a key gives that may be left out
-abbrev pub or_default : {A : Type 0} → Key → A → (Data → Option A) → Option Data → Result A SettingsFault
+abbrev pub or_default : {A : Type 0} → Key → A → (Data → Option A) → Option Data
+    → Result A SettingsFault
 or_default k a f None = Ok a
 or_default k a f (Some d) = or_bad k (f d)
 
 -- what a key gives, or a default where it is missing
-abbrev pub default_at : {A : Type 0} → Key → A → (Data → Option A) → Members → Result A SettingsFault
+abbrev pub default_at : {A : Type 0} → Key → A → (Data → Option A) → Members
+    → Result A SettingsFault
 default_at k a f t = or_default k a f (get_member (key_name k) t)
 
 -- what a key gives, or nothing where it is missing
-abbrev pub optional_at : {A : Type 0} → Key → (Data → Option A) → Members → Result (Option A) SettingsFault
+abbrev pub optional_at : {A : Type 0} → Key → (Data → Option A) → Members
+    → Result (Option A) SettingsFault
 optional_at k f t = default_at k None (λ d. option_map Some (f d)) t
 
 -- the name is that of one of the keys
@@ -68,6 +72,7 @@ within s (Ok a) = Ok a
 within s (Err e) = Err (fault_within s e)
 
 -- the result is the expected one, memory aside
-abbrev pub Reads : {T A : Type 0} → (T → A) → Result A SettingsFault → Result T SettingsFault → Type 0
+abbrev pub Reads : {T A : Type 0} → (T → A) → Result A SettingsFault → Result T SettingsFault
+    → Type 0
 Reads view expected (Ok t) = expected ≡ Ok (view t)
 Reads view expected (Err e) = (e ≡ fault.OutOfMemory) ⊎ (expected ≡ Err e)

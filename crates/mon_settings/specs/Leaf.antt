@@ -1,5 +1,7 @@
 -- What the value of a key must be, and what it is then read as.
-use Rattle.std.specs.Prelude.{Bool, ◌&&◌, ◌||◌, ℕ, ℤ, ◌^◌, pos, negsuc, nat_le, nat_lt, ◌==◌, List, length, map, slice_index, Option, Some, None, Result, Ok, Err, option_map, option_and_then, if◌then◌else◌, [], ◌∷◌, ◌+◌}
+use Rattle.std.specs.Prelude.{Bool, ◌&&◌, ◌||◌, ℕ, ℤ, ◌^◌, pos, negsuc, nat_le, nat_lt, ◌==◌, List}
+use Rattle.std.specs.Prelude.{length, map, slice_index, Option, Some, None, Result, Ok, Err}
+use Rattle.std.specs.Prelude.{option_map, option_and_then, if◌then◌else◌, [], ◌∷◌, ◌+◌}
 use Rattle.std.specs.List.{slice_split, list_all}
 use Rattle.std.specs.Str.{bytes_eq}
 use Rattle.std.specs.Str.Parse.{digits_value}
@@ -33,7 +35,8 @@ int_in least most d = option_map pos (number_in least most d)
 
 -- least to most octets
 abbrev pub sized : ℕ → ℕ → List ℕ → Option (List ℕ)
-sized least most octets = if nat_le least (length octets) && nat_le (length octets) most then Some octets else None
+sized least most octets = if nat_le least (length octets) && nat_le (length octets) most
+    then Some octets else None
 
 -- a text of least to most octets
 abbrev pub text_in : ℕ → ℕ → Data → Option (List ℕ)
@@ -54,12 +57,14 @@ hex_in least most d = option_and_then (hex_of least most) (as_str d)
 
 -- the first is 0, 1 or 2, and the second is at most 39 under 0 and 1 (X.690 8.19.4)
 abbrev pub is_rooted : List ℕ → Bool
-is_rooted parts = nat_le (slice_index parts 0) 2 && (nat_le 2 (slice_index parts 0) || nat_le (slice_index parts 1) 39)
+is_rooted parts = nat_le (slice_index parts 0) 2 && (nat_le 2 (slice_index parts 0)
+    || nat_le (slice_index parts 1) 39)
 
 -- an object identifier: 2 to 128 sub-identifiers of 32 bits (RFC 2578 section 3.5)
 abbrev pub is_oid : List ℕ → Bool
 is_oid parts =
-    (nat_le 2 (length parts) && nat_le (length parts) 128) && (is_rooted parts && list_all (λ part. nat_lt part (2 ^ 32)) parts)
+    (nat_le 2 (length parts) && nat_le (length parts) 128) &&
+    (is_rooted parts && list_all (λ part. nat_lt part (2 ^ 32)) parts)
 
 -- the numbers between the dots of a text
 abbrev pub numbers_in : List ℕ → List ℕ
@@ -126,7 +131,8 @@ list_in d = list_between 0 256 d
 -- texts of at most 4095 octets
 abbrev pub texts_of : Items → Option (List (List ℕ))
 texts_of no_items = Some []
-texts_of (item d ds) = option_and_then (λ text. option_map (λ rest. text ∷ rest) (texts_of ds)) (text_in 0 4095 d)
+texts_of (item d ds) = option_and_then (λ text. option_map (λ rest. text ∷ rest) (texts_of ds))
+    (text_in 0 4095 d)
 
 -- a list of at most 256 such texts
 abbrev pub texts_in : Data → Option (List (List ℕ))

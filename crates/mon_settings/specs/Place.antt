@@ -29,4 +29,5 @@ abbrev pub place_text : Place → List ℕ
 place_text place.Whole = codes "the settings"
 place_text (place.At last) = step_text last
 place_text (place.In table last) = step_text table ++ codes "." ++ step_text last
-place_text (place.Inside first table last) = step_text first ++ codes "." ++ step_text table ++ codes "." ++ step_text last
+place_text (place.Inside first table last) = step_text first ++ codes "." ++ step_text table
+    ++ codes "." ++ step_text last

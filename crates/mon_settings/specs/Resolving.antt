@@ -1,5 +1,8 @@
--- Resolving names as a function, and which fault of a name comes first. That the function is what StationAccepted.Resolves says is a law.
-use Rattle.std.specs.Prelude.{Bool, true, ◌&&◌, ◌||◌, ◌==◌, ◌^◌, nat_lt, List, [], ◌∷◌, ◌++◌, map, slice_index, ℕ, Option, Some, None, option_and_then, Result, Ok, Err, if◌then◌else◌}
+-- Resolving names as a function, and which fault of a name comes first. That the function is what
+-- StationAccepted.Resolves says is a law.
+use Rattle.std.specs.Prelude.{Bool, true, ◌&&◌, ◌||◌, ◌==◌, ◌^◌, nat_lt, List, [], ◌∷◌, ◌++◌, map}
+use Rattle.std.specs.Prelude.{slice_index, ℕ, Option, Some, None, option_and_then, Result, Ok, Err}
+use Rattle.std.specs.Prelude.{if◌then◌else◌}
 use Rattle.std.specs.Char.{is_ascii_alphabetic}
 use Rattle.std.specs.List.{list_all, slice_split}
 use Rattle.std.specs.Option.{option_or}
@@ -32,7 +35,8 @@ is_word w = is_ascii_alphabetic (slice_index w 0) && all_go_on w
 
 -- the text is this word with these numbers after dots
 abbrev pub is_named : List ℕ → List ℕ → List ℕ → Bool
-is_named text w rest = is_word w && (list_all (λ n. nat_lt n (2 ^ 32)) rest && bytes_eq text (w ++ dotted_after rest))
+is_named text w rest = is_word w && (list_all (λ n. nat_lt n (2 ^ 32)) rest
+    && bytes_eq text (w ++ dotted_after rest))
 
 -- the word and the numbers, where the text is they
 abbrev pub checked_name : List ℕ → List ℕ → List ℕ → Option (List ℕ × List ℕ)
@@ -53,11 +57,13 @@ only_oid q = if is_oid q then Some q else None
 
 -- the identifier of a word with numbers after it
 abbrev pub oid_of_name : List Definition → List ℕ × List ℕ → Option (List ℕ)
-oid_of_name defs name = option_and_then (λ known. only_oid (known ++ name.1)) (numbers_of defs name.0)
+oid_of_name defs name = option_and_then (λ known. only_oid (known ++ name.1))
+    (numbers_of defs name.0)
 
 -- what a text resolves to: the identifier that it spells, or that of a name
 unfoldable pub resolution : List Definition → List ℕ → Option (List ℕ)
-resolution defs text = option_or (oid_of text) (option_and_then (oid_of_name defs) (name_of_text text))
+resolution defs text = option_or (oid_of text) (option_and_then (oid_of_name defs)
+    (name_of_text text))
 
 -- what the text at a key resolves to, or that the object is unknown
 abbrev pub or_unknown : {A : Type 0} → Key → Option A → Result A SettingsFault
@@ -83,10 +89,12 @@ unfoldable pub name_at : (List ℕ → Option (List ℕ)) → Key → Members �
 name_at find k t = needed_at k as_str t >>= (λ text. or_unknown k (find text))
 
 -- the identifier that a value names, or nothing if there is no value
-unfoldable pub name_in_some : (List ℕ → Option (List ℕ)) → Key → Option Data → Result (Option (List ℕ)) SettingsFault
+unfoldable pub name_in_some : (List ℕ → Option (List ℕ)) → Key → Option Data
+    → Result (Option (List ℕ)) SettingsFault
 name_in_some find k None = Ok None
 name_in_some find k (Some d) = name_in find k d >>= (λ q. Ok (Some q))
 
 -- the identifier that a key names, or nothing where the key is left out
-abbrev pub name_or_none : (List ℕ → Option (List ℕ)) → Key → Members → Result (Option (List ℕ)) SettingsFault
+abbrev pub name_or_none : (List ℕ → Option (List ℕ)) → Key → Members
+    → Result (Option (List ℕ)) SettingsFault
 name_or_none find k t = name_in_some find k (get_member (key_name k) t)

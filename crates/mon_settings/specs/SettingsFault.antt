@@ -4,7 +4,9 @@ use Rattle.mon_settings.specs.declared.fault.SettingsFault.{SettingsFault}
 use Rattle.mon_settings.specs.declared.key.Key.{Key}
 use Rattle.mon_settings.specs.declared.place.Step.{Step}
 use Rattle.mon_settings.specs.Place.{place_within, at}
-use Rattle.mon_settings.specs.declared.fault.SettingsFault.TheVariants.{OutOfMemory, NotToml, Missing, BadValue, UnknownKey, UnknownObject}
+use Rattle.mon_settings.specs.declared.fault.SettingsFault.TheVariants.{OutOfMemory, NotToml}
+use Rattle.mon_settings.specs.declared.fault.SettingsFault.TheVariants.{Missing, BadValue}
+use Rattle.mon_settings.specs.declared.fault.SettingsFault.TheVariants.{UnknownKey, UnknownObject}
 
 -- the number of a fault
 abbrev pub number_of : SettingsFault → ℕ
@@ -41,8 +43,8 @@ fault_within s (BadValue p) = BadValue (place_within s p)
 fault_within s (UnknownKey p) = UnknownKey (place_within s p)
 fault_within s (UnknownObject p) = UnknownObject (place_within s p)
 
--- what a tree can be refused for as the settings of an agent: neither as a text that is not TOML, nor because memory ran
--- out, nor for the name of an object
+-- what a tree can be refused for as the settings of an agent: neither as a text that is not TOML,
+-- nor because memory ran out, nor for the name of an object
 abbrev pub IsOfTree : SettingsFault → Type 0
 IsOfTree OutOfMemory = ⊥
 IsOfTree (NotToml from) = ⊥
@@ -51,7 +53,8 @@ IsOfTree (BadValue p) = Unit {0}
 IsOfTree (UnknownKey p) = Unit {0}
 IsOfTree (UnknownObject p) = ⊥
 
--- what a tree can be refused for as the settings of a station: neither as a text that is not TOML, nor because memory ran out
+-- what a tree can be refused for as the settings of a station: neither as a text that is not TOML,
+-- nor because memory ran out
 abbrev pub IsOfStationTree : SettingsFault → Type 0
 IsOfStationTree OutOfMemory = ⊥
 IsOfStationTree (NotToml from) = ⊥

@@ -1,6 +1,8 @@
--- Which fault of a station's tree comes first: the keys in the order of reading, and what two lists have to agree on after the later one.
--- What is accepted is said in StationAccepted, and a law ties both.
-use Rattle.std.specs.Prelude.{Bool, not, ◌&&◌, ℕ, ◌==◌, nat_le, List, [], length, map, Option, Result, Ok, Err, string_bytes, if◌then◌else◌}
+-- Which fault of a station's tree comes first: the keys in the order of reading, and what two lists
+-- have to agree on after the later one. What is accepted is said in StationAccepted, and a law ties
+-- both.
+use Rattle.std.specs.Prelude.{Bool, not, ◌&&◌, ℕ, ◌==◌, nat_le, List, [], length, map, Option}
+use Rattle.std.specs.Prelude.{Result, Ok, Err, string_bytes, if◌then◌else◌}
 use Rattle.std.specs.List.{list_all, list_any}
 use Rattle.mon_alarms.specs.Rule.{Rule}
 use Rattle.mon_board.specs.declared.instance.Watched.{Watched}
@@ -25,7 +27,15 @@ use Rattle.mon_settings.specs.Tables.{all_pairs}
 
 -- what is outside of the lists, as contracts compare it
 abbrev pub scalars_view : AnyScalars → Scalars
-scalars_view s = record { station = s.station; listen = s.listen; file = string_bytes s.file; sizes = s.sizes; wait_ms = s.wait_ms; label = s.label }
+scalars_view s = record {
+  station = s.station;
+  listen = s.listen;
+  file = string_bytes s.file;
+  sizes
+      = s.sizes;
+  wait_ms = s.wait_ms;
+  label = s.label;
+}
 
 -- what is outside of the lists; the epoch is the window if it is left out
 unfoldable pub scalars_of : Members → Result Scalars SettingsFault
@@ -53,27 +63,32 @@ modules_at t = default_at key.Modules [] texts_in t
 -- at most 15 numbers, none of them the own one, and none twice
 abbrev pub are_peer_numbers : ℕ → List ℕ → Bool
 are_peer_numbers own numbers =
-    nat_le (length numbers) 15 && (list_all (λ n. not (n == own)) numbers && all_pairs (λ a b. not (a == b)) numbers)
+    nat_le (length numbers) 15 && (list_all (λ n. not (n == own)) numbers
+    && all_pairs (λ a b. not (a == b)) numbers)
 
 -- no target is asked at a peer's address
 abbrev pub are_apart : List TargetRow → List PeerRow → Bool
-are_apart targets peers = list_all (λ p. not (list_any (λ t. same_addr t.address p.address) targets)) peers
+are_apart targets peers = list_all (λ p. not (list_any (λ t. same_addr t.address p.address)
+    targets)) peers
 
 -- the peers: at most 15 other stations, none twice, and none at the address of a target
 abbrev pub checked_peers : ℕ → List TargetRow → List PeerRow → Result (List PeerRow) SettingsFault
 checked_peers own targets peers =
-    if are_peer_numbers own (map (λ p. p.station) peers) && are_apart targets peers then Ok peers else Err (bad_value key.Peer)
+    if are_peer_numbers own (map (λ p. p.station) peers) && are_apart targets peers then Ok peers
+    else Err (bad_value key.Peer)
 
 -- the peers, none where the key is left out
 unfoldable pub peers_at : ℕ → List TargetRow → Members → Result (List PeerRow) SettingsFault
 peers_at own targets t = rows_up_to key.Peer 15 peer_of t >>= checked_peers own targets
 
 -- the alarm rules, none where the key is left out
-unfoldable pub rules_at : (List ℕ → Option (List ℕ)) → Sizes → List Watched → Members → Result (List Rule) SettingsFault
-rules_at find sizes instances t = rows_up_to key.Alarm 256 (alarm_of find sizes) t >>= (λ alarms. with_alarms instances 1 alarms [])
+unfoldable pub rules_at : (List ℕ → Option (List ℕ)) → Sizes → List Watched → Members
+    → Result (List Rule) SettingsFault
+rules_at find sizes instances t = rows_up_to key.Alarm 256 (alarm_of find sizes) t >>=
+    (λ alarms. with_alarms instances 1 alarms [])
 
--- what a tree gives: unknown keys are refused first, and then the keys are read in this order; what two lists have to agree
--- on is tested after the later one
+-- what a tree gives: unknown keys are refused first, and then the keys are read in this order; what
+-- two lists have to agree on is tested after the later one
 unfoldable pub station_of : (List ℕ → Option (List ℕ)) → Members → Result Station SettingsFault
 station_of find t = do
   known ← only station_keys t

@@ -1,5 +1,6 @@
 -- Which trees are settings of a station, and of which: key by key, with no order of reading.
-use Rattle.std.specs.Prelude.{◌≡◌, ℕ, List, [], map, Option, Some, None, min, option_map, string_bytes, ◌↔◌}
+use Rattle.std.specs.Prelude.{◌≡◌, ℕ, List, [], map, Option, Some, None, min, option_map}
+use Rattle.std.specs.Prelude.{string_bytes, ◌↔◌}
 use Rattle.mon_board.specs.declared.instance.Watched.{Watched}
 use Rattle.mon_alarms.specs.Rule.{Rule}
 use Rattle.mon_udp.specs.declared.addr.Addr.{Addr}
@@ -19,7 +20,7 @@ use Rattle.mon_settings.specs.Accepted.{KnowsOnly, Holds, HoldsOr, MayHold, AreR
 use Rattle.mon_settings.specs.Grammar.{station_keys, table_keys}
 use Rattle.mon_settings.specs.Key.{key_name}
 use Rattle.mon_settings.specs.Leaf.{number_in, text_in, hex_in, addr_in, list_between, texts_in}
-use Rattle.mon_core.specs.StationCore.{ArePeersOf, Core}
+use Rattle.mon_config.specs.StationCore.{ArePeersOf, Core}
 use Rattle.mon_settings.specs.Watching.{AreElsewhere, AreInstancesOfRows, AreRulesOf, target_from}
 
 -- the settings, with their texts and lists as lists
@@ -64,7 +65,8 @@ core_from station targets peers instances rules = record {
   peers = map (λ p. p.station) peers;
 }
 
--- how texts resolve under these definitions: to the identifier that a text means, and to none where it means no identifier
+-- how texts resolve under these definitions: to the identifier that a text means, and to none where
+-- it means no identifier
 abbrev pub Resolves : List Definition → (List ℕ → Option (List ℕ)) → Type 0
 Resolves defs find = (text q : List ℕ) → (find text ≡ Some q) ↔ (IsOid q × MeansNumbers defs text q)
 
@@ -78,30 +80,35 @@ MayName defs k t None = get_member (key_name k) t ≡ None
 MayName defs k t (Some q) = Names defs k t q
 
 -- the key is there, with a list of least to most such tables
-abbrev pub HoldsBetween : {A : Type 0} → Key → ℕ → ℕ → (Members → A → Type 0) → Members → List A → Type 0
-HoldsBetween k least most P t rows = (ds : Items) × Holds k (list_between least most) t ds × AreRows P ds rows
+abbrev pub HoldsBetween : {A : Type 0} → Key → ℕ → ℕ → (Members → A → Type 0) → Members → List A
+    → Type 0
+HoldsBetween k least most P t rows = (ds : Items) × Holds k (list_between least most) t ds
+    × AreRows P ds rows
 
 -- a list of at most this many tables, or the key is left out and there are none
 abbrev pub MayHoldUpTo : {A : Type 0} → Key → ℕ → (Members → A → Type 0) → Members → List A → Type 0
-MayHoldUpTo k most P t rows = (ds : Items) × HoldsOr k no_items (list_between 0 most) t ds × AreRows P ds rows
+MayHoldUpTo k most P t rows = (ds : Items) × HoldsOr k no_items (list_between 0 most) t ds
+    × AreRows P ds rows
 
 -- a table of the list of objects
-pub record IsObject (defs : List Definition) (sizes : Sizes) (t : Members) (o : ObjectRow) : Type 0 where
-  pub known : KnowsOnly (table_keys key.Objects) t
-  pub name : Names defs key.Name t o.name
-  pub discontinuity : MayName defs key.Mark t o.discontinuity
-  pub window : HoldsOr key.Window sizes.window (number_in 1 64) t o.window
-  pub epoch : HoldsOr key.Epoch (min sizes.epoch o.window) (number_in 1 o.window) t o.epoch
+pub record IsObject (defs : List Definition) (sizes : Sizes) (t : Members) (o : ObjectRow) : Type 0
+  where
+    pub known : KnowsOnly (table_keys key.Objects) t
+    pub name : Names defs key.Name t o.name
+    pub discontinuity : MayName defs key.Mark t o.discontinuity
+    pub window : HoldsOr key.Window sizes.window (number_in 1 64) t o.window
+    pub epoch : HoldsOr key.Epoch (min sizes.epoch o.window) (number_in 1 o.window) t o.epoch
 
 -- a table of the list of targets
-pub record IsPolled (defs : List Definition) (sizes : Sizes) (t : Members) (r : TargetRow) : Type 0 where
-  pub known : KnowsOnly (table_keys key.Target) t
-  pub address : Holds key.Address addr_in t r.address
-  pub community : Holds key.Community (text_in 1 512) t r.community
-  pub engine : Holds key.Engine (hex_in 5 32) t r.engine
-  pub tries : Holds key.Tries (number_in 1 8) t r.tries
-  pub label : MayHold key.Label (text_in 1 64) t r.label
-  pub objects : HoldsBetween key.Objects 1 16 (IsObject defs sizes) t r.objects
+pub record IsPolled (defs : List Definition) (sizes : Sizes) (t : Members) (r : TargetRow) : Type 0
+  where
+    pub known : KnowsOnly (table_keys key.Target) t
+    pub address : Holds key.Address addr_in t r.address
+    pub community : Holds key.Community (text_in 1 512) t r.community
+    pub engine : Holds key.Engine (hex_in 5 32) t r.engine
+    pub tries : Holds key.Tries (number_in 1 8) t r.tries
+    pub label : MayHold key.Label (text_in 1 64) t r.label
+    pub objects : HoldsBetween key.Objects 1 16 (IsObject defs sizes) t r.objects
 
 -- a table of the list of peers
 pub record IsPeer (t : Members) (p : PeerRow) : Type 0 where
@@ -127,9 +134,10 @@ pub record IsScalars (t : Members) (s : Scalars) : Type 0 where
   pub wait_ms : Holds key.WaitMs (number_in 1 60000) t s.wait_ms
   pub label : MayHold key.Label (text_in 1 64) t s.label
 
--- The settings of a station: each key that is asked for is there, each key there is one of these, no value is out of its range,
--- every name means an identifier, and the lists agree: the instances are those of the targets' objects, no two alike, the rules
--- are those of the alarms, no two alike, and the peers are others, elsewhere.
+-- The settings of a station: each key that is asked for is there, each key there is one of these,
+-- no value is out of its range, every name means an identifier, and the lists agree: the instances
+-- are those of the targets' objects, no two alike, the rules are those of the alarms, no two alike,
+-- and the peers are others, elsewhere.
 pub record IsStation (defs : List Definition) (t : Members) (s : Station) : Type 0 where
   pub scalars : Scalars
   pub targets : List TargetRow
@@ -145,7 +153,8 @@ pub record IsStation (defs : List Definition) (t : Members) (s : Station) : Type
   pub elsewhere : AreElsewhere targets peers
   pub alarmed : MayHoldUpTo key.Alarm 256 (IsAlarm defs) t alarms
   pub rules : AreRulesOf s.core.watch.instances alarms s.core.watch.rules
-  pub core : core_from scalars.station targets peers s.core.watch.instances s.core.watch.rules ≡ s.core
+  pub core : core_from scalars.station targets peers s.core.watch.instances s.core.watch.rules
+      ≡ s.core
   pub listen : scalars.listen ≡ s.listen
   pub label : scalars.label ≡ s.label
   pub file : scalars.file ≡ s.file

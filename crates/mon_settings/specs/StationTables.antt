@@ -15,8 +15,10 @@ use Rattle.mon_settings.specs.Leaf.{number_in, text_in, hex_in, addr_in}
 use Rattle.mon_settings.specs.Lists.{rows_between}
 use Rattle.mon_settings.specs.Resolving.{name_at, name_or_none}
 
--- an object: its window is the station's where it gives none, and its epoch the lesser of the station's and its window
-unfoldable pub object_of : (List ℕ → Option (List ℕ)) → Sizes → Members → Result ObjectRow SettingsFault
+-- an object: its window is the station's where it gives none, and its epoch the lesser of the
+-- station's and its window
+unfoldable pub object_of : (List ℕ → Option (List ℕ)) → Sizes → Members
+    → Result ObjectRow SettingsFault
 object_of find sizes t = do
   known ← only (table_keys key.Objects) t
   name ← name_at find key.Name t
@@ -26,7 +28,8 @@ object_of find sizes t = do
   Ok (record { name = name; discontinuity = discontinuity; window = window; epoch = epoch })
 
 -- an agent that is polled, for 1 to 16 objects
-unfoldable pub target_of : (List ℕ → Option (List ℕ)) → Sizes → Members → Result TargetRow SettingsFault
+unfoldable pub target_of : (List ℕ → Option (List ℕ)) → Sizes → Members
+    → Result TargetRow SettingsFault
 target_of find sizes t = do
   known ← only (table_keys key.Target) t
   address ← needed_at key.Address addr_in t
@@ -35,7 +38,15 @@ target_of find sizes t = do
   tries ← needed_at key.Tries (number_in 1 8) t
   label ← optional_at key.Label (text_in 1 64) t
   objects ← rows_between key.Objects 1 16 (object_of find sizes) t
-  Ok (record { address = address; community = community; engine = engine; tries = tries; label = label; objects = objects })
+  Ok (record {
+    address = address;
+    community = community;
+    engine = engine;
+    tries = tries;
+    label =
+        label;
+    objects = objects;
+  })
 
 -- a peer
 unfoldable pub peer_of : Members → Result PeerRow SettingsFault
@@ -46,7 +57,8 @@ peer_of t = do
   Ok (record { station = station; address = address })
 
 -- an alarm on an object at an engine
-unfoldable pub alarm_of : (List ℕ → Option (List ℕ)) → Sizes → Members → Result AlarmRow SettingsFault
+unfoldable pub alarm_of : (List ℕ → Option (List ℕ)) → Sizes → Members
+    → Result AlarmRow SettingsFault
 alarm_of find sizes t = do
   known ← only (table_keys key.Alarm) t
   engine ← needed_at key.Engine (hex_in 5 32) t

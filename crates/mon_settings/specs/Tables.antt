@@ -1,15 +1,17 @@
 -- Which fault of the tables of a policy comes first.
-use Rattle.std.specs.Prelude.{Bool, true, false, not, ◌&&◌, ◌||◌, List, [], ◌∷◌, ℕ, Option, Some, None, Result, Ok, Err, if◌then◌else◌}
+use Rattle.std.specs.Prelude.{Bool, true, false, not, ◌&&◌, ◌||◌, List, [], ◌∷◌, ℕ, Option, Some}
+use Rattle.std.specs.Prelude.{None, Result, Ok, Err, if◌then◌else◌}
 use Rattle.std.specs.List.{list_all}
 use Rattle.std.specs.Str.{bytes_eq}
 use Rattle.toml.specs.Data.{Members, as_bool}
-use Rattle.mon_vacm.specs.Tables.{Lists}
+use Rattle.mon_vacm.specs.Tables.{PolicyTables}
 use Rattle.mon_vacm.specs.declared.access_entry.AccessEntry.{AccessEntry}
 use Rattle.mon_vacm.specs.declared.community.Community.{Community}
-use Rattle.mon_vacm.specs.declared.family.Family.{Family}
+use Rattle.mon_vacm.specs.declared.family.ViewTreeFamily.{ViewTreeFamily}
 use Rattle.mon_vacm.specs.declared.group.Group.{Group}
 use Rattle.mon_vacm.specs.declared.fault.PolicyFault.{PolicyFault}
-use Rattle.mon_vacm.specs.declared.fault.PolicyFault.TheVariants.{DuplicateCommunity, UnknownView, DuplicateFamily}
+use Rattle.mon_vacm.specs.declared.fault.PolicyFault.TheVariants.{DuplicateCommunity, UnknownView}
+use Rattle.mon_vacm.specs.declared.fault.PolicyFault.TheVariants.{DuplicateFamily}
 use Rattle.mon_oid.specs.Steps.{◌>>=◌}
 use Rattle.mon_settings.specs.declared.key.Key.{Key}
 use Rattle.mon_settings.specs.declared.key.Key.TheVariants as key
@@ -47,7 +49,7 @@ access_entry_of t = do
   Ok (record { group_name = group; security_model = model; read_view = read; write_view = write })
 
 -- a family of a view: an empty mask, and one that is left out, is all ones
-unfoldable pub family_of : Members → Result Family SettingsFault
+unfoldable pub family_of : Members → Result ViewTreeFamily SettingsFault
 family_of t = do
   known ← only (table_keys key.View) t
   view ← needed_at key.View (text_in 1 32) t
@@ -70,25 +72,25 @@ abbrev pub communities_differ : List Community → Bool
 communities_differ = all_pairs other_names
 
 -- some family is of the view
-abbrev pub has_view : List ℕ → List Family → Bool
+abbrev pub has_view : List ℕ → List ViewTreeFamily → Bool
 has_view view [] = false
 has_view view (f ∷ fs) = bytes_eq f.view_name view || has_view view fs
 
 -- a view that is named has a family
-abbrev pub is_known : List Family → Option (List ℕ) → Bool
+abbrev pub is_known : List ViewTreeFamily → Option (List ℕ) → Bool
 is_known families None = true
 is_known families (Some view) = has_view view families
 
 -- the views that an entry names have families
-abbrev pub knows_views : List Family → AccessEntry → Bool
+abbrev pub knows_views : List ViewTreeFamily → AccessEntry → Bool
 knows_views families entry = is_known families entry.read_view && is_known families entry.write_view
 
 -- no view has a subtree twice
-abbrev pub other_families : Family → Family → Bool
+abbrev pub other_families : ViewTreeFamily → ViewTreeFamily → Bool
 other_families f g = not (bytes_eq f.view_name g.view_name && bytes_eq f.subtree g.subtree)
 
 -- no family is given twice
-abbrev pub families_differ : List Family → Bool
+abbrev pub families_differ : List ViewTreeFamily → Bool
 families_differ = all_pairs other_families
 
 -- the list that a fault of a policy is a bad value of
@@ -98,19 +100,26 @@ list_of UnknownView = key.Access
 list_of DuplicateFamily = key.View
 
 -- the tables, where they make a policy
-unfoldable pub policy_of : Lists → Result Lists SettingsFault
+unfoldable pub policy_of : PolicyTables → Result PolicyTables SettingsFault
 policy_of tables =
     if communities_differ tables.communities then
     (if list_all (knows_views tables.families) tables.accesses then
-    (if families_differ tables.families then Ok tables else Err (bad_value (list_of DuplicateFamily)))
+    (if families_differ tables.families then Ok tables else Err
+    (bad_value (list_of DuplicateFamily)))
     else Err (bad_value (list_of UnknownView)))
     else Err (bad_value (list_of DuplicateCommunity))
 
 -- the four lists, and then the policy of them
-unfoldable pub policy_in : Members → Result Lists SettingsFault
+unfoldable pub policy_in : Members → Result PolicyTables SettingsFault
 policy_in t = do
   communities ← list_at key.Community community_of t
   groups ← list_at key.Group group_of t
   accesses ← list_at key.Access access_entry_of t
   families ← list_at key.View family_of t
-  policy_of (record { communities = communities; groups = groups; accesses = accesses; families = families })
+  policy_of (record {
+    communities = communities;
+    groups = groups;
+    accesses = accesses;
+    families =
+        families;
+  })

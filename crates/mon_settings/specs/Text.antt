@@ -9,7 +9,8 @@ use Rattle.mon_settings.specs.declared.fault.SettingsFault.TheVariants as fault
 abbrev pub Says : {A : Type 0} → (Members → A → Type 0) → List ℕ → A → Type 0
 Says Is text a = (t : Members) × (parse_document text ≡ Some t) × Is t a
 
--- something is read exactly where it is said, and then it is that; where nothing is read, nothing is said, or memory ran out
+-- something is read exactly where it is said, and then it is that; where nothing is read, nothing
+-- is said, or memory ran out
 abbrev pub IsReadAs : {T A : Type 0} → (T → A) → (A → Type 0) → Result T SettingsFault → Type 0
 IsReadAs view IsSaid (Ok x) = IsSaid (view x)
 IsReadAs {T} {A} view IsSaid (Err e) = (e ≡ fault.OutOfMemory) ⊎ ((a : A) → ¬ (IsSaid a))
@@ -21,11 +22,13 @@ IsUnread text (fault.NotToml at) = (parse_document text ≡ None) × (at ≤ len
 IsUnread text _ = ⊥
 
 -- the text has a tree, and this is the first fault of the tree
-abbrev pub HasFault : {A : Type 0} → (Members → Result A SettingsFault) → List ℕ → SettingsFault → Type 0
+abbrev pub HasFault : {A : Type 0} → (Members → Result A SettingsFault) → List ℕ → SettingsFault
+    → Type 0
 HasFault first text e = (t : Members) × (parse_document text ≡ Some t) × (first t ≡ Err e)
 
 -- why a text is refused: it has no tree, or its tree has a fault
-abbrev pub IsRefusal : {A : Type 0} → (Members → Result A SettingsFault) → List ℕ → SettingsFault → Type 0
+abbrev pub IsRefusal : {A : Type 0} → (Members → Result A SettingsFault) → List ℕ → SettingsFault
+    → Type 0
 IsRefusal first text fault.OutOfMemory = Unit {0}
 IsRefusal first text (fault.NotToml at) = IsUnread text (fault.NotToml at)
 IsRefusal first text (fault.Missing p) = HasFault first text (fault.Missing p)

@@ -104,15 +104,18 @@ fn read_tree(reader: &Reader<'_>) -> Read<AgentSettings>
 
 /// Reads an agent's settings from a text in TOML 1.1.
 ///
-/// The keys, in the order in which they are read: `listen`; `limit` 484 to 8192 octets; `engine`, hex of 5 to 32 octets;
-/// `boots` 1 to 2147483647, 1 where it is left out; `descr`; `object_id`; `contact`, `name`, `location`; `services` 0 to 127;
-/// and the lists `community`, `group`, `access`, `view` and `interface`, of at most 256 tables each. In each table unknown
-/// keys are refused first. The policy is made once its four lists are read.
+/// The keys, in the order in which they are read: `listen`; `limit` 484 to 8192 octets; `engine`,
+/// hex of 5 to 32 octets; `boots` 1 to 2147483647, 1 where it is left out; `descr`; `object_id`;
+/// `contact`, `name`, `location`; `services` 0 to 127; and the lists `community`, `group`,
+/// `access`, `view` and `interface`, of at most 256 tables each. In each table unknown keys are
+/// refused first. The policy is made once its four lists are read.
 ///
 /// # Errors
-/// The first fault: `NotToml`; `UnknownKey` with the place of the table; `Missing` and `BadValue` with the place of the key; `OutOfMemory`.
+/// The first fault: `NotToml`; `UnknownKey` with the place of the table; `Missing` and `BadValue`
+/// with the place of the key; `OutOfMemory`.
 pub fn read_agent(alloc: Global, text: &str) -> Result<AgentSettings, SettingsFault>
-    // Memory aside, settings are read exactly where the text is an agent's, and then they are what it says.
+    // Memory aside, settings are read exactly where the text is an agent's, and then they are what
+    // it says.
     ensures accepted { IsReadAs agent_view (Says IsAgent text.now) result }
     ensures refused { IfErr result (IsRefusal agent_of text.now) }
     ensures indexes { IfOk result (λ s. AreIndexes (indexes_of s.interfaces.items)) }

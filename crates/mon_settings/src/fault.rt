@@ -13,8 +13,8 @@ use std::fmt;
 pub enum SettingsFault {
     /// Memory was refused.
     OutOfMemory,
-    /// The text is not TOML. This many octets are in front of what stopped the reader, at most all of
-    /// the text. That the number is the right one is tested, and no clause says it.
+    /// The text is not TOML. This many octets are in front of what stopped the reader, at most all
+    /// of the text. That the number is the right one is tested, and no clause says it.
     NotToml(usize),
     /// A key that must be there is not.
     Missing(Place),
@@ -26,8 +26,9 @@ pub enum SettingsFault {
     UnknownObject(Place),
 }
 
-/// The value that was read, or a return with its fault, before which what follows `drop` is dropped. It is `?` where the
-/// fault is of the function's own type, and its proof takes half the time.
+/// The value that was read, or a return with its fault, before which what follows `drop` is
+/// dropped. It is `?` where the fault is of the function's own type, and its proof takes half the
+/// time.
 macro_rules! given {
     ($read:expr $(, drop $owned:ident)*) => {
         match $read {

@@ -31,14 +31,16 @@ pub fn is_one_of(name: &str, keys: &[Key]) -> bool
 }
 
 fn found<'t>(table: &'t Table, keys: &[Key]) -> Option<&'t String>
-    ensures { option_copied result ≡ find (λ n. not (is_one_of keys.now (string_bytes n))) (keys_of table.now.entries) }
+    ensures { option_copied result ≡ find (λ n. not (is_one_of keys.now (string_bytes n)))
+        (keys_of table.now.entries) }
 {
     table.keys().find(|name| !is_one_of(name.as_str(), keys))
 }
 
 /// Returns the first key of a table, in the order of its octets, that is none of these.
 pub fn first_unknown<'t>(table: &'t Table, keys: &[Key]) -> Option<&'t String>
-    ensures { option_map (λ n. string_bytes n.now) result ≡ first_unknown keys.now (table_view table.now) }
+    ensures { option_map (λ n. string_bytes n.now) result ≡ first_unknown keys.now
+        (table_view table.now) }
 {
     found(table, keys)
 }

@@ -57,7 +57,8 @@ pub(crate) fn labels_of(
     alloc: Global,
     targets: &[TargetRow],
 ) -> Result<Vec<Option<String>>, AllocError>
-    ensures { IfOk result (λ v. map (option_map string_bytes) v.items ≡ map (λ t. t.label) targets.now) }
+    ensures { IfOk result (λ v. map (option_map string_bytes) v.items
+        ≡ map (λ t. t.label) targets.now) }
 {
     let mut labels = Vec::with_capacity(alloc, targets.len())?;
     for target in targets {

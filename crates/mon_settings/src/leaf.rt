@@ -42,7 +42,8 @@ impl<'t> Reader<'t> {
 
     /// The number at a key, from least to most.
     pub(crate) fn number(&self, key: Key, least: u64, most: u64) -> Read<u64>
-        ensures value { result ≡ needed_at key (number_in least most) (table_view self.now.table.now) }
+        ensures value { result ≡ needed_at key (number_in least most)
+            (table_view self.now.table.now) }
         ensures great { IfOk result (λ n. least ≤ n) }
         ensures small { IfOk result (λ n. n ≤ most) }
     {
@@ -76,7 +77,8 @@ impl<'t> Reader<'t> {
     /// Returns the signed number at a key, or another number if the key is left out.
     pub(crate) fn int_or(&self, key: Key, default: i32, least: u64, most: u64) -> Read<i32>
         requires { most < 2 ^ 31 }
-        ensures { result ≡ default_at key default (int_in least most) (table_view self.now.table.now) }
+        ensures { result ≡ default_at key default (int_in least most)
+            (table_view self.now.table.now) }
     {
         match find(self.table, key) {
             Some(_) => self.int(key, least, most),
@@ -132,7 +134,8 @@ impl<'t> Reader<'t> {
 
     /// The text at a key, of least to most octets.
     pub(crate) fn text(&self, key: Key, least: usize, most: usize) -> Read<&'t str>
-        ensures gives { Reads (λ s. s.now) (needed_at key (text_in least most) (table_view self.now.table.now)) result }
+        ensures gives { Reads (λ s. s.now) (needed_at key (text_in least most)
+            (table_view self.now.table.now)) result }
         ensures no_memory { result ≢ Err SettingsFault.OutOfMemory }
     {
         match find(self.table, key) {
@@ -143,7 +146,8 @@ impl<'t> Reader<'t> {
 
     /// The octets of the text at a key, least to most of them.
     pub(crate) fn octets(&self, key: Key, least: usize, most: usize) -> Read<Octets>
-        ensures { Reads (λ o. o) (needed_at key (text_in least most) (table_view self.now.table.now)) result }
+        ensures { Reads (λ o. o) (needed_at key (text_in least most)
+            (table_view self.now.table.now)) result }
     {
         let text = given!(self.text(key, least, most));
         Ok(Octets::from_slice(self.alloc, text.as_bytes())?)
@@ -151,7 +155,8 @@ impl<'t> Reader<'t> {
 
     /// The name at a key, of 1 to this many octets, or nothing where the key is left out.
     pub(crate) fn name_or_none(&self, key: Key, most: usize) -> Read<Option<Octets>>
-        ensures { Reads (λ o. o) (optional_at key (text_in 1 most) (table_view self.now.table.now)) result }
+        ensures { Reads (λ o. o) (optional_at key (text_in 1 most) (table_view self.now.table.now))
+            result }
     {
         match find(self.table, key) {
             Some(value) => match text_in(value, 1, most) {
@@ -164,7 +169,8 @@ impl<'t> Reader<'t> {
 
     /// Returns the label, a text of 1 to 64 octets, or nothing if the key is left out.
     pub(crate) fn label(&self) -> Read<Option<Label>>
-        ensures { Reads (λ o. o) (optional_at Key.Label (text_in 1 64) (table_view self.now.table.now)) result }
+        ensures { Reads (λ o. o) (optional_at Key.Label (text_in 1 64)
+            (table_view self.now.table.now)) result }
     {
         match find(self.table, Key::Label) {
             Some(value) => match text_in(value, 1, 64) {
@@ -177,7 +183,8 @@ impl<'t> Reader<'t> {
 
     /// The octets of the hex text at a key, least to most of them.
     pub(crate) fn hex(&self, key: Key, least: usize, most: usize) -> Read<Octets>
-        ensures { Reads (λ o. o) (needed_at key (hex_in least most) (table_view self.now.table.now)) result }
+        ensures { Reads (λ o. o) (needed_at key (hex_in least most) (table_view self.now.table.now))
+            result }
     {
         let Some(value) = find(self.table, key) else {
             return Err(SettingsFault::missing(key));
@@ -191,7 +198,8 @@ impl<'t> Reader<'t> {
     /// Returns the octets of the hex text at a key, at most this many, or none if the key is left
     /// out.
     pub(crate) fn hex_or_none(&self, key: Key, most: usize) -> Read<Octets>
-        ensures { Reads (λ o. o) (default_at key [] (hex_in 0 most) (table_view self.now.table.now)) result }
+        ensures { Reads (λ o. o) (default_at key [] (hex_in 0 most) (table_view self.now.table.now))
+            result }
     {
         match find(self.table, key) {
             Some(_) => self.hex(key, 0, most),
@@ -215,7 +223,8 @@ impl<'t> Reader<'t> {
     /// The identifier that a key names.
     #[tactic(auto, unfolding(crate::specs::Resolving::name_at))]
     pub(crate) fn object(&self, names: &Names, key: Key) -> Read<Oid>
-        ensures { Reads (λ o. o) (name_at (resolution names.now) key (table_view self.now.table.now)) result }
+        ensures { Reads (λ o. o) (name_at (resolution names.now) key
+            (table_view self.now.table.now)) result }
     {
         let Some(value) = find(self.table, key) else {
             return Err(SettingsFault::missing(key));
@@ -229,7 +238,8 @@ impl<'t> Reader<'t> {
     /// The identifier that a key names, or nothing where the key is left out.
     #[tactic(auto, unfolding(crate::specs::Resolving::name_at, crate::specs::Resolving::name_in, crate::specs::Resolving::name_in_some))]
     pub(crate) fn object_or_none(&self, names: &Names, key: Key) -> Read<Option<Oid>>
-        ensures { Reads (λ o. o) (name_or_none (resolution names.now) key (table_view self.now.table.now)) result }
+        ensures { Reads (λ o. o) (name_or_none (resolution names.now) key
+            (table_view self.now.table.now)) result }
     {
         match find(self.table, key) {
             Some(_) => Ok(Some(given!(self.object(names, key)))),

@@ -1,6 +1,7 @@
-//! Settings, read from TOML 1.1 texts: what an agent serves, at which address, and to whom; and what a station watches, whom it
-//! polls, and its peers. To the layer above: settings are read exactly where the text is TOML and its tree is an
-//! agent's or a station's, unless memory runs out; and what a station needs of its settings is a `Core`.
+//! Settings, read from TOML 1.1 texts: what an agent serves, at which address, and to whom; and
+//! what a station watches, whom it polls, and its peers. To the layer above: settings are read
+//! exactly where the text is TOML and its tree is an agent's or a station's, unless memory runs
+//! out; and what a station needs of its settings is a `Core`.
 #![tactic(auto)]
 
 mod agent;
@@ -30,7 +31,7 @@ pub use grammar::{SettingsKind, table_keys, top_keys};
 pub use key::Key;
 pub use keys::{find, first_unknown, is_one_of};
 pub use modules::module_files;
-pub use mon_core::Core;
+pub use mon_config::Core;
 pub use mon_udp::Addr;
 pub use peers::are_peers;
 pub use place::{Place, Step};

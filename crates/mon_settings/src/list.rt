@@ -45,7 +45,8 @@ fn read_row<C, R: Row<C>>(alloc: Global, around: &C, step: Step, value: &Value) 
 
 /// The tables of these values, which are the list at a key.
 fn read_rows<C, R: Row<C>>(alloc: Global, around: &C, key: Key, values: &[Value]) -> Read<Vec<R>>
-    ensures { Reads (λ rs. rs.items) (rows key (R.row_of around.now) 1 (items_view values.now)) result }
+    ensures { Reads (λ rs. rs.items) (rows key (R.row_of around.now) 1 (items_view values.now))
+        result }
 {
     let mut read = Vec::new(alloc);
     for (index, value) in values.iter().enumerate() {
@@ -57,7 +58,8 @@ fn read_rows<C, R: Row<C>>(alloc: Global, around: &C, key: Key, values: &[Value]
 
 #[tactic(auto, using(crate::proofs::Rows::between_values))]
 fn between(values: &[Value], least: usize, most: usize) -> Option<&[Value]>
-    ensures { option_map (λ vs. items_view vs.now) result ≡ between least most (items_view values.now) }
+    ensures { option_map (λ vs. items_view vs.now) result ≡ between least most
+        (items_view values.now) }
 {
     if least <= values.len() && values.len() <= most {
         Some(values)
@@ -83,7 +85,8 @@ impl Reader<'_> {
         least: usize,
         most: usize,
     ) -> Read<Vec<R>>
-        ensures { Reads (λ rs. rs.items) (rows_between key least most (R.row_of around.now) (table_view self.now.table.now)) result }
+        ensures { Reads (λ rs. rs.items) (rows_between key least most (R.row_of around.now)
+            (table_view self.now.table.now)) result }
     {
         let Some(value) = find(self.table, key) else {
             return Err(SettingsFault::missing(key));
@@ -102,7 +105,8 @@ impl Reader<'_> {
         key: Key,
         most: usize,
     ) -> Read<Vec<R>>
-        ensures { Reads (λ rs. rs.items) (rows_up_to key most (R.row_of around.now) (table_view self.now.table.now)) result }
+        ensures { Reads (λ rs. rs.items) (rows_up_to key most (R.row_of around.now)
+            (table_view self.now.table.now)) result }
     {
         match find(self.table, key) {
             Some(_) => self.rows(around, key, 0, most),
@@ -113,7 +117,8 @@ impl Reader<'_> {
     /// The tables of the list at a key, at most 256 of them.
     #[tactic(auto, unfolding(crate::specs::Lists::list_at, crate::specs::Lists::rows_between))]
     pub(crate) fn list<R: Row<()>>(&self, key: Key) -> Read<Vec<R>>
-        ensures { Reads (λ rs. rs.items) (list_at key (R.row_of tt) (table_view self.now.table.now)) result }
+        ensures { Reads (λ rs. rs.items) (list_at key (R.row_of tt) (table_view self.now.table.now))
+            result }
     {
         self.rows(&(), key, 0, 256)
     }

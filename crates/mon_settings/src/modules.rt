@@ -18,7 +18,8 @@ use std::alloc::Global;
 use toml::Value;
 
 fn text_of(alloc: Global, value: &Value) -> Read<String>
-    ensures { Reads (λ s. string_bytes s) (or_bad Key.Modules (text_in 0 4095 (view value.now))) result }
+    ensures { Reads (λ s. string_bytes s) (or_bad Key.Modules (text_in 0 4095 (view value.now)))
+        result }
 {
     match text_in(value, 0, 4095) {
         Some(text) => Ok(String::from_str(alloc, text)?),
@@ -27,7 +28,8 @@ fn text_of(alloc: Global, value: &Value) -> Read<String>
 }
 
 fn texts_of(alloc: Global, values: &[Value]) -> Read<Vec<String>>
-    ensures { Reads (λ v. map string_bytes v.items) (or_bad Key.Modules (texts_of (items_view values.now))) result }
+    ensures { Reads (λ v. map string_bytes v.items) (or_bad Key.Modules
+        (texts_of (items_view values.now))) result }
 {
     let mut texts = Vec::new(alloc);
     for value in values {
@@ -39,7 +41,8 @@ fn texts_of(alloc: Global, values: &[Value]) -> Read<Vec<String>>
 
 /// The module files, none where the key is left out.
 pub(crate) fn modules_at(reader: &Reader<'_>) -> Read<Vec<String>>
-    ensures { Reads (λ v. map string_bytes v.items) (modules_at (table_view reader.now.table.now)) result }
+    ensures { Reads (λ v. map string_bytes v.items) (modules_at (table_view reader.now.table.now))
+        result }
 {
     let Some(value) = find(reader.table, Key::Modules) else {
         return Ok(Vec::new(reader.alloc));
@@ -50,13 +53,14 @@ pub(crate) fn modules_at(reader: &Reader<'_>) -> Read<Vec<String>>
     }
 }
 
-/// The module files that a text in TOML 1.1 names by its key `modules`, at most 256 of at most 4095 octets each, and none where
-/// the key is missing. Other keys are not looked at.
+/// The module files that a text in TOML 1.1 names by its key `modules`, at most 256 of at most 4095
+/// octets each, and none where the key is missing. Other keys are not looked at.
 ///
 /// # Errors
 /// `NotToml`; `BadValue` of `modules`; `OutOfMemory`.
 pub fn module_files(alloc: Global, text: &str) -> Result<Vec<String>, SettingsFault>
-    ensures accepted { IsReadAs (λ v. map string_bytes v.items) (Says (HoldsOr Key.Modules [] texts_in) text.now) result }
+    ensures accepted { IsReadAs (λ v. map string_bytes v.items)
+        (Says (HoldsOr Key.Modules [] texts_in) text.now) result }
     ensures refused { IfErr result (IsRefusal modules_at text.now) }
 {
     match tree(alloc, text) {

@@ -3,7 +3,7 @@
 ghost use Rattle.std.specs.Prelude.{◌≡◌, ◌≢◌, ◌↔◌, All, AllPairs, Any, IfOk, IsTrue, map};
 ghost use Rattle.mon_settings.specs.Keys.{Reads};
 ghost use Rattle.mon_settings.specs.Station.{are_apart, checked_peers, peers_at};
-ghost use Rattle.mon_core.specs.StationCore.{ArePeersOf};
+ghost use Rattle.mon_config.specs.StationCore.{ArePeersOf};
 ghost use Rattle.std.specs.List.{list_any};
 ghost use Rattle.mon_udp.specs.Addr.{same_addr};
 ghost use Rattle.toml.specs.View.{table_view};
@@ -16,13 +16,13 @@ use mon_udp::Addr;
 use std::alloc::{AllocError, Global};
 
 /// The most peers of a station.
-const MOST_PEERS: usize = 15;
+const MAX_PEERS: usize = 15;
 
 /// Returns `true` if these may be the peers of this station: at most 15 others, none twice.
 pub fn are_peers(own: u32, numbers: &[u32]) -> bool
     ensures { IsTrue result ↔ ArePeersOf own numbers.now }
 {
-    numbers.len() <= MOST_PEERS && are_others(own, numbers) && differ(numbers)
+    numbers.len() <= MAX_PEERS && are_others(own, numbers) && differ(numbers)
 }
 
 fn are_others(own: u32, numbers: &[u32]) -> bool
@@ -98,9 +98,10 @@ fn checked_peers(
 /// The peers: at most 15 other stations, none twice, and none at the address of a target.
 #[tactic(auto, unfolding(crate::specs::Station::peers_at))]
 pub(crate) fn peers_at(reader: &Reader<'_>, own: u32, targets: &[TargetRow]) -> Read<Vec<PeerRow>>
-    ensures gives { Reads (λ v. v.items) (peers_at own targets.now (table_view reader.now.table.now)) result }
+    ensures gives { Reads (λ v. v.items) (peers_at own targets.now
+        (table_view reader.now.table.now)) result }
     ensures others { IfOk result (λ v. ArePeersOf own (map (λ p. p.station) v.items)) }
 {
-    let peers = given!(reader.rows_or_none(&(), Key::Peer, MOST_PEERS));
+    let peers = given!(reader.rows_or_none(&(), Key::Peer, MAX_PEERS));
     checked_peers(reader.alloc, own, targets, peers)
 }

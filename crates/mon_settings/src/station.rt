@@ -7,7 +7,7 @@ ghost use Rattle.mon_settings.specs.Keys.{Reads};
 ghost use Rattle.mon_settings.specs.Resolving.{resolution};
 ghost use Rattle.mon_settings.specs.Station.{rules_at, scalars_of, scalars_view, station_of};
 ghost use Rattle.mon_settings.specs.StationAccepted.{IsStation, core_from, station_view};
-ghost use Rattle.mon_core.specs.StationCore.{IsCore};
+ghost use Rattle.mon_config.specs.StationCore.{IsCore};
 ghost use Rattle.mon_settings.specs.Text.{IsReadAs, IsRefusal, Says};
 ghost use Rattle.toml.specs.View.{table_view};
 
@@ -25,7 +25,7 @@ use crate::text::tree;
 use mon_alarms::Rule;
 use mon_ber::Octets;
 use mon_board::{Watch, Watched};
-use mon_core::Core;
+use mon_config::Core;
 use mon_poller::{Object, Objects, Target};
 use mon_smi::Names;
 use mon_udp::Addr;
@@ -173,7 +173,8 @@ fn core_from(
     requires few { length instances.items ≤ 256 }
     requires rising { IsStrictlySortedBy watched_cmp instances.items }
     requires core { IsCore (core_from station targets.now peers.now instances.items rules.items) }
-    ensures { IfOk result (λ c. c ≡ core_from station targets.now peers.now instances.items rules.items) }
+    ensures { IfOk result (λ c. c ≡ core_from station targets.now peers.now instances.items
+        rules.items) }
 {
     let numbered = targets_from(alloc, instances.as_slice(), targets)?;
     let numbers = stations_of(alloc, peers)?;
@@ -188,7 +189,8 @@ fn core_from(
 fn rules_at(reader: &Reader<'_>, around: &Around<'_>, instances: &[Watched]) -> Read<Vec<Rule>>
     requires few { length instances.now ≤ 256 }
     requires rising { IsStrictlySortedBy watched_cmp instances.now }
-    ensures { Reads (λ v. v.items) (rules_at (resolution around.now.names.now) around.now.sizes instances.now (table_view reader.now.table.now)) result }
+    ensures { Reads (λ v. v.items) (rules_at (resolution around.now.names.now) around.now.sizes
+        instances.now (table_view reader.now.table.now)) result }
 {
     let alarms: Vec<AlarmRow> = given!(reader.rows_or_none(around, Key::Alarm, 256));
     rules_of(reader.alloc, instances, alarms.as_slice())
@@ -196,7 +198,8 @@ fn rules_at(reader: &Reader<'_>, around: &Around<'_>, instances: &[Watched]) -> 
 
 #[tactic(auto, unfolding(crate::specs::Station::station_of))]
 fn read_tree(reader: &Reader<'_>, names: &Names) -> Read<StationSettings>
-    ensures { Reads station_view (station_of (resolution names.now) (table_view reader.now.table.now)) result }
+    ensures { Reads station_view (station_of (resolution names.now)
+        (table_view reader.now.table.now)) result }
 {
     given!(reader.only(top_keys(SettingsKind::Station)));
     let scalars = given!(read_scalars(reader));
@@ -231,24 +234,27 @@ fn read_tree(reader: &Reader<'_>, names: &Names) -> Read<StationSettings>
     })
 }
 
-/// Reads a station's settings from a text in TOML 1.1, in which objects have the names of these modules.
+/// Reads a station's settings from a text in TOML 1.1, in which objects have the names of these
+/// modules.
 ///
-/// The keys, in the order in which they are read: `station` 1 to 4294967295; `listen`; `file`, at most 4095 octets; `window`,
-/// 1 to 64 samples; `epoch`, 1 to the window, which it is where it is left out; `wait_ms` 1 to 60000; `label`, 1 to 64 octets,
-/// which may be left out, as that of a target; and the lists `modules`
-/// (may be left out) of at most 256 texts, `target` of 1 to 64 tables, `peer` (may be left out) of at most 15 and `alarm` (may
-/// be left out) of at most 256. In each table unknown keys are refused first. What two lists have to agree on is tested
-/// once the later one was read.
+/// The keys, in the order in which they are read: `station` 1 to 4294967295; `listen`; `file`, at
+/// most 4095 octets; `window`, 1 to 64 samples; `epoch`, 1 to the window, which it is where it is
+/// left out; `wait_ms` 1 to 60000; `label`, 1 to 64 octets, which may be left out, as that of a
+/// target; and the lists `modules` (may be left out) of at most 256 texts, `target` of 1 to 64
+/// tables, `peer` (may be left out) of at most 15 and `alarm` (may be left out) of at most 256. In
+/// each table unknown keys are refused first. What two lists have to agree on is tested once the
+/// later one was read.
 ///
 /// # Errors
-/// The first fault: `NotToml`; `UnknownKey` with the place of the table; `Missing`, `BadValue` and `UnknownObject`, for a name that does not
-/// resolve, with the place of the key; `OutOfMemory`.
+/// The first fault: `NotToml`; `UnknownKey` with the place of the table; `Missing`, `BadValue` and
+/// `UnknownObject`, for a name that does not resolve, with the place of the key; `OutOfMemory`.
 pub fn read_station(
     alloc: Global,
     text: &str,
     names: &Names,
 ) -> Result<StationSettings, SettingsFault>
-    // Memory aside, settings are read exactly where the text is a station's, and then they are what it says.
+    // Memory aside, settings are read exactly where the text is a station's, and then they are what
+    // it says.
     ensures accepted { IsReadAs station_view (Says (IsStation names.now) text.now) result }
     ensures refused { IfErr result (IsRefusal (station_of (resolution names.now)) text.now) }
 {

@@ -17,7 +17,7 @@ use crate::leaf::Reader;
 use crate::list::Row;
 use crate::place::Step;
 use mon_mib::{Growth, Interface, Status};
-use mon_vacm::{AccessEntry, Community, Family, Group, Policy, PolicyFault, Tables};
+use mon_vacm::{AccessEntry, Community, Group, Policy, PolicyFault, Tables, ViewTreeFamily};
 
 /// The greatest number of 31 bits.
 const INT: u64 = 2147483647;
@@ -74,7 +74,7 @@ impl Row<()> for AccessEntry {
     }
 }
 
-impl Row<()> for Family {
+impl Row<()> for ViewTreeFamily {
     ghost row_of = { λ _. family_of };
 
     #[tactic(auto, unfolding(crate::specs::Tables::family_of))]
@@ -84,7 +84,7 @@ impl Row<()> for Family {
         let subtree = given!(reader.oid(Key::Subtree));
         let mask = given!(reader.hex_or_none(Key::Mask, 16));
         let included = given!(reader.truth(Key::Included));
-        Ok(Family {
+        Ok(ViewTreeFamily {
             view_name,
             subtree,
             mask,

@@ -1,5 +1,5 @@
--- Polls that are tried, one after another, by a wire that was opened to their agent; and settings by
--- smaller targets.
+-- Polls that are tried, one after another, by a wire that was opened to their agent; and settings
+-- by smaller targets.
 use Rattle.std.proofs.Common.{◌≡◌, ◌∙◌, ◌≤◌, ◌-◌, ◌∷◌, ℕ, List, [], Option, Result, Ok, Err, ap, arith, drop, get_or, inr, length, refl, subst, sym, take}
 use Rattle.std.proofs.lemmas.List.{take_all}
 use Rattle.std.specs.Prelude.{IsErrAnd}

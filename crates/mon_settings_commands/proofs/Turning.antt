@@ -1,4 +1,5 @@
--- A walk through a column, variable by variable and turn by turn, and the columns one after another.
+-- A walk through a column, variable by variable and turn by turn, and the columns one after
+-- another.
 use Rattle.std.proofs.Common.{◌≡◌, ◌∙◌, ◌+◌, ◌<◌, ◌≤◌, ◌∷◌, ℕ, zero, suc, List, [], Result, Ok, Err, add-one, ap, arith, drop, get_or, inl, inr, length, refl, set, subst, sym}
 use Rattle.std.specs.Global.{Vec}
 use Rattle.std.proofs.lemmas.List.{append-nil, drop-set-lt, drop_all, drop_more}

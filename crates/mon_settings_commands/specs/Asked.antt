@@ -1,5 +1,6 @@
 -- Whom the command `settings` asks, and what it says of the answers.
-use Rattle.std.specs.Prelude.{◌≡◌, ◌++◌, ◌==◌, ◌∷◌, ℕ, List, [], All, Option, Some, None, Result, Ok, Err, codes, decimal, option_copied, if◌then◌else◌}
+use Rattle.std.specs.Prelude.{◌≡◌, ◌++◌, ◌==◌, ◌∷◌, ℕ, List, [], All, Option, Some, None, Result}
+use Rattle.std.specs.Prelude.{Ok, Err, codes, decimal, option_copied, if◌then◌else◌}
 use Rattle.mon_app.specs.Network.{Agents}
 use Rattle.mon_cli.specs.declared.meaning.SettingsArgs.{SettingsArgs}
 use Rattle.mon_console.specs.declared.failure.Failure.{Failure}
@@ -11,7 +12,8 @@ use Rattle.mon_settings_commands.specs.Kinds.{AreKinds, IsFirstNoKind, IsKindWor
 use Rattle.mon_settings_commands.specs.Named.{IsFirstNoPeer, NamesSome}
 use Rattle.mon_settings_commands.specs.Notes.{form_of}
 use Rattle.mon_settings_commands.specs.Percent.{GivesPercentage, GivesSome, IsNoPercentage}
-use Rattle.mon_settings_commands.specs.Refused.{IsAddress, IsCommunity, IsNoAddress, IsNoCommunity, OrLater}
+use Rattle.mon_settings_commands.specs.Refused.{IsAddress, IsCommunity, IsNoAddress, IsNoCommunity}
+use Rattle.mon_settings_commands.specs.Refused.{OrLater}
 use Rattle.mon_settings_commands.specs.Source.{peers_named}
 use Rattle.mon_settings_commands.specs.Surveyed.{IsSurveyed}
 use Rattle.mon_settings_commands.specs.declared.asking.Survey.{Survey}
@@ -45,13 +47,16 @@ IsAsked words (Err failure) = IsRefused words failure
 
 -- the line of an agent whose ifNumber is another number than that of the interfaces of its ifTable
 abbrev pub count_line : List ℕ → (number count : ℕ) → List ℕ
-count_line agent number count = agent ++ (codes ": ifNumber is " ++ (decimal number ++ (codes ", and ifTable has "
-    ++ (decimal count ++ (form_of count (codes " interface") (codes " interfaces") ++ codes "\n")))))
+count_line agent number count = agent ++ (codes ": ifNumber is "
+    ++ (decimal number ++ (codes ", and ifTable has "
+    ++ (decimal count ++ (form_of count (codes " interface") (codes " interfaces")
+    ++ codes "\n")))))
 
 -- it is said if the two numbers differ
 abbrev pub count_lines : List ℕ → Option ℕ → ℕ → List AtHost
 count_lines agent None count = []
-count_lines agent (Some number) count = if number == count then [] else Noted level.Warning (count_line agent number count) ∷ []
+count_lines agent (Some number) count = if number == count then []
+    else Noted level.Warning (count_line agent number count) ∷ []
 
 -- An agent is asked: nothing is printed, read or replaced. If it answered all, at most one line is
 -- said, of its ifNumber.

@@ -1,5 +1,6 @@
 -- What an agent answers of its engine, before and after its interfaces.
-use Rattle.std.specs.Prelude.{◌≡◌, ◌≢◌, ◌⊎◌, ℕ, pos, List, [], ◌∷◌, Option, Some, None, Result, Ok, Err}
+use Rattle.std.specs.Prelude.{◌≡◌, ◌≢◌, ◌⊎◌, ℕ, pos, List, [], ◌∷◌, Option, Some, None, Result, Ok}
+use Rattle.std.specs.Prelude.{Err}
 use Rattle.std.specs.Global.{Vec}
 use Rattle.mon_app.specs.declared.question.Asking.TheVariants.{Get}
 use Rattle.mon_ber.specs.declared.value.Value.{Value}
@@ -47,8 +48,10 @@ number_in _ = None
 
 -- the engine id and the ifNumber in the answers; or they have no engine id, or memory ran out
 abbrev pub IsHeadIn : List Binding → Result Head Failure → Type 0
-IsHeadIn bindings (Ok head) = HasEngine bindings head.engine.items × (head.number ≡ number_in bindings)
-IsHeadIn bindings (Err failure) = IsMemory failure ⊎ (HasNoEngine bindings × IsOfSurvey NoEngine failure)
+IsHeadIn bindings (Ok head) = HasEngine bindings head.engine.items
+    × (head.number ≡ number_in bindings)
+IsHeadIn bindings (Err failure) = IsMemory failure ⊎ (HasNoEngine bindings
+    × IsOfSurvey NoEngine failure)
 
 -- the agent is asked for the four, and its engine id and its ifNumber are read
 abbrev pub IsHead : List ℕ → List Exchange → Result Head Failure → Type 0
@@ -59,7 +62,8 @@ IsHead agent = Then (IsFirstAsked agent)
 abbrev pub IsEngineStill : List ℕ → List Binding → Result Unit Failure → Type 0
 IsEngineStill engine bindings (Ok done) = HasEngine bindings engine
 IsEngineStill engine bindings (Err failure) = (HasNoEngine bindings × IsOfSurvey NoEngine failure)
-    ⊎ ((other : List ℕ) × HasEngine bindings other × (other ≢ engine) × IsOfSurvey EngineChanged failure)
+    ⊎ ((other : List ℕ) × HasEngine bindings other × (other ≢ engine)
+    × IsOfSurvey EngineChanged failure)
 
 -- the agent is asked for the four again, and its engine id must be the one before
 abbrev pub IsSameEngine : List ℕ → List ℕ → List Exchange → Result Unit Failure → Type 0

@@ -1,5 +1,6 @@
 -- Questions to an agent, one after another, and what each came to.
-use Rattle.std.specs.Prelude.{◌≡◌, ℕ, pos, nat_lt, ◌+◌, List, [], ◌∷◌, ◌++◌, Option, Result, Ok, Err, if◌then◌else◌}
+use Rattle.std.specs.Prelude.{◌≡◌, ℕ, pos, nat_lt, ◌+◌, List, [], ◌∷◌, ◌++◌, Option, Result, Ok}
+use Rattle.std.specs.Prelude.{Err, if◌then◌else◌}
 use Rattle.std.specs.Global.{Vec}
 use Rattle.mon_app.specs.AtWire.{AtWire}
 use Rattle.mon_app.specs.Printed.{IsQuestionAnswered}
@@ -31,12 +32,13 @@ question_of community id e = record {
   names = e.names;
 }
 
--- Exchanges in their order, each explained by what happened at the wire. Their request-ids go on from
--- the last one before them, and this is the last one after them.
+-- Exchanges in their order, each explained by what happened at the wire. Their request-ids go on
+-- from the last one before them, and this is the last one after them.
 abbrev pub AreExplained : List ℕ → ℕ → List Exchange → ℕ → List AtWire → Type 0
 AreExplained community id [] last log = (log ≡ []) × (last ≡ id)
 AreExplained community id (e ∷ es) last log = (begin : List AtWire) × (rest : List AtWire)
-    × (log ≡ begin ++ rest) × IsQuestionAnswered (question_of community (next_id id) e) begin e.answer
+    × (log ≡ begin ++ rest) × IsQuestionAnswered (question_of community (next_id id) e) begin
+    e.answer
     × AreExplained community (next_id id) es last rest
 
 -- Questions were asked, of which this holds. Their request-ids go on from one to the last one.
@@ -47,17 +49,26 @@ pub record AsksBy (Holds : List Exchange → Type 0) (community : List ℕ) (id 
   pub explained : GoesOnBy (AreExplained community id exchanges last) before after
 
 -- what is made of an answer: its variable bindings, or the failure of the agent that gave none
-abbrev pub IsMadeOf : List ℕ → Result (List Binding) AppFault → Result (Vec Binding) Failure → Type 0
+abbrev pub IsMadeOf : List ℕ → Result (List Binding) AppFault → Result (Vec Binding) Failure
+    → Type 0
 IsMadeOf agent (Ok bindings) (Ok given) = given.items ≡ bindings
 IsMadeOf agent (Ok bindings) (Err failure) = ⊥
 IsMadeOf agent (Err fault) (Ok given) = ⊥
-IsMadeOf agent (Err fault) (Err failure) = (failure.fault ≡ App fault) × IsUnanswered agent fault failure
+IsMadeOf agent (Err fault) (Err failure) = (failure.fault ≡ App fault)
+    × IsUnanswered agent fault failure
 
 -- one question, and what it came to
-abbrev pub IsExchange : Asking → List (List ℕ) → List Exchange → Result (List Binding) AppFault → Type 0
-IsExchange asking names log result = log ≡ (record { asking = asking; names = names; answer = result }) ∷ []
+abbrev pub IsExchange : Asking → List (List ℕ) → List Exchange → Result (List Binding) AppFault
+    → Type 0
+IsExchange asking names log result = log ≡ (record {
+  asking = asking;
+  names = names;
+  answer = result;
+}) ∷ []
 
 -- one question, and what is made of its answer
-abbrev pub IsQuestion : List ℕ → Asking → List (List ℕ) → List Exchange → Result (Vec Binding) Failure → Type 0
+abbrev pub IsQuestion : List ℕ → Asking → List (List ℕ) → List Exchange
+    → Result (Vec Binding) Failure → Type 0
 IsQuestion agent asking names log result = (answer : Result (List Binding) AppFault)
-    × (log ≡ (record { asking = asking; names = names; answer = answer }) ∷ []) × IsMadeOf agent answer result
+    × (log ≡ (record { asking = asking; names = names; answer = answer }) ∷ [])
+    × IsMadeOf agent answer result

@@ -28,30 +28,39 @@ IsDraft s (Longer existing) size = IsAppendedOf s existing.now size
 IsDraft s (Updated news) size = IsUpdatedOf s news.existing.now news.known.now size
 
 -- settings by targets of this size were drafted, and their polls came to this when they were tried
-pub record IsDraftTried (agents : Agents) (asked : Asked) (Draft : TargetSize → Result Drafted Failure → Type 0) (size : TargetSize) (drafted : Drafted) (came : Result Unit Failure) : Type 0 where
+pub record IsDraftTried (agents : Agents) (asked : Asked) (Draft : TargetSize
+    → Result Drafted Failure → Type 0) (size : TargetSize) (drafted : Drafted)
+    (came : Result Unit Failure) : Type 0 where
   pub draft : Draft size (Ok drafted)
   pub trial : IsTrial agents asked drafted.targets.items came
 
--- What came of settings by targets of a size, if no smaller one is tried: the agent answered each poll; or
--- there are no such settings; or it gave a poll no answer, or one with an error status, which is tooBig
--- only if there is no smaller size.
-abbrev pub IsLastTried : Agents → Asked → (TargetSize → Result Drafted Failure → Type 0) → TargetSize → List TargetSize → Result Drafted Failure → Type 0
-IsLastTried agents asked Draft size smaller (Ok drafted) = IsDraftTried agents asked Draft size drafted (Ok tt)
+-- What came of settings by targets of a size, if no smaller one is tried: the agent answered each
+-- poll; or there are no such settings; or it gave a poll no answer, or one with an error status,
+-- which is tooBig only if there is no smaller size.
+abbrev pub IsLastTried : Agents → Asked → (TargetSize → Result Drafted Failure → Type 0)
+    → TargetSize → List TargetSize → Result Drafted Failure → Type 0
+IsLastTried agents asked Draft size smaller (Ok drafted) = IsDraftTried agents asked Draft size
+    drafted (Ok tt)
 IsLastTried agents asked Draft size smaller (Err failure) = Draft size (Err failure)
     ⊎ ((drafted : Drafted) × IsDraftTried agents asked Draft size drafted (Err failure)
     × ((is_too_big failure.fault ≡ false) ⊎ (smaller ≡ [])))
 
 -- the agent answered tooBig to a poll by targets of this size
-abbrev pub IsTooBigAt : Agents → Asked → (TargetSize → Result Drafted Failure → Type 0) → TargetSize → Type 0
+abbrev pub IsTooBigAt : Agents → Asked → (TargetSize → Result Drafted Failure → Type 0) → TargetSize
+    → Type 0
 IsTooBigAt agents asked Draft size = (drafted : Drafted) × (failure : Failure)
     × IsDraftTried agents asked Draft size drafted (Err failure) × (is_too_big failure.fault ≡ true)
 
--- Settings are by targets of the first of these sizes to whose polls the agent does not answer tooBig.
-abbrev pub IsFitting : Agents → Asked → (TargetSize → Result Drafted Failure → Type 0) → List TargetSize → Result Drafted Failure → Type 0
+-- Settings are by targets of the first of these sizes to whose polls the agent does not answer
+-- tooBig.
+abbrev pub IsFitting : Agents → Asked → (TargetSize → Result Drafted Failure → Type 0)
+    → List TargetSize → Result Drafted Failure → Type 0
 IsFitting agents asked Draft [] result = ⊥
-IsFitting agents asked Draft (size ∷ smaller) result = IsLastTried agents asked Draft size smaller result
+IsFitting agents asked Draft (size ∷ smaller) result = IsLastTried agents asked Draft size smaller
+    result
     ⊎ (IsTooBigAt agents asked Draft size × IsFitting agents asked Draft smaller result)
 
 -- the same from the largest size on, which is 16 objects
-abbrev pub AreFitting : Agents → Asked → (TargetSize → Result Drafted Failure → Type 0) → Result Drafted Failure → Type 0
+abbrev pub AreFitting : Agents → Asked → (TargetSize → Result Drafted Failure → Type 0)
+    → Result Drafted Failure → Type 0
 AreFitting agents asked Draft = IsFitting agents asked Draft (sizes_from Sixteen)

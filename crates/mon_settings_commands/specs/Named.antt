@@ -1,5 +1,6 @@
 -- What the options of `settings` name: files and peers.
-use Rattle.std.specs.Prelude.{◌≡◌, ◌<◌, ◌^◌, ℕ, ◌+◌, ◌==◌, List, ◌++◌, Option, Some, None, codes, decimal, if◌then◌else◌}
+use Rattle.std.specs.Prelude.{◌≡◌, ◌<◌, ◌^◌, ℕ, ◌+◌, ◌==◌, List, ◌++◌, Option, Some, None, codes}
+use Rattle.std.specs.Prelude.{decimal, if◌then◌else◌}
 use Rattle.std.specs.Str.Parse.{IsNumeral, digits_value, without_leading_plus}
 use Rattle.mon_console.specs.Failure.{IsOfText}
 use Rattle.mon_console.specs.declared.failure.Failure.{Failure}
@@ -10,11 +11,13 @@ abbrev pub given_or : List ℕ → Option (List ℕ) → List ℕ
 given_or other None = other
 given_or other (Some text) = text
 
--- the name of the file of a station that is this many after the first: from the second on it ends with the station's place
+-- the name of the file of a station that is this many after the first: from the second on it ends
+-- with the station's place
 unfoldable pub file_name : (file : List ℕ) (up : ℕ) → List ℕ
 file_name file up = if up == 0 then file else file ++ codes "-" ++ decimal (up + 1)
 
--- a text names a peer: the number of its station, after a plus or without one, an equals sign, and its address
+-- a text names a peer: the number of its station, after a plus or without one, an equals sign, and
+-- its address
 pub record NamesPeer (text : List ℕ) (station : ℕ) (address : List ℕ) : Type 0 where
   pub number : List ℕ
   pub joined : text ≡ number ++ codes "=" ++ address

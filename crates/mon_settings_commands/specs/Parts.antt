@@ -1,5 +1,6 @@
 -- The settings of several stations, a file each.
-use Rattle.std.specs.Prelude.{◌≡◌, ◌⊎◌, ◌+◌, ℕ, zero, suc, true, false, List, [], ◌∷◌, ◌++◌, Some, Result, Ok, Err, codes, decimal, length, string_bytes}
+use Rattle.std.specs.Prelude.{◌≡◌, ◌⊎◌, ◌+◌, ℕ, zero, suc, true, false, List, [], ◌∷◌, ◌++◌, Some}
+use Rattle.std.specs.Prelude.{Result, Ok, Err, codes, decimal, length, string_bytes}
 use Rattle.std.specs.Global.{Vec}
 use Rattle.mon_app.specs.Network.{Agents}
 use Rattle.mon_app.specs.declared.fault.AppFault.TheVariants.{FileFault}
@@ -28,7 +29,8 @@ part_path folder place = folder ++ codes "/station-" ++ decimal (place + 1) ++ c
 abbrev pub IsTaken : List ℕ → Failure → Type 0
 IsTaken path = IsSaid (App FileFault) (path ++ codes ": a file is there, and is not replaced")
 
--- settings are written to a file, its name is printed, and it is said how long a round takes at most
+-- settings are written to a file, its name is printed, and it is said how long a round takes at
+-- most
 abbrev pub IsNamedWritten : List ℕ → Drafted → List AtHost → Result Unit Failure → Type 0
 IsNamedWritten path drafted = Then (IsWrite path (string_bytes drafted.text))
     (λ done. OrMemory (IsPrintNoted (path ++ 10 ∷ []) path drafted.longest))
@@ -57,35 +59,44 @@ AreAbsent folder place (suc n) log result =
 abbrev pub AreWritten : List ℕ → ℕ → List Drafted → List AtHost → Result Unit Failure → Type 0
 AreWritten folder place [] log result = (log ≡ []) × (result ≡ Ok tt)
 AreWritten folder place (d ∷ ds) log result =
-    Then (IsPartWritten (part_path folder place) d) (λ done. AreWritten folder (place + 1) ds) log result
+    Then (IsPartWritten (part_path folder place) d) (λ done. AreWritten folder (place + 1) ds) log
+    result
 
 -- a group has no counters
 abbrev pub HasNoCounter : Source → ℕ → Type 0
-HasNoCounter s group = (choice : Choice) × IsChoice s (Some group) choice × (planned_of choice s.survey.answers ≡ Err faults.NoCounter)
+HasNoCounter s group = (choice : Choice) × IsChoice s (Some group) choice
+    × (planned_of choice s.survey.answers ≡ Err faults.NoCounter)
 
 -- a group has no plan, as a failure says
 abbrev pub HasNoPlan : Source → Failure → Type 0
-HasNoPlan s failure = (group : ℕ) × (choice : Choice) × (fault : SurveyFault) × IsChoice s (Some group) choice × IsOfSurvey fault failure
+HasNoPlan s failure = (group : ℕ) × (choice : Choice) × (fault : SurveyFault)
+    × IsChoice s (Some group) choice × IsOfSurvey fault failure
     × ((fault ≡ faults.OutOfMemory) ⊎ (planned_of choice s.survey.answers ≡ Err fault))
 
--- there are this many groups of counters: the next one has none, or there are as many as files may be
+-- there are this many groups of counters: the next one has none, or there are as many as files may
+-- be
 abbrev pub HasGroups : Source → ℕ → Type 0
 HasGroups s count = (count ≡ 65536) ⊎ HasNoCounter s count
 
 -- these are the settings of groups, from this one on, whose polls the agent answered
 abbrev pub AreGroupsFrom : Agents → Source → ℕ → List Drafted → Type 0
 AreGroupsFrom agents s group [] = Unit {0}
-AreGroupsFrom agents s group (d ∷ ds) = AreFitting agents s.asked (IsSettingsOf s (Some group)) (Ok d) × AreGroupsFrom agents s (group + 1) ds
+AreGroupsFrom agents s group (d ∷ ds) = AreFitting agents s.asked (IsSettingsOf s (Some group))
+    (Ok d) × AreGroupsFrom agents s (group + 1) ds
 
--- The settings of each group; or why there are none: a group has no plan, no settings, or a poll that the
--- agent does not answer.
+-- The settings of each group; or why there are none: a group has no plan, no settings, or a poll
+-- that the agent does not answer.
 abbrev pub AreParted : Agents → Source → Result (Vec Drafted) Failure → Type 0
-AreParted agents s (Ok parts) = HasGroups s (length parts.items) × AreGroupsFrom agents s 0 parts.items
+AreParted agents s (Ok parts) = HasGroups s (length parts.items)
+    × AreGroupsFrom agents s 0 parts.items
 AreParted agents s (Err failure) = HasNoPlan s failure
-    ⊎ ((group : ℕ) × (IsMemory failure ⊎ AreFitting agents s.asked (IsSettingsOf s (Some group)) (Err failure)))
+    ⊎ ((group : ℕ) × (IsMemory failure ⊎ AreFitting agents s.asked (IsSettingsOf s (Some group))
+    (Err failure)))
 
--- The settings of several stations. The polls of all are tried first. No file is replaced: it is looked whether each is absent before
--- anything is written, and labels are replaced before the first file is made.
+-- The settings of several stations. The polls of all are tried first. No file is replaced: it is
+-- looked whether each is absent before anything is written, and labels are replaced before the
+-- first file is made.
 abbrev pub AreParts : Agents → Source → List ℕ → List AtHost → Result Unit Failure → Type 0
-AreParts agents s folder = Then (Quietly (AreParted agents s)) (λ parts. Then (AreAbsent folder 0 (length parts.items)) (λ absent.
+AreParts agents s folder = Then (Quietly (AreParted agents s))
+    (λ parts. Then (AreAbsent folder 0 (length parts.items)) (λ absent.
     Then (AreLabels s []) (λ done. AreWritten folder 0 parts.items)))

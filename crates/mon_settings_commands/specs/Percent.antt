@@ -13,7 +13,8 @@ pub record IsPercentage (text : List ℕ) (n : ℕ) : Type 0 where
 
 -- a text means a percentage: it spells the number, or spells it before a percent sign at its end
 abbrev pub MeansPercentage : List ℕ → ℕ → Type 0
-MeansPercentage text n = IsPercentage text n ⊎ ((front : List ℕ) × (text ≡ front ++ codes "%") × IsPercentage front n)
+MeansPercentage text n = IsPercentage text n ⊎ ((front : List ℕ) × (text ≡ front ++ codes "%")
+    × IsPercentage front n)
 
 -- the percentage of an option: the one that its text means, or 0 if it is left out
 abbrev pub GivesPercentage : Option (List ℕ) → ℕ → Type 0

@@ -24,9 +24,11 @@ IsNoCommunity word failure = ¬ (IsCommunity word)
     × IsOfText (codes "COMMUNITY") (codes "a text of 1 to 512 octets") failure
 
 -- the first of some words that is bad, as the failure says; those before it are good
-abbrev pub IsFirstBad : (List ℕ → Type 0) → (List ℕ → Failure → Type 0) → List (List ℕ) → Failure → Type 0
+abbrev pub IsFirstBad : (List ℕ → Type 0) → (List ℕ → Failure → Type 0) → List (List ℕ) → Failure
+    → Type 0
 IsFirstBad Good Bad [] failure = ⊥
-IsFirstBad Good Bad (word ∷ words) failure = Bad word failure ⊎ (Good word × IsFirstBad Good Bad words failure)
+IsFirstBad Good Bad (word ∷ words) failure = Bad word failure
+    ⊎ (Good word × IsFirstBad Good Bad words failure)
 
 -- this is bad; or it is good, and what comes later is bad
 abbrev pub OrLater : (bad good later : Type 0) → Type 0

@@ -21,7 +21,13 @@ pub record Source : Type 0 where
 
 -- what is lent, as it is
 abbrev pub source_in : Ground → Source
-source_in g = record { words = g.words.now; asked = g.asked; names = g.names.now; survey = g.survey.now }
+source_in g = record {
+  words = g.words.now;
+  asked = g.asked;
+  names = g.names.now;
+  survey =
+      g.survey.now;
+}
 
 -- the texts that name peers
 abbrev pub peers_named : SettingsArgs → List (List ℕ)
@@ -41,6 +47,7 @@ pub record IsOfSurvey (fault : SurveyFault) (failure : Failure) : Type 0 where
   pub name : (innermost_of failure.fault).name ≡ name_of fault
 
 -- this step, or nothing was done since memory ran out before it
-abbrev pub OrMemory : {A C : Type 0} → (List C → Result A Failure → Type 0) → List C → Result A Failure → Type 0
+abbrev pub OrMemory : {A C : Type 0} → (List C → Result A Failure → Type 0) → List C
+    → Result A Failure → Type 0
 OrMemory Step log (Ok value) = Step log (Ok value)
 OrMemory Step log (Err failure) = ((log ≡ []) × IsMemory failure) ⊎ Step log (Err failure)

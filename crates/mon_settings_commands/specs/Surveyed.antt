@@ -21,15 +21,18 @@ use Rattle.mon_settings_commands.specs.declared.asking.Survey.{Survey}
 use Rattle.mon_settings_commands.specs.declared.settings.Asked.{Asked}
 
 -- a column is walked if it is needed
-abbrev pub IsWalkIf : Bool → List ℕ → Column → List Cell → List Exchange → Result (List Cell) Failure → Type 0
+abbrev pub IsWalkIf : Bool → List ℕ → Column → List Cell → List Exchange
+    → Result (List Cell) Failure → Type 0
 IsWalkIf true agent column cells = IsWalk agent column cells
 IsWalkIf false agent column cells = Quietly (λ result. result ≡ Ok cells)
 
 -- Of these columns those that the kinds need are walked, in their order. The cells of each come
 -- after those before.
-abbrev pub AreWalked : List ℕ → Kinds → List Column → List Cell → List Exchange → Result (List Cell) Failure → Type 0
+abbrev pub AreWalked : List ℕ → Kinds → List Column → List Cell → List Exchange
+    → Result (List Cell) Failure → Type 0
 AreWalked agent kinds [] cells = Quietly (λ result. result ≡ Ok cells)
-AreWalked agent kinds (column ∷ columns) cells = Then (IsWalkIf (needs kinds column) agent column cells)
+AreWalked agent kinds (column ∷ columns) cells = Then (IsWalkIf (needs kinds column) agent column
+    cells)
     (λ more. AreWalked agent kinds columns more)
 
 -- what an agent answered, once its engine is the same after the walk
@@ -57,7 +60,8 @@ pub record IsUnwired (agents : Agents) (agent : AgentAt) (failure : Failure) : T
   pub said : IsUnanswered agent.word.now fault failure
 
 -- what happened at a wire explains a survey; the first request-id is 1
-pub record IsExplained (asked : Asked) (result : Result Survey Failure) (at_wire : List AtWire) : Type 0 where
+pub record IsExplained (asked : Asked) (result : Result Survey Failure) (at_wire : List AtWire) :
+    Type 0 where
   pub exchanges : List Exchange
   pub survey : IsSurvey asked.agent.word.now asked.kinds exchanges result
   pub last : ℕ
@@ -66,6 +70,7 @@ pub record IsExplained (asked : Asked) (result : Result Survey Failure) (at_wire
 -- A wire was opened to an agent, and what happened there explains what it answered, or why there is
 -- no answer; or no wire could be opened.
 abbrev pub IsSurveyed : Agents → Asked → Result Survey Failure → Type 0
-IsSurveyed agents asked (Ok survey) = agents.Reached asked.agent.address (IsExplained asked (Ok survey))
+IsSurveyed agents asked (Ok survey) = agents.Reached asked.agent.address
+    (IsExplained asked (Ok survey))
 IsSurveyed agents asked (Err failure) = IsUnwired agents asked.agent failure
     ⊎ agents.Reached asked.agent.address (IsExplained asked (Err failure))

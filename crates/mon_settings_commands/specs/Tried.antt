@@ -1,5 +1,6 @@
 -- Polls of settings, tried before the settings are printed or written.
-use Rattle.std.specs.Prelude.{◌≡◌, ◌⊎◌, ◌==◌, ℕ, ℤ, pos, negsuc, Bool, false, List, [], ◌∷◌, ◌++◌, Result, Ok, Err, codes, decimal, length, if◌then◌else◌}
+use Rattle.std.specs.Prelude.{◌≡◌, ◌⊎◌, ◌==◌, ℕ, ℤ, pos, negsuc, Bool, false, List, [], ◌∷◌, ◌++◌}
+use Rattle.std.specs.Prelude.{Result, Ok, Err, codes, decimal, length, if◌then◌else◌}
 use Rattle.std.specs.Fmt.{signed_decimal}
 use Rattle.mon_app.specs.AtWire.{AtWire}
 use Rattle.mon_app.specs.Network.{Agents}
@@ -52,20 +53,24 @@ silent_line agent t = poll_text agent t
 
 -- the failure of a poll that was not answered, or with an error status: its line names the poll
 abbrev pub IsUnpolled : List ℕ → Target → AppFault → Failure → Type 0
-IsUnpolled agent t (AgentStatus status index) = IsSaid (App (AgentStatus status index)) (refused_line agent t status)
+IsUnpolled agent t (AgentStatus status index) = IsSaid (App (AgentStatus status index))
+    (refused_line agent t status)
 IsUnpolled agent t Timeout = IsSaid (App Timeout) (silent_line agent t)
 IsUnpolled agent t fault = IsUnanswered agent fault
 
 -- what is made of an answer to a poll: any without an error status is one
-abbrev pub IsTriedBy : List ℕ → Target → Result (List Binding) AppFault → Result Unit Failure → Type 0
+abbrev pub IsTriedBy : List ℕ → Target → Result (List Binding) AppFault → Result Unit Failure
+    → Type 0
 IsTriedBy agent t (Ok bindings) result = result ≡ Ok tt
 IsTriedBy agent t (Err fault) (Ok done) = ⊥
-IsTriedBy agent t (Err fault) (Err failure) = (failure.fault ≡ App fault) × IsUnpolled agent t fault failure
+IsTriedBy agent t (Err fault) (Err failure) = (failure.fault ≡ App fault)
+    × IsUnpolled agent t fault failure
 
 -- one Get for exactly the names that a poll of the target asks for, and what is made of its answer
 abbrev pub IsPolled : List ℕ → Target → List Exchange → Result Unit Failure → Type 0
 IsPolled agent t log result = (answer : Result (List Binding) AppFault)
-    × (log ≡ (record { asking = Get; names = poll_names t; answer = answer }) ∷ []) × IsTriedBy agent t answer result
+    × (log ≡ (record { asking = Get; names = poll_names t; answer = answer }) ∷ [])
+    × IsTriedBy agent t answer result
 
 -- a poll is tried, if memory is left for its names
 abbrev pub IsTried : List ℕ → Target → List Exchange → Result Unit Failure → Type 0
@@ -77,16 +82,18 @@ AreTried agent [] = Quietly (λ result. result ≡ Ok tt)
 AreTried agent (t ∷ ts) = Then (IsTried agent t) (λ done. AreTried agent ts)
 
 -- what happened at a wire explains a trial; the first request-id is 1
-pub record IsTrialBy (asked : Asked) (targets : List Target) (result : Result Unit Failure) (at_wire : List AtWire) : Type 0 where
+pub record IsTrialBy (asked : Asked) (targets : List Target) (result : Result Unit Failure)
+    (at_wire : List AtWire) : Type 0 where
   pub exchanges : List Exchange
   pub tried : AreTried asked.agent.word.now targets exchanges result
   pub last : ℕ
   pub explained : AreExplained asked.community.now 0 exchanges last at_wire
 
--- A trial: a wire was opened to the agent, and what happened there explains that it answered a poll of
--- each target without an error status, or why not; or no wire could be opened.
+-- A trial: a wire was opened to the agent, and what happened there explains that it answered a poll
+-- of each target without an error status, or why not; or no wire could be opened.
 abbrev pub IsTrial : Agents → Asked → List Target → Result Unit Failure → Type 0
-IsTrial agents asked targets (Ok done) = agents.Reached asked.agent.address (IsTrialBy asked targets (Ok done))
+IsTrial agents asked targets (Ok done) = agents.Reached asked.agent.address
+    (IsTrialBy asked targets (Ok done))
 IsTrial agents asked targets (Err failure) = IsUnwired agents asked.agent failure
     ⊎ agents.Reached asked.agent.address (IsTrialBy asked targets (Err failure))
 

@@ -1,5 +1,6 @@
 -- What is asked of a column of interfaces, turn by turn, and what is made of the answers.
-use Rattle.std.specs.Prelude.{◌≡◌, ◌⊎◌, ◌<◌, ◌≤◌, ℕ, zero, suc, ◌+◌, pos, List, [], ◌∷◌, ◌++◌, Bool, true, false, Result, Ok, Err, codes, decimal}
+use Rattle.std.specs.Prelude.{◌≡◌, ◌⊎◌, ◌<◌, ◌≤◌, ℕ, zero, suc, ◌+◌, pos, List, [], ◌∷◌, ◌++◌, Bool}
+use Rattle.std.specs.Prelude.{true, false, Result, Ok, Err, codes, decimal}
 use Rattle.mon_app.specs.Walk.{Exceeds, IsPast, IsUnderStart}
 use Rattle.mon_app.specs.declared.fault.AppFault.TheVariants.{NotIncreasing, Timeout}
 use Rattle.mon_app.specs.declared.question.Asking.{Asking}
@@ -20,7 +21,8 @@ use Rattle.mon_settings_commands.specs.Exchange.{Exchange, IsQuestion}
 use Rattle.mon_settings_commands.specs.Source.{IsOfSurvey, OrMemory}
 use Rattle.mon_settings_commands.specs.declared.asking.Place.{Place}
 
--- where a walk is in its column, and the cells that were taken so far, of this column and those before
+-- where a walk is in its column, and the cells that were taken so far, of this column and those
+-- before
 pub record Stand : Type 0 where
   pub place : Place
   pub cells : List Cell
@@ -66,7 +68,8 @@ abbrev pub IsNotTaken : List ℕ → Stand → Binding → Failure → Type 0
 IsNotTaken agent s b failure = (¬ (Exceeds s.place.last b) × IsOf (App NotIncreasing) failure)
     ⊎ ((Exceeds s.place.last b × (65536 ≤ s.place.taken) × IsUnending agent s.place.start failure)
     ⊎ ((fault : SurveyFault) × Exceeds s.place.last b × (s.place.taken < 65536)
-    × ((fault ≡ OutOfMemory) ⊎ (taken s.cells b.name b.value ≡ Err fault)) × IsOfSurvey fault failure))
+    × ((fault ≡ OutOfMemory) ⊎ (taken s.cells b.name b.value ≡ Err fault))
+    × IsOfSurvey fault failure))
 
 -- What is made of a variable: it is taken, or it is past the column; or why it is not taken.
 abbrev pub IsPut : List ℕ → Stand → Binding → Result Turned Failure → Type 0
@@ -100,7 +103,8 @@ IsReplyPut agent s (b ∷ bs) result = ArePut agent s (b ∷ bs) result
 abbrev pub bulk : Asking
 bulk = GetBulk (record { non_repeaters = pos 0; max_repetitions = pos 32 })
 
--- A turn: the agent is asked by a GetBulk for what comes after the last name, and its answer is taken.
+-- A turn: the agent is asked by a GetBulk for what comes after the last name, and its answer is
+-- taken.
 abbrev pub IsTurn : List ℕ → Stand → List Exchange → Result Turned Failure → Type 0
 IsTurn agent s = Then (IsQuestion agent bulk (s.place.last ∷ []))
     (λ bindings. Quietly (IsReplyPut agent s bindings.items))
@@ -108,7 +112,8 @@ IsTurn agent s = Then (IsQuestion agent bulk (s.place.last ∷ []))
 -- after this many turns, by which the walk went on, it is here
 abbrev pub HasTurned : List ℕ → Stand → ℕ → List Exchange → Stand → Type 0
 HasTurned agent first zero log now = (log ≡ []) × (now ≡ first)
-HasTurned agent first (suc n) log now = (earlier : List Exchange) × (others : List Exchange) × (before : Stand)
+HasTurned agent first (suc n) log now = (earlier : List Exchange) × (others : List Exchange)
+    × (before : Stand)
     × HasTurned agent first n earlier before × IsTurn agent before others (Ok (On now))
     × (log ≡ earlier ++ others)
 
@@ -144,5 +149,6 @@ pub record IsColumnWalk (agent : List ℕ) (column : Column) (cells : List Cell)
       ⊎ ((turns ≡ 65536) × (others ≡ []) × HasNoEnd agent (column_name column) result)
 
 -- a walk through a column, if memory is left for its name
-abbrev pub IsWalk : List ℕ → Column → List Cell → List Exchange → Result (List Cell) Failure → Type 0
+abbrev pub IsWalk : List ℕ → Column → List Cell → List Exchange → Result (List Cell) Failure
+    → Type 0
 IsWalk agent column cells = OrMemory (IsColumnWalk agent column cells)

@@ -62,15 +62,16 @@ pub(crate) struct Survey {
     pub(crate) answers: Answers,
 }
 
-/// Asks the agent for its engine and its interfaces. Where its ifNumber is another number than that of
-/// ifTable's interfaces, a line on standard error says so.
+/// Asks the agent for its engine and its interfaces. Where its ifNumber is another number than that
+/// of ifTable's interfaces, a line on standard error says so.
 pub(crate) fn ask_agent<N: Opens, H: Host>(
     alloc: Global,
     host: &mut H,
     net: &N,
     asked: Asked<'_>,
 ) -> Result<Survey, Failure>
-    ensures { GoesOnBy (λ log. IsAsking (agents_by (N.has_opened net.now) (N.has_failed net.now) N.Wire.told)
+    ensures { GoesOnBy (λ log. IsAsking (agents_by (N.has_opened net.now) (N.has_failed net.now)
+        N.Wire.told)
         asked.entry log result) (H.log host.old) (H.log host.new) }
 {
     let survey = survey_at(alloc, net, asked)?;
@@ -126,8 +127,10 @@ pub(crate) fn open<N: Opens>(
     asked: Asked<'_>,
 ) -> Result<Asker<N::Wire>, Failure>
     ensures first { IfOk result (λ asker. asker.last_id ≡ 0) }
-    ensures opened { IfOk result (λ asker. N.has_opened net.now asked.entry.agent.address asker.wire) }
-    ensures refused { IfErr result (IsUnwired (agents_by (N.has_opened net.now) (N.has_failed net.now) N.Wire.told) asked.entry.agent) }
+    ensures opened { IfOk result (λ asker. N.has_opened net.now asked.entry.agent.address
+        asker.wire) }
+    ensures refused { IfErr result (IsUnwired (agents_by (N.has_opened net.now)
+        (N.has_failed net.now) N.Wire.told) asked.entry.agent) }
 {
     match net.open(asked.agent.address) {
         Ok(wire) => Ok(Asker { wire, last_id: 0 }),
@@ -180,7 +183,8 @@ fn ask<W: Wire>(
     asking: Asking<'_>,
     names: &[Oid],
 ) -> Result<Vec<Binding>, Failure>
-    ensures { AsksBy (λ log. IsQuestion asked.entry.agent.word.now asking.entry names.now log result)
+    ensures { AsksBy (λ log. IsQuestion asked.entry.agent.word.now asking.entry names.now log
+        result)
         asked.entry.community.now asker.old.last_id asker.new.last_id
         (W.told asker.old.wire) (W.told asker.new.wire) }
 {
@@ -318,7 +322,8 @@ fn walk_columns<W: Wire>(
     asked: Asked<'_>,
     answers: &mut Answers,
 ) -> Result<(), Failure>
-    ensures { AsksBy (λ log. AreWalked asked.entry.agent.word.now asked.entry.kinds columns answers.old log (with_cells answers.new result))
+    ensures { AsksBy (λ log. AreWalked asked.entry.agent.word.now asked.entry.kinds columns
+        answers.old log (with_cells answers.new result))
         asked.entry.community.now asker.old.last_id asker.new.last_id
         (W.told asker.old.wire) (W.told asker.new.wire) }
 {
@@ -337,7 +342,8 @@ fn walk_if_needed<W: Wire>(
     column: Column,
     answers: &mut Answers,
 ) -> Result<(), Failure>
-    ensures { AsksBy (λ log. IsWalkIf (needs asked.entry.kinds column) asked.entry.agent.word.now column answers.old log (with_cells answers.new result))
+    ensures { AsksBy (λ log. IsWalkIf (needs asked.entry.kinds column) asked.entry.agent.word.now
+        column answers.old log (with_cells answers.new result))
         asked.entry.community.now asker.old.last_id asker.new.last_id
         (W.told asker.old.wire) (W.told asker.new.wire) }
 {
@@ -356,7 +362,8 @@ fn walk<W: Wire>(
     column: Column,
     answers: &mut Answers,
 ) -> Result<(), Failure>
-    ensures { AsksBy (λ log. IsWalk asked.entry.agent.word.now column answers.old log (with_cells answers.new result))
+    ensures { AsksBy (λ log. IsWalk asked.entry.agent.word.now column answers.old log
+        (with_cells answers.new result))
         asked.entry.community.now asker.old.last_id asker.new.last_id
         (W.told asker.old.wire) (W.told asker.new.wire) }
 {
@@ -378,7 +385,8 @@ fn step<W: Wire>(
     place: &mut Place,
     answers: &mut Answers,
 ) -> Result<bool, Failure>
-    ensures { AsksBy (λ log. IsTurn asked.entry.agent.word.now (stand place.old answers.old) log (turned (stand place.new answers.new) result))
+    ensures { AsksBy (λ log. IsTurn asked.entry.agent.word.now (stand place.old answers.old) log
+        (turned (stand place.new answers.new) result))
         asked.entry.community.now asker.old.last_id asker.new.last_id
         (W.told asker.old.wire) (W.told asker.new.wire) }
 {
@@ -398,7 +406,8 @@ fn take(
     bindings: &mut [Binding],
     answers: &mut Answers,
 ) -> Result<bool, Failure>
-    ensures { IsReplyPut agent.now (stand place.old answers.old) bindings.old (turned (stand place.new answers.new) result) }
+    ensures { IsReplyPut agent.now (stand place.old answers.old) bindings.old
+        (turned (stand place.new answers.new) result) }
 {
     if bindings.is_empty() {
         return Err(answer_failure(alloc, agent, AppFault::NotIncreasing));
@@ -414,7 +423,8 @@ fn take_all(
     bindings: &mut [Binding],
     answers: &mut Answers,
 ) -> Result<bool, Failure>
-    ensures { ArePut agent.now (stand place.old answers.old) bindings.old (turned (stand place.new answers.new) result) }
+    ensures { ArePut agent.now (stand place.old answers.old) bindings.old
+        (turned (stand place.new answers.new) result) }
 {
     for binding in bindings.iter_mut() {
         if !put(alloc, agent, place, binding, answers)? {
@@ -435,7 +445,8 @@ fn put(
     binding: &mut Binding,
     answers: &mut Answers,
 ) -> Result<bool, Failure>
-    ensures { IsPut agent.now (stand place.old answers.old) binding.old (turned (stand place.new answers.new) result) }
+    ensures { IsPut agent.now (stand place.old answers.old) binding.old
+        (turned (stand place.new answers.new) result) }
 {
     if is_past(&place.start, binding) {
         return Ok(false);
@@ -511,7 +522,8 @@ fn is_past(start: &Oid, binding: &Binding) -> bool
 
 /// The engine id in the answers to the three names of the group, which come first.
 fn engine_in(bindings: &[Binding]) -> Result<&[u8], SurveyFault>
-    ensures { MatchResult result (λ engine. HasEngine bindings.now engine.now) (λ fault. (fault ≡ NoEngine) × HasNoEngine bindings.now) }
+    ensures { MatchResult result (λ engine. HasEngine bindings.now engine.now)
+        (λ fault. (fault ≡ NoEngine) × HasNoEngine bindings.now) }
 {
     let [id, boots, time, _number] = bindings else {
         return Err(SurveyFault::NoEngine);

@@ -1,5 +1,5 @@
-//! The command `settings`: walks an agent's interfaces and prints the settings of a station that polls
-//! them.
+//! The command `settings`: walks an agent's interfaces and prints the settings of a station that
+//! polls them.
 #![tactic(auto)]
 
 mod asking;

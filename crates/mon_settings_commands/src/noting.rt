@@ -76,7 +76,8 @@ fn note_count<H: Host>(host: &mut H, percent: u8, count: usize)
 
 /// Says for how many interfaces there is no threshold.
 fn note_speed<H: Host>(host: &mut H, count: usize)
-    ensures { GoesOnBy (λ log. log ≡ Noted Warning (speed_line count) ∷ []) (H.log host.old) (H.log host.new) }
+    ensures { GoesOnBy (λ log. log ≡ Noted Warning (speed_line count) ∷ []) (H.log host.old)
+        (H.log host.new) }
 {
     if count == 1 {
         host.note(

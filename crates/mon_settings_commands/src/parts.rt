@@ -22,11 +22,11 @@ use mon_survey::{Drafted, SurveyFault, TargetSize, plan};
 use std::alloc::{AllocError, Global};
 
 /// The most files that settings are split into.
-const MOST_PARTS: u32 = 65_536;
+const MAX_PARTS: u32 = 65_536;
 
-/// Writes the settings of a station for each group into a folder, prints the names of the files, and
-/// says of each how long a round takes at most. Nothing is written if one of the files is there, or if
-/// the agent does not answer a poll of a target.
+/// Writes the settings of a station for each group into a folder, prints the names of the files,
+/// and says of each how long a round takes at most. Nothing is written if one of the files is
+/// there, or if the agent does not answer a poll of a target.
 pub(crate) fn write_parts<N: Opens, H: Host>(
     alloc: Global,
     host: &mut H,
@@ -34,7 +34,8 @@ pub(crate) fn write_parts<N: Opens, H: Host>(
     ground: &Ground<'_, '_>,
     folder: &str,
 ) -> Result<(), Failure>
-    ensures { GoesOnBy (λ log. AreParts (agents_by (N.has_opened net.now) (N.has_failed net.now) N.Wire.told)
+    ensures { GoesOnBy (λ log. AreParts (agents_by (N.has_opened net.now) (N.has_failed net.now)
+        N.Wire.told)
         (source_in ground.now) folder.now log result)
         (H.log host.old) (H.log host.new) }
 {
@@ -129,8 +130,13 @@ fn add_part<N: Opens>(
     group: u32,
 ) -> Result<(), Failure>
     requires { group < 65536 }
-    ensures added { OnOk result ((part : AnyDrafted) × (parts.new.items ≡ parts.old.items ++ part ∷ []) × AreFitting (agents_by (N.has_opened net.now) (N.has_failed net.now) N.Wire.told) ground.now.asked (IsSettingsOf (source_in ground.now) (Some group)) (Ok part)) }
-    ensures refused { IfErr result (λ failure. IsMemory failure ⊎ AreFitting (agents_by (N.has_opened net.now) (N.has_failed net.now) N.Wire.told) ground.now.asked (IsSettingsOf (source_in ground.now) (Some group)) (Err failure)) }
+    ensures added { OnOk result ((part : AnyDrafted) × (parts.new.items
+        ≡ parts.old.items ++ part ∷ []) × AreFitting (agents_by (N.has_opened net.now)
+        (N.has_failed net.now) N.Wire.told) ground.now.asked
+        (IsSettingsOf (source_in ground.now) (Some group)) (Ok part)) }
+    ensures refused { IfErr result (λ failure. IsMemory failure
+        ⊎ AreFitting (agents_by (N.has_opened net.now) (N.has_failed net.now) N.Wire.told)
+        ground.now.asked (IsSettingsOf (source_in ground.now) (Some group)) (Err failure)) }
 {
     let part = fit(
         alloc,
@@ -148,12 +154,12 @@ fn groups_of(alloc: Global, ground: &Ground<'_, '_>) -> Result<u32, Failure>
     ensures last { IfOk result (HasGroups (source_in ground.now)) }
     ensures refused { IfErr result (HasNoPlan (source_in ground.now)) }
 {
-    for group in 0..MOST_PARTS {
+    for group in 0..MAX_PARTS {
         if !has_group(alloc, ground, group)? {
             return Ok(group);
         }
     }
-    Ok(MOST_PARTS)
+    Ok(MAX_PARTS)
 }
 
 /// Returns `true` if a group has counters, which the first one must have.

@@ -1,5 +1,5 @@
-//! The command `settings`: asks an agent for its engine, walks its tables of interfaces, and prints the
-//! settings of a station that polls it.
+//! The command `settings`: asks an agent for its engine, walks its tables of interfaces, and prints
+//! the settings of a station that polls it.
 
 ghost use Rattle.std.specs.Prelude.{◌≡◌, ◌<◌, ◌≤◌, [], IfErr, IfOk, OnOk, option_copied, string_bytes};
 ghost use Rattle.mon_app.specs.Network.{agents_by};
@@ -40,18 +40,18 @@ const LISTEN: &str = "0.0.0.0:16101";
 const FILE: &str = "station.mon";
 
 /// Prints the settings of a station that polls the agent that the arguments name, writes those of
-/// several stations, or prints settings that are there with the agent's targets at their end, or with
-/// its interfaces as they are now. Nothing
-/// is printed or written unless all was answered, each text was read back, and the agent answered a poll
-/// of each target that polls it. Of each text a line on
-/// standard error says how long a round takes at most, by what was read back.
+/// several stations, or prints settings that are there with the agent's targets at their end, or
+/// with its interfaces as they are now. Nothing is printed or written unless all was answered, each
+/// text was read back, and the agent answered a poll of each target that polls it. Of each text a
+/// line on standard error says how long a round takes at most, by what was read back.
 pub fn print_settings<N: Opens, H: Host>(
     alloc: Global,
     host: &mut H,
     net: &N,
     words: SettingsArgs<'_, '_>,
 ) -> Result<(), Failure>
-    ensures { GoesOnBy (λ log. AreSettings (agents_by (N.has_opened net.now) (N.has_failed net.now) N.Wire.told)
+    ensures { GoesOnBy (λ log. AreSettings (agents_by (N.has_opened net.now) (N.has_failed net.now)
+        N.Wire.told)
         words.entry log result)
         (H.log host.old) (H.log host.new) }
 {
@@ -76,7 +76,8 @@ fn print_others<N: Opens, H: Host>(
     words: &SettingsArgs<'_, '_>,
     asked: Asked<'_>,
 ) -> Result<(), Failure>
-    ensures { GoesOnBy (λ log. AreSettingsFor (agents_by (N.has_opened net.now) (N.has_failed net.now) N.Wire.told)
+    ensures { GoesOnBy (λ log. AreSettingsFor (agents_by (N.has_opened net.now)
+        (N.has_failed net.now) N.Wire.told)
         words.now asked.entry (option_copied words.now.append) log result)
         (H.log host.old) (H.log host.new) }
 {
@@ -99,8 +100,8 @@ pub(crate) struct Asked<'a> {
     pub(crate) percent: u8,
 }
 
-/// Reads what the arguments say of the agent, and requires that each peer has a number and an address,
-/// before the agent is asked.
+/// Reads what the arguments say of the agent, and requires that each peer has a number and an
+/// address, before the agent is asked.
 fn asked_of<'a>(alloc: Global, words: &SettingsArgs<'_, 'a>) -> Result<Asked<'a>, Failure>
     ensures { IsAsked words.now result }
 {
@@ -133,7 +134,8 @@ fn print_new<N: Opens, H: Host>(
     words: &SettingsArgs<'_, '_>,
     asked: Asked<'_>,
 ) -> Result<(), Failure>
-    ensures { GoesOnBy (λ log. AreNewSettings (agents_by (N.has_opened net.now) (N.has_failed net.now) N.Wire.told)
+    ensures { GoesOnBy (λ log. AreNewSettings (agents_by (N.has_opened net.now)
+        (N.has_failed net.now) N.Wire.told)
         words.now asked.entry log result)
         (H.log host.old) (H.log host.new) }
 {
@@ -155,7 +157,8 @@ fn write_new<N: Opens, H: Host>(
     net: &N,
     ground: &Ground<'_, '_>,
 ) -> Result<(), Failure>
-    ensures { GoesOnBy (λ log. AreNewTexts (agents_by (N.has_opened net.now) (N.has_failed net.now) N.Wire.told)
+    ensures { GoesOnBy (λ log. AreNewTexts (agents_by (N.has_opened net.now) (N.has_failed net.now)
+        N.Wire.told)
         (source_in ground.now) log result)
         (H.log host.old) (H.log host.new) }
 {
@@ -171,7 +174,8 @@ fn put_texts<N: Opens, H: Host>(
     net: &N,
     ground: &Ground<'_, '_>,
 ) -> Result<(), Failure>
-    ensures { GoesOnBy (λ log. ArePutTexts (agents_by (N.has_opened net.now) (N.has_failed net.now) N.Wire.told)
+    ensures { GoesOnBy (λ log. ArePutTexts (agents_by (N.has_opened net.now) (N.has_failed net.now)
+        N.Wire.told)
         (source_in ground.now) log result)
         (H.log host.old) (H.log host.new) }
 {
@@ -197,7 +201,8 @@ fn print_whole<N: Opens, H: Host>(
     net: &N,
     ground: &Ground<'_, '_>,
 ) -> Result<(), Failure>
-    ensures { GoesOnBy (λ log. IsWhole (agents_by (N.has_opened net.now) (N.has_failed net.now) N.Wire.told)
+    ensures { GoesOnBy (λ log. IsWhole (agents_by (N.has_opened net.now) (N.has_failed net.now)
+        N.Wire.told)
         (source_in ground.now) log result)
         (H.log host.old) (H.log host.new) }
 {
@@ -234,7 +239,8 @@ fn print_appended<N: Opens, H: Host>(
     addition: Addition<'_, '_>,
     asked: Asked<'_>,
 ) -> Result<(), Failure>
-    ensures { GoesOnBy (λ log. AreLongerSettings (agents_by (N.has_opened net.now) (N.has_failed net.now) N.Wire.told)
+    ensures { GoesOnBy (λ log. AreLongerSettings (agents_by (N.has_opened net.now)
+        (N.has_failed net.now) N.Wire.told)
         addition.entry.words.now asked.entry addition.entry.path.now log result)
         (H.log host.old) (H.log host.new) }
 {
@@ -314,8 +320,8 @@ impl<'m, 'a> Ground<'m, 'a> {
     }
 }
 
-/// The texts that options lend, next to those of the arguments: where a station and its peers are, and
-/// its file.
+/// The texts that options lend, next to those of the arguments: where a station and its peers are,
+/// and its file.
 struct Texts {
     listen: String,
     file: String,
@@ -438,8 +444,8 @@ fn options_of<'p>(words: &SettingsArgs<'_, '_>, percent: u8, lent: Lent<'p>) -> 
     }
 }
 
-/// The settings of a station that polls all counters, or those of a group, by which its ports and the
-/// name of its file are counted up, by targets of this size.
+/// The settings of a station that polls all counters, or those of a group, by which its ports and
+/// the name of its file are counted up, by targets of this size.
 pub(crate) fn settings_of(
     alloc: Global,
     ground: &Ground<'_, '_>,
@@ -532,7 +538,8 @@ pub(crate) fn updated(
     news: News<'_>,
     size: TargetSize,
 ) -> Result<Drafted, Failure>
-    ensures { IsUpdatedOf (source_in ground.now) news.entry.existing.now news.entry.known.now size result }
+    ensures { IsUpdatedOf (source_in ground.now) news.entry.existing.now news.entry.known.now size
+        result }
 {
     let texts = texts_of(alloc, ground.words, 0)?;
     updated_by(alloc, ground, news, size, &texts)
@@ -547,7 +554,8 @@ fn updated_by(
     texts: &Texts,
 ) -> Result<Drafted, Failure>
     requires { AreTexts ground.now.words.now 0 texts.now }
-    ensures { IsUpdatedOf (source_in ground.now) news.entry.existing.now news.entry.known.now size result }
+    ensures { IsUpdatedOf (source_in ground.now) news.entry.existing.now news.entry.known.now size
+        result }
 {
     let words = ground.words;
     let lent = lend(words.address, words.community, words.modules, texts, size);
@@ -563,7 +571,8 @@ fn updated_on(
     options: &Options<'_>,
 ) -> Result<Drafted, Failure>
     requires { options.now.percent ≤ 100 }
-    ensures { IsUpdatedOn (source_in ground.now) news.entry.existing.now news.entry.known.now options.now result }
+    ensures { IsUpdatedOn (source_in ground.now) news.entry.existing.now news.entry.known.now
+        options.now result }
 {
     match update(
         alloc,

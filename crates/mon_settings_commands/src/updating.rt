@@ -40,7 +40,8 @@ pub(crate) struct Old<'e> {
     labels: &'e str,
 }
 
-/// Prints settings that are there with the agent's interfaces as they are now, and says what changed.
+/// Prints settings that are there with the agent's interfaces as they are now, and says what
+/// changed.
 pub(crate) fn print_updated<N: Opens, H: Host>(
     alloc: Global,
     host: &mut H,
@@ -48,7 +49,8 @@ pub(crate) fn print_updated<N: Opens, H: Host>(
     addition: Addition<'_, '_>,
     asked: Asked<'_>,
 ) -> Result<(), Failure>
-    ensures { GoesOnBy (λ log. AreUpdatedSettings (agents_by (N.has_opened net.now) (N.has_failed net.now) N.Wire.told)
+    ensures { GoesOnBy (λ log. AreUpdatedSettings (agents_by (N.has_opened net.now)
+        (N.has_failed net.now) N.Wire.told)
         addition.entry.words.now asked.entry addition.entry.path.now log result)
         (H.log host.old) (H.log host.new) }
 {
@@ -79,7 +81,8 @@ fn write_updated<N: Opens, H: Host>(
     ground: &Ground<'_, '_>,
     old: Old<'_>,
 ) -> Result<(), Failure>
-    ensures { GoesOnBy (λ log. IsUpdatedBy (agents_by (N.has_opened net.now) (N.has_failed net.now) N.Wire.told)
+    ensures { GoesOnBy (λ log. IsUpdatedBy (agents_by (N.has_opened net.now) (N.has_failed net.now)
+        N.Wire.told)
         (source_in ground.now) old.entry.existing.now old.entry.labels.now log result)
         (H.log host.old) (H.log host.new) }
 {
@@ -155,8 +158,8 @@ fn lines_of(
     Ok(lines)
 }
 
-/// Prints settings with the agent's interfaces as they are now, and says what changed and for how many
-/// interfaces there is no threshold.
+/// Prints settings with the agent's interfaces as they are now, and says what changed and for how
+/// many interfaces there is no threshold.
 fn print_changed<H: Host>(
     alloc: Global,
     host: &mut H,
@@ -164,7 +167,9 @@ fn print_changed<H: Host>(
     update: Update<'_>,
     drafted: &Drafted,
 ) -> Result<(), Failure>
-    ensures { GoesOnBy (λ log. IsChanged (source_in ground.now) update.entry.old.existing.now update.entry.known.now update.entry.old.labels.now update.entry.lines.now drafted.now log result)
+    ensures { GoesOnBy (λ log. IsChanged (source_in ground.now) update.entry.old.existing.now
+        update.entry.known.now update.entry.old.labels.now update.entry.lines.now drafted.now log
+        result)
         (H.log host.old) (H.log host.new) }
 {
     put_updated(alloc, host, ground, update, drafted)?;
@@ -180,7 +185,9 @@ fn put_updated<H: Host>(
     update: Update<'_>,
     drafted: &Drafted,
 ) -> Result<(), Failure>
-    ensures { GoesOnBy (λ log. IsPutUpdated (source_in ground.now) update.entry.old.existing.now update.entry.known.now update.entry.old.labels.now update.entry.lines.now drafted.now log result)
+    ensures { GoesOnBy (λ log. IsPutUpdated (source_in ground.now) update.entry.old.existing.now
+        update.entry.known.now update.entry.old.labels.now update.entry.lines.now drafted.now log
+        result)
         (H.log host.old) (H.log host.new) }
 {
     write_relabelled(alloc, host, ground, update.old, update.known)?;
@@ -191,7 +198,8 @@ fn put_updated<H: Host>(
 
 /// Says each line.
 fn note_lines<H: Host>(host: &mut H, lines: &[String])
-    ensures { GoesOnBy (AreLinesNoted (map string_bytes lines.now)) (H.log host.old) (H.log host.new) }
+    ensures { GoesOnBy (AreLinesNoted (map string_bytes lines.now)) (H.log host.old)
+        (H.log host.new) }
 {
     let [first, rest @ ..] = lines else {
         return;
@@ -208,7 +216,8 @@ fn write_relabelled<H: Host>(
     old: Old<'_>,
     known: &[Known],
 ) -> Result<(), Failure>
-    ensures { GoesOnBy (λ log. AreRelabelled (source_in ground.now) old.entry.existing.now known.now old.entry.labels.now log result)
+    ensures { GoesOnBy (λ log. AreRelabelled (source_in ground.now) old.entry.existing.now known.now
+        old.entry.labels.now log result)
         (H.log host.old) (H.log host.new) }
 {
     match ground.words.labels {
@@ -235,7 +244,8 @@ fn write_relabelled_file<H: Host>(
     ground: &Ground<'_, '_>,
     file: LabelsFile<'_>,
 ) -> Result<(), Failure>
-    ensures { GoesOnBy (λ log. AreRelabelledAt (source_in ground.now) file.entry.old.existing.now file.entry.known.now file.entry.path.now file.entry.old.labels.now log result)
+    ensures { GoesOnBy (λ log. AreRelabelledAt (source_in ground.now) file.entry.old.existing.now
+        file.entry.known.now file.entry.path.now file.entry.old.labels.now log result)
         (H.log host.old) (H.log host.new) }
 {
     let text = relabelled_text(alloc, ground, file)?;
@@ -248,7 +258,8 @@ fn relabelled_text(
     ground: &Ground<'_, '_>,
     file: LabelsFile<'_>,
 ) -> Result<String, Failure>
-    ensures { IsRelabelledText (source_in ground.now) file.entry.old.existing.now file.entry.known.now file.entry.path.now file.entry.old.labels.now result }
+    ensures { IsRelabelledText (source_in ground.now) file.entry.old.existing.now
+        file.entry.known.now file.entry.path.now file.entry.old.labels.now result }
 {
     let instances = file.old.existing.station.core.watch().instances();
     match relabel(

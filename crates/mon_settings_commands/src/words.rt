@@ -14,16 +14,19 @@ use mon_survey::{Kinds, Peer};
 use mon_udp::Addr;
 use std::alloc::{AllocError, Global};
 
-/// Appends the address that a text writes, with its port counted up. What writes none is appended as
-/// it is, and the settings are refused for it.
+/// Appends the address that a text writes, with its port counted up. What writes none is appended
+/// as it is, and the settings are refused for it.
 pub(crate) fn put_address(
     alloc: Global,
     place: &mut String,
     text: &str,
     up: u32,
 ) -> Result<(), Failure>
-    ensures kept { addr_of text.now ≡ None → OnOk result (string_bytes place.new ≡ string_bytes place.old ++ text.now) }
-    ensures moved { (a : Addr) → addr_of text.now ≡ Some a → OnOk result ((a.port + up < 65536) × (string_bytes place.new ≡ string_bytes place.old ++ addr_text (moved_up up a))) }
+    ensures kept { addr_of text.now ≡ None → OnOk result (string_bytes place.new
+        ≡ string_bytes place.old ++ text.now) }
+    ensures moved { (a : Addr) → addr_of text.now ≡ Some a → OnOk result
+        ((a.port + up < 65536) × (string_bytes place.new ≡ string_bytes place.old
+        ++ addr_text (moved_up up a))) }
     ensures refused { IfErr result IsOfOptions }
     ensures cause { IfErr result (λ failure. IsMemory failure ⊎ IsUncounted up text.now failure) }
 {
@@ -38,7 +41,8 @@ pub(crate) fn put_address(
 
 /// Returns an address with its port counted up, if there is such a port.
 fn moved_up(address: Addr, up: u32) -> Option<Addr>
-    ensures moved { IfSome result (λ moved. (address.port + up < 65536) × (moved ≡ moved_up up address)) }
+    ensures moved { IfSome result (λ moved. (address.port + up < 65536)
+        × (moved ≡ moved_up up address)) }
     ensures none { IfNone result (65536 ≤ address.port + up) }
 {
     let Addr { octets, port } = address;
@@ -51,7 +55,8 @@ fn moved_up(address: Addr, up: u32) -> Option<Addr>
 /// Appends the name of a file, with its number from the second on.
 #[tactic(auto, unfolding(crate::specs::Named::file_name))]
 pub(crate) fn put_file(place: &mut String, file: &str, up: u32) -> Result<(), AllocError>
-    ensures { up + 1 < 2 ^ 32 → OnOk result (string_bytes place.new ≡ string_bytes place.old ++ file_name file.now up) }
+    ensures { up + 1 < 2 ^ 32 → OnOk result (string_bytes place.new
+        ≡ string_bytes place.old ++ file_name file.now up) }
 {
     if up == 0 {
         return place.push_str(file);
@@ -99,7 +104,8 @@ fn kinds_in(alloc: Global, text: &str) -> Result<Kinds, Failure>
 
 /// Adds the kind of counters that a word names. Returns `false` if it names none.
 fn add_kind(kinds: &mut Kinds, word: &str) -> bool
-    ensures named { result ≡ true → (kind : Kind) × (word.now ≡ kind_word kind) × (kinds.new ≡ with_kind kind kinds.old) }
+    ensures named { result ≡ true → (kind : Kind) × (word.now ≡ kind_word kind)
+        × (kinds.new ≡ with_kind kind kinds.old) }
     ensures unknown { result ≡ false → (kind : Kind) → word.now ≢ kind_word kind }
 {
     match word {
@@ -112,7 +118,8 @@ fn add_kind(kinds: &mut Kinds, word: &str) -> bool
     true
 }
 
-/// Returns the percentage that an option gives, with a percent sign or without; 0 if it is left out.
+/// Returns the percentage that an option gives, with a percent sign or without; 0 if it is left
+/// out.
 pub(crate) fn percent_of(alloc: Global, text: Option<&str>) -> Result<u8, Failure>
     ensures given { IfOk result (GivesPercentage (option_copied text.entry)) }
     ensures refused { IfErr result (IsNoPercentage (option_copied text.entry)) }
@@ -172,7 +179,8 @@ pub(crate) fn put_peers(
     words: &[&str],
     up: u32,
 ) -> Result<(), Failure>
-    ensures put { OnOk result ((more : List Peer) × (peers.new.items ≡ peers.old.items ++ more) × ArePeers up (map (λ text. text.now) words.now) more) }
+    ensures put { OnOk result ((more : List Peer) × (peers.new.items ≡ peers.old.items ++ more)
+        × ArePeers up (map (λ text. text.now) words.now) more) }
     ensures refused { IfErr result IsOfOptions }
 {
     for word in words {
@@ -183,7 +191,8 @@ pub(crate) fn put_peers(
 
 /// Appends the peer that a text names, with its port counted up.
 fn put_peer(alloc: Global, peers: &mut Vec<Peer>, word: &str, up: u32) -> Result<(), Failure>
-    ensures put { OnOk result ((peer : Peer) × (peers.new.items ≡ peers.old.items ++ peer ∷ []) × IsPeer up word.now peer) }
+    ensures put { OnOk result ((peer : Peer) × (peers.new.items ≡ peers.old.items ++ peer ∷ [])
+        × IsPeer up word.now peer) }
     ensures refused { IfErr result IsOfOptions }
     ensures cause { IfErr result (λ failure. IsMemory failure ⊎ IsUntakenPeer up word.now failure) }
 {

@@ -1,7 +1,9 @@
 -- The faults of names.
 use Rattle.std.specs.Prelude.{ℕ, List, codes}
 use Rattle.mon_smi.specs.declared.fault.NamesFault.{NamesFault}
-use Rattle.mon_smi.specs.declared.fault.NamesFault.TheVariants.{OutOfMemory, Duplicate, Formless, Unknown, Cycle, TooDeep, BadIdentifier}
+use Rattle.mon_smi.specs.declared.fault.NamesFault.TheVariants.{OutOfMemory, Duplicate, Formless}
+use Rattle.mon_smi.specs.declared.fault.NamesFault.TheVariants.{Unknown, Cycle, TooDeep}
+use Rattle.mon_smi.specs.declared.fault.NamesFault.TheVariants.{BadIdentifier}
 
 -- the number of a fault
 abbrev pub number_of_names : NamesFault → ℕ

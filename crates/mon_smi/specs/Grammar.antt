@@ -1,8 +1,10 @@
 -- The grammar of modules, by cases on their tokens (RFC 2578 sections 3 and 7, RFC 2579 section 3).
-use Rattle.std.specs.Prelude.{◌⊎◌, ◌≡◌, ◌≢◌, ℕ, suc, ◌+◌, ◌-◌, ◌*◌, ◌<◌, ◌≤◌, ◌^◌, List, [], ◌∷◌, ◌++◌, length, IsTrue, Option, Some, None, option_to_list, codes}
+use Rattle.std.specs.Prelude.{◌⊎◌, ◌≡◌, ◌≢◌, ℕ, suc, ◌+◌, ◌-◌, ◌*◌, ◌<◌, ◌≤◌, ◌^◌, List, [], ◌∷◌}
+use Rattle.std.specs.Prelude.{◌++◌, length, IsTrue, Option, Some, None, option_to_list, codes}
 use Rattle.std.specs.List.{flat_map}
 use Rattle.mon_smi.specs.declared.kind.TokenKind.{TokenKind}
-use Rattle.mon_smi.specs.declared.kind.TokenKind.TheVariants.{Quoted, Assign, LeftBrace, RightBrace, LeftParen, RightParen, Semicolon}
+use Rattle.mon_smi.specs.declared.kind.TokenKind.TheVariants.{Quoted, Assign, LeftBrace, RightBrace}
+use Rattle.mon_smi.specs.declared.kind.TokenKind.TheVariants.{LeftParen, RightParen, Semicolon}
 use Rattle.mon_smi.specs.declared.part.Part.{Part}
 use Rattle.mon_smi.specs.declared.part.Part.TheVariants.{Syntax, Text, Access, Status, Word, Group}
 use Rattle.mon_smi.specs.declared.token.Token.{Token}
@@ -40,18 +42,21 @@ IsNested left right depth (l ∷ ls) =
 
 -- a balanced group between these two marks
 abbrev pub IsBalanced : TokenKind → TokenKind → List Lexeme → Type 0
-IsBalanced left right ls = (inner : List Lexeme) × (ls ≡ mark left ∷ inner ++ mark right ∷ []) × IsNested left right 0 inner
+IsBalanced left right ls = (inner : List Lexeme) × (ls ≡ mark left ∷ inner ++ mark right ∷ [])
+    × IsNested left right 0 inner
 
 -- the name of a type: two words, SEQUENCE OF a name, or one word with a capital letter first
 abbrev pub IsTypeName : List Lexeme → Type 0
 IsTypeName ls = (ls ≡ word (codes "OCTET") ∷ word (codes "STRING") ∷ [])
     ⊎ ((ls ≡ word (codes "OBJECT") ∷ word (codes "IDENTIFIER") ∷ [])
-    ⊎ (((name : List ℕ) × (ls ≡ word (codes "SEQUENCE") ∷ word (codes "OF") ∷ word name ∷ []) × IsTrue (begins_capital name))
+    ⊎ (((name : List ℕ) × (ls ≡ word (codes "SEQUENCE") ∷ word (codes "OF") ∷ word name ∷ [])
+    × IsTrue (begins_capital name))
     ⊎ ((name : List ℕ) × (ls ≡ word name ∷ []) × IsTrue (begins_capital name))))
 
 -- nothing, or a group in braces or in parentheses
 abbrev pub IsMaybeGroup : List Lexeme → Type 0
-IsMaybeGroup ls = (ls ≡ []) ⊎ (IsBalanced LeftBrace RightBrace ls ⊎ IsBalanced LeftParen RightParen ls)
+IsMaybeGroup ls = (ls ≡ []) ⊎ (IsBalanced LeftBrace RightBrace ls
+    ⊎ IsBalanced LeftParen RightParen ls)
 
 -- a type's name, and at most one group after it
 abbrev pub IsType : List Lexeme → Type 0
@@ -59,7 +64,8 @@ IsType = IsTypeName ▸ IsMaybeGroup
 
 -- the keywords of MAX-ACCESS (RFC 2578 section 7.3)
 abbrev pub accesses : List (List ℕ)
-accesses = codes "not-accessible" ∷ codes "accessible-for-notify" ∷ codes "read-only" ∷ codes "read-write" ∷ codes "read-create" ∷ []
+accesses = codes "not-accessible" ∷ codes "accessible-for-notify" ∷ codes "read-only"
+    ∷ codes "read-write" ∷ codes "read-create" ∷ []
 
 -- the keywords of STATUS (RFC 2578 section 7.4)
 abbrev pub statuses : List (List ℕ)
@@ -88,11 +94,13 @@ IsIndex ls = IsClause (codes "AUGMENTS") Group ls ⊎ IsOptional (codes "INDEX")
 
 -- the type and the access of an object
 abbrev pub IsSyntax : List Lexeme → Type 0
-IsSyntax = IsClause (codes "SYNTAX") Syntax ▸ (IsOptional (codes "UNITS") Text ▸ IsClause (codes "MAX-ACCESS") Access)
+IsSyntax = IsClause (codes "SYNTAX") Syntax ▸ (IsOptional (codes "UNITS") Text ▸ IsClause
+    (codes "MAX-ACCESS") Access)
 
 -- the status, which is of this form, and the texts of a definition
 abbrev pub IsDescribed : Part → List Lexeme → Type 0
-IsDescribed status = IsClause (codes "STATUS") status ▸ (IsClause (codes "DESCRIPTION") Text ▸ IsOptional (codes "REFERENCE") Text)
+IsDescribed status = IsClause (codes "STATUS") status ▸ (IsClause (codes "DESCRIPTION") Text ▸
+    IsOptional (codes "REFERENCE") Text)
 
 -- the clauses of an OBJECT-TYPE
 abbrev pub IsObjectType : List Lexeme → Type 0
@@ -100,7 +108,8 @@ IsObjectType = IsSyntax ▸ (IsDescribed Status ▸ (IsIndex ▸ IsOptional (cod
 
 -- the clauses of a TEXTUAL-CONVENTION; its status is any word
 abbrev pub IsConvention : List Lexeme → Type 0
-IsConvention = IsOptional (codes "DISPLAY-HINT") Text ▸ (IsDescribed Word ▸ IsClause (codes "SYNTAX") Syntax)
+IsConvention = IsOptional (codes "DISPLAY-HINT") Text ▸ (IsDescribed Word ▸ IsClause
+    (codes "SYNTAX") Syntax)
 
 -- the number that digits after another one give
 abbrev pub spelled_from : ℕ → List ℕ → ℕ
@@ -122,18 +131,23 @@ abbrev pub Are : {X : Type 0} → (List Lexeme → X → Type 0) → List Lexeme
 Are Is ls [] = ls ≡ []
 Are Is ls (x ∷ xs) = (front back : List Lexeme) × (ls ≡ front ++ back) × Is front x × Are Is back xs
 
--- a first component that is a word, or none; and then the sub-identifiers, so that there are two components at least
+-- a first component that is a word, or none; and then the sub-identifiers, so that there are two
+-- components at least
 abbrev pub AreParts : Option (List ℕ) → List Lexeme → List ℕ → Type 0
 AreParts None ls numbers = (2 ≤ length numbers) × Are IsComponent ls numbers
-AreParts (Some w) ls numbers = (others : List Lexeme) × (ls ≡ word w ∷ others) × (1 ≤ length numbers) × Are IsComponent others numbers
+AreParts (Some w) ls numbers = (others : List Lexeme) × (ls ≡ word w ∷ others)
+    × (1 ≤ length numbers) × Are IsComponent others numbers
 
 -- an identifier's value: its components in braces
 abbrev pub IsValue : Option (List ℕ) → List ℕ → List Lexeme → Type 0
-IsValue parent numbers ls = (inner : List Lexeme) × (ls ≡ mark LeftBrace ∷ inner ++ mark RightBrace ∷ []) × AreParts parent inner numbers
+IsValue parent numbers ls = (inner : List Lexeme) × (ls ≡ mark LeftBrace ∷ inner ++ mark RightBrace
+    ∷ []) × AreParts parent inner numbers
 
 -- macros whose clauses are passed over
 abbrev pub macros : List (List ℕ)
-macros = codes "MODULE-IDENTITY" ∷ codes "OBJECT-IDENTITY" ∷ codes "NOTIFICATION-TYPE" ∷ codes "OBJECT-GROUP" ∷ codes "NOTIFICATION-GROUP" ∷ codes "MODULE-COMPLIANCE" ∷ codes "AGENT-CAPABILITIES" ∷ []
+macros = codes "MODULE-IDENTITY" ∷ codes "OBJECT-IDENTITY" ∷ codes "NOTIFICATION-TYPE"
+    ∷ codes "OBJECT-GROUP" ∷ codes "NOTIFICATION-GROUP" ∷ codes "MODULE-COMPLIANCE"
+    ∷ codes "AGENT-CAPABILITIES" ∷ []
 
 -- what comes between a value's name and its ::=
 abbrev pub IsHead : List Lexeme → Type 0
@@ -143,12 +157,14 @@ IsHead ls = (ls ≡ word (codes "OBJECT") ∷ word (codes "IDENTIFIER") ∷ [])
 
 -- a value's name, and its assignment
 abbrev pub IsValueAssignment : List Lexeme → Definition → Type 0
-IsValueAssignment ls d = (rest : List Lexeme) × (ls ≡ word d.name ∷ rest) × IsTrue (begins_small d.name)
+IsValueAssignment ls d = (rest : List Lexeme) × (ls ≡ word d.name ∷ rest)
+    × IsTrue (begins_small d.name)
     × (IsHead ▸ (IsThis (mark Assign) ▸ IsValue d.parent d.numbers)) rest
 
 -- a type's name, and its assignment
 abbrev pub IsTypeAssignment : List Lexeme → Type 0
-IsTypeAssignment ls = (name : List ℕ) × (body : List Lexeme) × (ls ≡ word name ∷ mark Assign ∷ body) × IsTrue (begins_capital name)
+IsTypeAssignment ls = (name : List ℕ) × (body : List Lexeme) × (ls ≡ word name ∷ mark Assign ∷ body)
+    × IsTrue (begins_capital name)
     × ((IsThis (word (codes "TEXTUAL-CONVENTION")) ▸ IsConvention) body ⊎ IsType body)
 
 -- an assignment, which defines a value, or a type
@@ -159,14 +175,16 @@ IsAssignment ls (Some d) = IsValueAssignment ls d
 -- IMPORTS and all tokens to the next semicolon, or nothing where another word comes next
 abbrev pub AreImports : List Lexeme → List Lexeme → Type 0
 AreImports ls rest = ((ls ≡ []) × ((more : List Lexeme) → rest ≢ word (codes "IMPORTS") ∷ more))
-    ⊎ ((names : List Lexeme) × (ls ≡ word (codes "IMPORTS") ∷ names ++ mark Semicolon ∷ []) × IsFree Semicolon names)
+    ⊎ ((names : List Lexeme) × (ls ≡ word (codes "IMPORTS") ∷ names ++ mark Semicolon ∷ [])
+    × IsFree Semicolon names)
 
 -- the lexemes are a module of this name, whose value assignments are these in order
 pub record IsModule (ls : List Lexeme) (name : List ℕ) (defs : List Definition) : Type 0 where
   pub imports : List Lexeme
   pub body : List Lexeme
   pub assignments : List (Option Definition)
-  pub whole : ls ≡ word name ∷ word (codes "DEFINITIONS") ∷ mark Assign ∷ word (codes "BEGIN") ∷ imports ++ (body ++ word (codes "END") ∷ [])
+  pub whole : ls ≡ word name ∷ word (codes "DEFINITIONS") ∷ mark Assign ∷ word (codes "BEGIN")
+      ∷ imports ++ (body ++ word (codes "END") ∷ [])
   pub is_capital : IsTrue (begins_capital name)
   pub are_imports : AreImports imports (body ++ word (codes "END") ∷ [])
   pub are_assignments : Are IsAssignment body assignments

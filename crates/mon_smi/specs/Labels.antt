@@ -1,5 +1,6 @@
 -- The name of an identifier, as a function: there is one text that `IsNameOf` allows.
-use Rattle.std.specs.Prelude.{◌≡◌, ℕ, zero, suc, List, ◌++◌, length, drop, take, Bool, false, Option, Some, None, if◌then◌else◌}
+use Rattle.std.specs.Prelude.{◌≡◌, ℕ, zero, suc, List, ◌++◌, length, drop, take, Bool, false}
+use Rattle.std.specs.Prelude.{Option, Some, None, if◌then◌else◌}
 use Rattle.std.specs.Option.{option_map, option_map_or}
 use Rattle.std.specs.List.{fold}
 use Rattle.std.specs.Ordering.{nat_cmp, is_le}
@@ -32,7 +33,8 @@ lesser best w = if is_known best w then best else Some w
 
 -- the least of these definitions' names that mean the numbers
 abbrev pub label_among : List Definition → List Definition → List ℕ → Option (List ℕ)
-label_among defs seen q = fold (λ best d. if is_name_for defs q d then lesser best d.name else best) None seen
+label_among defs seen q = fold (λ best d. if is_name_for defs q d then lesser best d.name else best)
+    None seen
 
 -- the least of the names that mean the numbers
 abbrev pub label_of : List Definition → List ℕ → Option (List ℕ)
@@ -43,7 +45,8 @@ label_of defs q = label_among defs defs q
 abbrev pub longest : (List ℕ → Option (List ℕ)) → List ℕ → ℕ → Option (List ℕ × ℕ)
 longest label oid zero = None
 longest label oid (suc zero) = None
-longest label oid (suc (suc n)) = option_map_or (λ w. Some (w, suc (suc n))) (label (take (suc (suc n)) oid)) (longest label oid (suc n))
+longest label oid (suc (suc n)) = option_map_or (λ w. Some (w, suc (suc n)))
+    (label (take (suc (suc n)) oid)) (longest label oid (suc n))
 
 -- an identifier whose nearest name this is, or that has none
 abbrev pub named_by : List ℕ → Option (List ℕ × ℕ) → List ℕ
@@ -63,9 +66,14 @@ abbrev pub AreLabels : List Definition → List Definition → BTreeMap (Vec ℕ
 AreLabels defs seen labels = (q : List ℕ) → IsOid q → found_at labels q ≡ label_among defs seen q
 
 -- the map has the lesser of its label and the name for these numbers, and for others what it had
-abbrev pub IsPut : List ℕ → List ℕ → BTreeMap (Vec ℕ) (Bor (List ℕ)) → BTreeMap (Vec ℕ) (Bor (List ℕ)) → Type 0
-IsPut p w old new = (q : List ℕ) → found_at new q ≡ (if bytes_eq p q then lesser (found_at old q) w else found_at old q)
+abbrev pub IsPut : List ℕ → List ℕ → BTreeMap (Vec ℕ) (Bor (List ℕ))
+    → BTreeMap (Vec ℕ) (Bor (List ℕ)) → Type 0
+IsPut p w old new = (q : List ℕ) → found_at new q ≡ (if bytes_eq p q then lesser (found_at old q) w
+    else found_at old q)
 
--- the map has the lesser of its label and the name for the identifier that the name means, and for others what it had
-abbrev pub IsAdded : List Definition → List ℕ → BTreeMap (Vec ℕ) (Bor (List ℕ)) → BTreeMap (Vec ℕ) (Bor (List ℕ)) → Type 0
-IsAdded defs w old new = (q : List ℕ) → IsOid q → found_at new q ≡ (if is_meant defs q w then lesser (found_at old q) w else found_at old q)
+-- the map has the lesser of its label and the name for the identifier that the name means, and for
+-- others what it had
+abbrev pub IsAdded : List Definition → List ℕ → BTreeMap (Vec ℕ) (Bor (List ℕ))
+    → BTreeMap (Vec ℕ) (Bor (List ℕ)) → Type 0
+IsAdded defs w old new = (q : List ℕ) → IsOid q → found_at new q
+    ≡ (if is_meant defs q w then lesser (found_at old q) w else found_at old q)

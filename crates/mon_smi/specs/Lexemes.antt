@@ -1,8 +1,27 @@
 -- What the grammar of modules sees of a token.
-use Rattle.std.specs.Prelude.{ℕ, ◌-◌, ◌≤◌, List, [], ◌∷◌, length, take, drop, map, Bool, true, false, ◌&&◌, ◌==◌, Option, Some, None, slice_index}
+use Rattle.std.specs.Prelude.{ℕ, ◌-◌, ◌≤◌, List, [], ◌∷◌, length, take, drop, map, Bool, true}
+use Rattle.std.specs.Prelude.{false, ◌&&◌, ◌==◌, Option, Some, None, slice_index}
 use Rattle.std.specs.Char.{is_ascii_lowercase, is_ascii_uppercase}
 use Rattle.mon_smi.specs.declared.kind.TokenKind.{TokenKind}
-use Rattle.mon_smi.specs.declared.kind.TokenKind.TheVariants.{Word, Number, Quoted, Hex, Binary, Assign, Range, LeftBrace, RightBrace, LeftParen, RightParen, LeftBracket, RightBracket, Comma, Semicolon, Dot, Bar}
+use Rattle.mon_smi.specs.declared.kind.TokenKind.TheVariants.{
+  Word,
+  Number,
+  Quoted,
+  Hex,
+  Binary,
+  Assign,
+  Range,
+  LeftBrace,
+  RightBrace,
+  LeftParen,
+  RightParen,
+  LeftBracket,
+  RightBracket,
+  Comma,
+  Semicolon,
+  Dot,
+  Bar,
+}
 use Rattle.mon_smi.specs.declared.token.Token.{Token}
 use Rattle.mon_smi.specs.Tokens.{IsSpelled}
 
@@ -102,7 +121,8 @@ digits_of (word w) = None
 digits_of (number d) = Some d
 digits_of (mark k) = None
 
--- a value's name begins with a small letter, a type's and a module's with a capital (RFC 2578 section 3.1)
+-- a value's name begins with a small letter, a type's and a module's with a capital (RFC 2578
+-- section 3.1)
 abbrev pub begins_small : List ℕ → Bool
 begins_small w = is_ascii_lowercase (slice_index w 0)
 

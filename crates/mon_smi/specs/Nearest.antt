@@ -18,7 +18,8 @@ IsAsNear w n other m = (m < n) ⊎ ((m ≡ n) × (slice_cmp nat_cmp w other ≢ 
 
 -- the nearest of the names that cover the identifier
 abbrev pub IsNearest : List Definition → List ℕ → List ℕ → ℕ → Type 0
-IsNearest defs oid w n = Covers defs oid w n × ((other : List ℕ) (m : ℕ) → Covers defs oid other m → IsAsNear w n other m)
+IsNearest defs oid w n = Covers defs oid w n × ((other : List ℕ) (m : ℕ) → Covers defs oid other m
+    → IsAsNear w n other m)
 
 -- no word covers the identifier
 abbrev pub IsNameless : List Definition → List ℕ → Type 0
@@ -30,5 +31,6 @@ dotted_after parts = flat_map (λ part. 46 ∷ decimal part) parts
 
 -- how the identifier is written: the nearest name and the rest with dots, or all of it with dots
 abbrev pub IsNameOf : List Definition → List ℕ → List ℕ → Type 0
-IsNameOf defs oid text = ((w : List ℕ) × (n : ℕ) × IsNearest defs oid w n × (text ≡ w ++ dotted_after (drop n oid)))
+IsNameOf defs oid text = ((w : List ℕ) × (n : ℕ) × IsNearest defs oid w n
+    × (text ≡ w ++ dotted_after (drop n oid)))
     ⊎ (IsNameless defs oid × (text ≡ dotted oid))

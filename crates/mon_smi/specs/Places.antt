@@ -10,4 +10,5 @@ AreFound places defs = (i : ℕ) (d : Definition) → IsAt defs i d → get_by_t
 
 -- this definition is at this place, and an earlier one has its name
 abbrev pub IsAgain : List Definition → ℕ → Definition → Type 0
-IsAgain defs i d = IsAt defs i d × ((j : ℕ) × (e : Definition) × (j < i) × IsAt defs j e × (e.name ≡ d.name))
+IsAgain defs i d = IsAt defs i d × ((j : ℕ) × (e : Definition) × (j < i) × IsAt defs j e
+    × (e.name ≡ d.name))

@@ -9,7 +9,8 @@ first_position = record { line = 1; column = 1 }
 
 -- the octet after this one: a line feed ends its line
 abbrev pub position_after : Position → ℕ → Position
-position_after p octet = if octet == 10 then record { line = p.line + 1; column = 1 } else record { line = p.line; column = p.column + 1 }
+position_after p octet = if octet == 10 then record { line = p.line + 1; column = 1 }
+    else record { line = p.line; column = p.column + 1 }
 
 -- the place after these octets
 abbrev pub position_behind : List ℕ → Position

@@ -1,15 +1,50 @@
 -- Reading a module's tokens from the left.
 use Rattle.std.specs.Char.{is_ascii_digit}
-use Rattle.std.specs.Prelude.{◌≡◌, ℕ, zero, suc, ◌+◌, ◌-◌, ◌*◌, ◌^◌, List, [], ◌∷◌, ◌++◌, length, drop, option_to_list, Bool, false, not, ◌&&◌, ◌||◌, ◌==◌, nat_le, nat_lt, if◌then◌else◌, Option, Some, None, option_map, Result, Ok, Err, codes}
+use Rattle.std.specs.Prelude.{
+  ◌≡◌,
+  ℕ,
+  zero,
+  suc,
+  ◌+◌,
+  ◌-◌,
+  ◌*◌,
+  ◌^◌,
+  List,
+  [],
+  ◌∷◌,
+  ◌++◌,
+  length,
+  drop,
+  option_to_list,
+  Bool,
+  false,
+  not,
+  ◌&&◌,
+  ◌||◌,
+  ◌==◌,
+  nat_le,
+  nat_lt,
+  if◌then◌else◌,
+  Option,
+  Some,
+  None,
+  option_map,
+  Result,
+  Ok,
+  Err,
+  codes,
+}
 use Rattle.mon_oid.specs.Steps.{◌>>=◌}
 use Rattle.mon_smi.specs.declared.read_fault.ReadFault.{ReadFault}
 use Rattle.mon_smi.specs.declared.read_fault.ReadFault.TheVariants.{OutOfMemory, BrokenOff}
 use Rattle.mon_smi.specs.declared.kind.TokenKind.{TokenKind}
-use Rattle.mon_smi.specs.declared.kind.TokenKind.TheVariants.{Quoted, Assign, LeftBrace, RightBrace, LeftParen, RightParen, Semicolon}
+use Rattle.mon_smi.specs.declared.kind.TokenKind.TheVariants.{Quoted, Assign, LeftBrace, RightBrace}
+use Rattle.mon_smi.specs.declared.kind.TokenKind.TheVariants.{LeftParen, RightParen, Semicolon}
 use Rattle.mon_smi.specs.declared.definition.Definition.{Definition}
 use Rattle.mon_smi.specs.declared.part.Part.{Part}
 use Rattle.mon_smi.specs.declared.part.Part.TheVariants.{Syntax, Text, Access, Status, Word, Group}
-use Rattle.mon_smi.specs.Lexemes.{Lexeme, is_word, is_mark, word_of, digits_of, begins_small, begins_capital, is_capital, is_any_word}
+use Rattle.mon_smi.specs.Lexemes.{Lexeme, is_word, is_mark, word_of, digits_of, begins_small}
+use Rattle.mon_smi.specs.Lexemes.{begins_capital, is_capital, is_any_word}
 
 -- what reading gives: something, or the tokens that were left where it broke off
 abbrev pub Read : Type 0 → Type 0
@@ -65,7 +100,8 @@ abbrev pub nested_at : TokenKind → TokenKind → ℕ → List Lexeme → Read 
 nested_at left right depth [] = Err []
 nested_at left right depth (l ∷ ls) =
     if is_mark left l then nested_at left right (suc depth) ls else
-    (if is_mark right l then (if depth == 0 then Ok ls else nested_at left right (depth - 1) ls) else nested_at left right depth ls)
+    (if is_mark right l then (if depth == 0 then Ok ls else nested_at left right (depth - 1) ls)
+    else nested_at left right depth ls)
 
 -- a balanced group, and what follows it
 unfoldable pub group_at : TokenKind → TokenKind → List Lexeme → Read (List Lexeme)
@@ -84,7 +120,8 @@ abbrev pub is_sequence_of : List Lexeme → Bool
 is_sequence_of [] = false
 is_sequence_of (a ∷ []) = false
 is_sequence_of (a ∷ b ∷ []) = false
-is_sequence_of (a ∷ b ∷ c ∷ ls) = is_word (codes "SEQUENCE") a && (is_word (codes "OF") b && is_capital c)
+is_sequence_of (a ∷ b ∷ c ∷ ls) = is_word (codes "SEQUENCE") a
+    && (is_word (codes "OF") b && is_capital c)
 
 -- a type's name, and what follows it
 unfoldable pub type_name_at : List Lexeme → Read (List Lexeme)
@@ -109,11 +146,14 @@ type_at ls = do
 
 -- a word of MAX-ACCESS
 abbrev pub is_access : Lexeme → Bool
-is_access l = is_word (codes "not-accessible") l || (is_word (codes "accessible-for-notify") l || (is_word (codes "read-only") l || (is_word (codes "read-write") l || is_word (codes "read-create") l)))
+is_access l = is_word (codes "not-accessible") l || (is_word (codes "accessible-for-notify") l
+    || (is_word (codes "read-only") l || (is_word (codes "read-write") l
+    || is_word (codes "read-create") l)))
 
 -- a word of STATUS
 abbrev pub is_status : Lexeme → Bool
-is_status l = is_word (codes "current") l || (is_word (codes "deprecated") l || is_word (codes "obsolete") l)
+is_status l = is_word (codes "current") l || (is_word (codes "deprecated") l
+    || is_word (codes "obsolete") l)
 
 -- reads what follows the keyword of a clause
 unfoldable pub part_at : Part → List Lexeme → Read (List Lexeme)
@@ -136,7 +176,8 @@ optional_at keyword part ls = if begins_word keyword ls then clause_at keyword p
 
 -- AUGMENTS or INDEX with its group, if one of them comes next
 unfoldable pub index_at : List Lexeme → Read (List Lexeme)
-index_at ls = if begins_word (codes "AUGMENTS") ls then clause_at (codes "AUGMENTS") Group ls else optional_at (codes "INDEX") Group ls
+index_at ls = if begins_word (codes "AUGMENTS") ls then clause_at (codes "AUGMENTS") Group ls
+    else optional_at (codes "INDEX") Group ls
 
 -- the type, the units and the access of an object
 unfoldable pub syntax_at : List Lexeme → Read (List Lexeme)
@@ -170,14 +211,16 @@ convention_at ls = do
 -- ---- one after the other
 
 -- what reads one of them reads all up to where it stops, each giving what it emits
-unfoldable pub many : {X A : Type 0} → (List Lexeme → Read (X × List Lexeme)) → (X → List A) → (List Lexeme → Bool) → ℕ → List Lexeme → Read (List A × List Lexeme)
+unfoldable pub many : {X A : Type 0} → (List Lexeme → Read (X × List Lexeme)) → (X → List A)
+    → (List Lexeme → Bool) → ℕ → List Lexeme → Read (List A × List Lexeme)
 many read emit stop zero ls = if stop ls then Ok ([], ls) else Err ls
 many read emit stop (suc room) ls =
     if stop ls then Ok ([], ls) else
     (read ls >>= λ x. many read emit stop room x.1 >>= λ ys. Ok (emit x.0 ++ ys.0, ys.1))
 
 -- what was read before, and what is still read
-abbrev pub with_front : {A : Type 0} → List A → Read (List A × List Lexeme) → Read (List A × List Lexeme)
+abbrev pub with_front : {A : Type 0} → List A → Read (List A × List Lexeme)
+    → Read (List A × List Lexeme)
 with_front front read = read >>= λ ys. Ok (front ++ ys.0, ys.1)
 
 -- ---- values
@@ -186,7 +229,8 @@ with_front front read = read >>= λ ys. Ok (front ++ ys.0, ys.1)
 abbrev pub number_from : ℕ → List ℕ → Option ℕ
 number_from n [] = Some n
 number_from n (b ∷ bs) =
-    if is_ascii_digit b then (if nat_lt (10 * n + (b - 48)) (2 ^ 32) then number_from (10 * n + (b - 48)) bs else None) else None
+    if is_ascii_digit b then (if nat_lt (10 * n + (b - 48)) (2 ^ 32)
+    then number_from (10 * n + (b - 48)) bs else None) else None
 
 -- a number below 2^32 in decimal digits
 abbrev pub number_of : List ℕ → Option ℕ
@@ -215,7 +259,11 @@ component_at ls = elim (name_at ls) [ Some x ↦ in_parens_at x.1 | None ↦ sub
 
 -- a word with no number of its own
 abbrev pub parent_at : List Lexeme → Option (List ℕ) × List Lexeme
-parent_at ls = elim (name_at ls) [ Some x ↦ if begins LeftParen x.1 then (None, ls) else (Some x.0, x.1) | None ↦ (None, ls) ]
+parent_at ls = elim (name_at ls) [
+  | Some x ↦ if begins LeftParen x.1 then (None, ls)
+      else (Some x.0, x.1)
+  | None ↦ (None, ls)
+]
 
 -- after a parent one number at least, and else two
 abbrev pub enough : Option (List ℕ) → List ℕ → Bool
@@ -235,14 +283,17 @@ unfoldable pub value_at : List Lexeme → Read ((Option (List ℕ) × List ℕ) 
 value_at ls = do
   inner ← mark_at LeftBrace ls
   numbers ← numbers_at (parent_at inner).1
-  if enough (parent_at inner).0 numbers.0 then (mark_at RightBrace numbers.1 >>= λ rest. Ok (((parent_at inner).0, numbers.0), rest)) else Err numbers.1
+  if enough (parent_at inner).0 numbers.0 then (mark_at RightBrace numbers.1 >>= λ rest. Ok
+      (((parent_at inner).0, numbers.0), rest)) else Err numbers.1
 
 -- ---- assignments
 
 -- the keyword of a macro that is read over to its value
 abbrev pub is_macro : Lexeme → Bool
-is_macro l = is_word (codes "MODULE-IDENTITY") l || (is_word (codes "OBJECT-IDENTITY") l || (is_word (codes "NOTIFICATION-TYPE") l || (is_word (codes "OBJECT-GROUP") l
-    || (is_word (codes "NOTIFICATION-GROUP") l || (is_word (codes "MODULE-COMPLIANCE") l || is_word (codes "AGENT-CAPABILITIES") l)))))
+is_macro l = is_word (codes "MODULE-IDENTITY") l || (is_word (codes "OBJECT-IDENTITY") l
+    || (is_word (codes "NOTIFICATION-TYPE") l || (is_word (codes "OBJECT-GROUP") l
+    || (is_word (codes "NOTIFICATION-GROUP") l || (is_word (codes "MODULE-COMPLIANCE") l
+    || is_word (codes "AGENT-CAPABILITIES") l)))))
 
 -- all up to this mark
 abbrev pub up_to : TokenKind → List Lexeme → Read (List Lexeme)
@@ -269,7 +320,8 @@ macro_at ls = do
 
 -- reads what comes between a value's name and its value
 unfoldable pub head_at : List Lexeme → Read (List Lexeme)
-head_at ls = if begins_word (codes "OBJECT") ls then identifier_at ls else (if begins_word (codes "OBJECT-TYPE") ls then object_at ls else macro_at ls)
+head_at ls = if begins_word (codes "OBJECT") ls then identifier_at ls
+    else (if begins_word (codes "OBJECT-TYPE") ls then object_at ls else macro_at ls)
 
 -- a value's assignment after its name
 unfoldable pub definition_at : List ℕ → List Lexeme → Read (Definition × List Lexeme)
@@ -283,7 +335,8 @@ definition_at name ls = do
 abbrev pub is_convention : List Lexeme → Bool
 is_convention [] = false
 is_convention (a ∷ []) = false
-is_convention (a ∷ b ∷ ls) = is_word (codes "TEXTUAL-CONVENTION") a && ((is_word (codes "DISPLAY-HINT") b || is_word (codes "STATUS") b) && not (begins Assign ls))
+is_convention (a ∷ b ∷ ls) = is_word (codes "TEXTUAL-CONVENTION") a
+    && ((is_word (codes "DISPLAY-HINT") b || is_word (codes "STATUS") b) && not (begins Assign ls))
 
 -- TEXTUAL-CONVENTION with its clauses
 unfoldable pub textual_at : List Lexeme → Read (List Lexeme)
@@ -305,8 +358,10 @@ assigned d = (Some d.0, d.1)
 abbrev pub passed_over : List Lexeme → Option Definition × List Lexeme
 passed_over rest = (None, rest)
 
--- what a name is assigned, with which these tokens begin: a small letter first is a value, a capital one a type
-unfoldable pub assignment_of : List ℕ → List Lexeme → List Lexeme → Read (Option Definition × List Lexeme)
+-- what a name is assigned, with which these tokens begin: a small letter first is a value, a
+-- capital one a type
+unfoldable pub assignment_of : List ℕ → List Lexeme → List Lexeme
+    → Read (Option Definition × List Lexeme)
 assignment_of name whole ls =
     if begins_small name then (definition_at name ls >>= λ d. Ok (assigned d)) else
     (if begins_capital name then (type_body_at ls >>= λ rest. Ok (passed_over rest)) else Err whole)

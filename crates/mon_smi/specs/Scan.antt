@@ -1,10 +1,29 @@
 -- What is at the front of a text, as a function of the text.
-use Rattle.std.specs.Prelude.{ℕ, suc, ◌+◌, List, [], ◌∷◌, slice_index, drop, Bool, ◌||◌, ◌&&◌, ◌==◌, if◌then◌else◌, Option, Some, None}
+use Rattle.std.specs.Prelude.{ℕ, suc, ◌+◌, List, [], ◌∷◌, slice_index, drop, Bool, ◌||◌, ◌&&◌, ◌==◌}
+use Rattle.std.specs.Prelude.{if◌then◌else◌, Option, Some, None}
 use Rattle.std.specs.Char.{is_ascii_alphabetic, is_ascii_digit, is_ascii_hexdigit}
 use Rattle.mon_smi.specs.Words.{is_part}
 use Rattle.mon_smi.specs.Tokens.{is_space, is_hyphen, is_bit}
 use Rattle.mon_smi.specs.declared.kind.TokenKind.{TokenKind}
-use Rattle.mon_smi.specs.declared.kind.TokenKind.TheVariants.{Word, Number, Quoted, Hex, Binary, Assign, Range, LeftBrace, RightBrace, LeftParen, RightParen, LeftBracket, RightBracket, Comma, Semicolon, Dot, Bar}
+use Rattle.mon_smi.specs.declared.kind.TokenKind.TheVariants.{
+  Word,
+  Number,
+  Quoted,
+  Hex,
+  Binary,
+  Assign,
+  Range,
+  LeftBrace,
+  RightBrace,
+  LeftParen,
+  RightParen,
+  LeftBracket,
+  RightBracket,
+  Comma,
+  Semicolon,
+  Dot,
+  Bar,
+}
 use Rattle.mon_smi.specs.declared.scan.Run.{Run}
 use Rattle.mon_smi.specs.declared.scan.Run.TheVariants as run
 use Rattle.mon_smi.specs.declared.token.Piece.{Piece}
@@ -23,7 +42,8 @@ run_at test (b ∷ bs) = if test b then suc (run_at test bs) else 0
 
 -- a word goes on with the first byte
 abbrev pub goes_on : List ℕ → Bool
-goes_on text = is_part (slice_index text 0) || (slice_index text 0 == 45 && is_part (slice_index text 1))
+goes_on text = is_part (slice_index text 0) || (slice_index text 0 == 45
+    && is_part (slice_index text 1))
 
 -- how many bytes at the front a word goes on
 abbrev pub word_at : List ℕ → ℕ
@@ -35,13 +55,15 @@ abbrev pub closes_at : List ℕ → Option ℕ
 closes_at [] = None
 closes_at (b ∷ []) = if b == 34 then Some 1 else None
 closes_at (b ∷ c ∷ bs) =
-    if b == 34 then (if c == 34 then Some (elim (closes_at bs) [ Some n ↦ suc (suc n) | None ↦ 1 ]) else Some 1) else
+    if b == 34 then (if c == 34 then Some (elim (closes_at bs) [ Some n ↦ suc (suc n) | None ↦ 1 ])
+    else Some 1) else
     (elim (closes_at (c ∷ bs)) [ Some n ↦ Some (suc n) | None ↦ None ])
 
 -- how many bytes a comment has up to its closing hyphens or the end of the line
 abbrev pub remark_at : List ℕ → ℕ
 remark_at [] = 0
-remark_at (b ∷ bs) = if b == 10 || (b == 45 && slice_index bs 0 == 45) then 0 else suc (remark_at bs)
+remark_at (b ∷ bs) = if b == 10 || (b == 45 && slice_index bs 0 == 45) then 0
+    else suc (remark_at bs)
 
 -- a token of this kind and length
 abbrev pub token : TokenKind → ℕ → Option Piece
@@ -66,7 +88,8 @@ signed n = if n == 0 then None else token Number (suc n)
 -- after a hyphen a comment or a number goes on
 abbrev pub hyphen_at : List ℕ → Option Piece
 hyphen_at text =
-    if slice_index text 0 == 45 then passed (suc (comment_at text)) else signed (run_at is_ascii_digit text)
+    if slice_index text 0 == 45 then passed (suc (comment_at text))
+    else signed (run_at is_ascii_digit text)
 
 -- a quoted string, if it is closed
 abbrev pub quoted_at : List ℕ → Option Piece
@@ -79,16 +102,19 @@ closed_bits digits bits (b ∷ []) = None
 closed_bits digits bits (b ∷ letter ∷ rest) =
     if b == 39 then
     (if letter == 104 || letter == 72 then token Hex (suc (suc (suc digits))) else
-    (if (letter == 98 || letter == 66) && bits == digits then token Binary (suc (suc (suc digits))) else None))
+    (if (letter == 98 || letter == 66) && bits == digits then token Binary (suc (suc (suc digits)))
+    else None))
     else None
 
 -- hex or binary digits between single quotes
 abbrev pub quoted_bits_at : List ℕ → Option Piece
-quoted_bits_at text = closed_bits (run_at is_ascii_hexdigit text) (run_at is_bit text) (drop (run_at is_ascii_hexdigit text) text)
+quoted_bits_at text = closed_bits (run_at is_ascii_hexdigit text) (run_at is_bit text)
+    (drop (run_at is_ascii_hexdigit text) text)
 
 -- the mark of an assignment
 abbrev pub assign_at : List ℕ → Option Piece
-assign_at text = if slice_index text 0 == 58 && slice_index text 1 == 61 then token Assign 3 else None
+assign_at text = if slice_index text 0 == 58 && slice_index text 1 == 61 then token Assign 3
+    else None
 
 -- a range, or one dot
 abbrev pub dot_at : List ℕ → Option Piece

@@ -1,7 +1,8 @@
 -- The faults of texts.
 use Rattle.std.specs.Prelude.{ℕ, List, codes}
 use Rattle.mon_smi.specs.declared.text_fault.TextFault.{TextFault}
-use Rattle.mon_smi.specs.declared.text_fault.TextFault.TheVariants.{OutOfMemory, Unclosed, Unexpected, Duplicate}
+use Rattle.mon_smi.specs.declared.text_fault.TextFault.TheVariants.{OutOfMemory, Unclosed}
+use Rattle.mon_smi.specs.declared.text_fault.TextFault.TheVariants.{Unexpected, Duplicate}
 
 -- the number of a fault
 abbrev pub number_of_text : TextFault → ℕ

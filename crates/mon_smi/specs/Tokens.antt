@@ -1,15 +1,36 @@
 -- What a text is cut into: the words, numbers, strings and marks of ASN.1 (ITU-T X.208 section 8),
 -- as RFC 2578 section 3 uses them.
-use Rattle.std.specs.Prelude.{◌⊎◌, ◌≡◌, ◌≢◌, ℕ, suc, ◌+◌, ◌<◌, ◌≤◌, List, [], ◌∷◌, ◌++◌, length, slice_index, take, drop, Bool, ◌||◌, ◌&&◌, ◌==◌, nat_le, nat_lt, IsTrue, if◌then◌else◌, Option, Some, None, codes}
+use Rattle.std.specs.Prelude.{◌⊎◌, ◌≡◌, ◌≢◌, ℕ, suc, ◌+◌, ◌<◌, ◌≤◌, List, [], ◌∷◌, ◌++◌, length}
+use Rattle.std.specs.Prelude.{slice_index, take, drop, Bool, ◌||◌, ◌&&◌, ◌==◌, nat_le, nat_lt}
+use Rattle.std.specs.Prelude.{IsTrue, if◌then◌else◌, Option, Some, None, codes}
 use Rattle.std.specs.List.{flat_map}
 use Rattle.std.specs.Char.{is_ascii_digit, is_ascii_hexdigit}
 use Rattle.mon_smi.specs.Words.{IsWord}
 use Rattle.mon_smi.specs.declared.kind.TokenKind.{TokenKind}
-use Rattle.mon_smi.specs.declared.kind.TokenKind.TheVariants.{Word, Number, Quoted, Hex, Binary, Assign, Range, LeftBrace, RightBrace, LeftParen, RightParen, LeftBracket, RightBracket, Comma, Semicolon, Dot, Bar}
+use Rattle.mon_smi.specs.declared.kind.TokenKind.TheVariants.{
+  Word,
+  Number,
+  Quoted,
+  Hex,
+  Binary,
+  Assign,
+  Range,
+  LeftBrace,
+  RightBrace,
+  LeftParen,
+  RightParen,
+  LeftBracket,
+  RightBracket,
+  Comma,
+  Semicolon,
+  Dot,
+  Bar,
+}
 use Rattle.mon_smi.specs.declared.token.Token.{Token}
 use Rattle.mon_smi.specs.declared.token.Piece.{Piece}
 use Rattle.mon_smi.specs.declared.text_fault.TextFault.{TextFault}
-use Rattle.mon_smi.specs.declared.text_fault.TextFault.TheVariants.{OutOfMemory, Unclosed, Unexpected, Duplicate}
+use Rattle.mon_smi.specs.declared.text_fault.TextFault.TheVariants.{OutOfMemory, Unclosed}
+use Rattle.mon_smi.specs.declared.text_fault.TextFault.TheVariants.{Unexpected, Duplicate}
 
 -- every byte passes the test
 abbrev pub AreAll : (ℕ → Bool) → List ℕ → Type 0
@@ -62,11 +83,13 @@ IsSpelled Semicolon text = text ≡ codes ";"
 IsSpelled Dot text = text ≡ codes "."
 IsSpelled Bar text = text ≡ codes "|"
 
--- the first n bytes are a token of this kind, and no more bytes of the front are a token of any kind
+-- the first n bytes are a token of this kind, and no more bytes of the front are a token of any
+-- kind
 pub record IsLongestToken (kind : TokenKind) (n : ℕ) (text : List ℕ) : Type 0 where
   pub within : n ≤ length text
   pub spelled : IsSpelled kind (take n text)
-  pub longest : (other : TokenKind) (m : ℕ) → m ≤ length text → IsSpelled other (take m text) → m ≤ n
+  pub longest : (other : TokenKind) (m : ℕ) → m ≤ length text → IsSpelled other (take m text)
+      → m ≤ n
 
 -- blank, tab, LF, VT, FF or CR
 abbrev pub is_space : ℕ → Bool
@@ -95,8 +118,8 @@ abbrev pub EndsLine : List ℕ → Type 0
 EndsLine [] = Unit {0}
 EndsLine (b ∷ bs) = b ≡ 10
 
--- a comment, and what follows it: it opens at two hyphens with all hyphens directly after them, and closes
--- at the next two with theirs, or at the end of the line
+-- a comment, and what follows it: it opens at two hyphens with all hyphens directly after them, and
+-- closes at the next two with theirs, or at the end of the line
 pub record IsComment (comment rest : List ℕ) : Type 0 where
   pub opening : List ℕ
   pub remark : List ℕ
@@ -110,7 +133,8 @@ pub record IsComment (comment rest : List ℕ) : Type 0 where
 -- one space, or a whole comment
 abbrev pub IsPassed : ℕ → List ℕ → Type 0
 IsPassed n text = (n ≤ length text)
-    × (((b : ℕ) × (take n text ≡ b ∷ []) × IsTrue (is_space b)) ⊎ IsComment (take n text) (drop n text))
+    × (((b : ℕ) × (take n text ≡ b ∷ []) × IsTrue (is_space b))
+    ⊎ IsComment (take n text) (drop n text))
 
 -- the longest token of this kind, or with no kind space or a comment, has this many bytes
 abbrev pub IsPieceOf : Option TokenKind → ℕ → List ℕ → Type 0
@@ -138,7 +162,11 @@ bytes_of (p ∷ ps) = p.len + bytes_of ps
 -- a piece that begins at this place is a token, or none
 abbrev pub token_of : ℕ → ℕ → Option TokenKind → List Token
 token_of start len None = []
-token_of start len (Some kind) = record { kind = kind; span = record { start = start; end = start + len } } ∷ []
+token_of start len (Some kind) = record {
+  kind = kind;
+  span = record
+      { start = start; end = start + len };
+} ∷ []
 
 -- the tokens among pieces that begin at this place
 abbrev pub tokens_of : ℕ → List Piece → List Token
@@ -147,7 +175,8 @@ tokens_of start (p ∷ ps) = token_of start p.len p.kind ++ tokens_of (start + p
 
 -- these are the tokens of the text, read from the left to its end
 abbrev pub AreTokens : List ℕ → List Token → Type 0
-AreTokens text tokens = (pieces : List Piece) × IsTokenized pieces text [] × (tokens ≡ tokens_of 0 pieces)
+AreTokens text tokens = (pieces : List Piece) × IsTokenized pieces text []
+    × (tokens ≡ tokens_of 0 pieces)
 
 -- tokens have a byte at least, and each one begins where the one before it ends, or later
 abbrev pub RisesFrom : ℕ → List Token → Type 0
@@ -156,7 +185,8 @@ RisesFrom at (t ∷ ts) = (at ≤ t.span.start) × (t.span.start < t.span.end) �
 
 -- read from the left the text comes to this place, and no piece is there
 abbrev pub IsStuck : List ℕ → ℕ → List ℕ → Type 0
-IsStuck text at rest = (pieces : List Piece) × IsTokenized pieces text rest × (bytes_of pieces ≡ at) × NothingStands rest
+IsStuck text at rest = (pieces : List Piece) × IsTokenized pieces text rest × (bytes_of pieces ≡ at)
+    × NothingStands rest
 
 -- how many bytes at the front go on with a character (RFC 3629 section 3)
 abbrev pub continued : List ℕ → ℕ
@@ -173,13 +203,16 @@ char_len (b ∷ bs) = suc (continued bs)
 abbrev pub IsFaultAt : TextFault → ℕ → List ℕ → Type 0
 IsFaultAt OutOfMemory at rest = ⊥
 IsFaultAt Unclosed at rest = slice_index rest 0 ≡ 34
-IsFaultAt (Unexpected span) at rest = (span.start ≡ at) × (span.end ≡ at + char_len rest) × (slice_index rest 0 ≢ 34)
+IsFaultAt (Unexpected span) at rest = (span.start ≡ at) × (span.end ≡ at + char_len rest)
+    × (slice_index rest 0 ≢ 34)
 IsFaultAt (Duplicate span) at rest = ⊥
 
 -- why a text has no tokens: it comes to a place where no piece is, which is in a string that isn't
 -- closed, or another one
 abbrev pub IsFaultOfTokens : TextFault → List ℕ → Type 0
 IsFaultOfTokens OutOfMemory text = Unit {0}
-IsFaultOfTokens Unclosed text = (at : ℕ) × (rest : List ℕ) × IsStuck text at rest × (slice_index rest 0 ≡ 34)
-IsFaultOfTokens (Unexpected span) text = (rest : List ℕ) × IsStuck text span.start rest × (span.end ≡ span.start + char_len rest) × (slice_index rest 0 ≢ 34)
+IsFaultOfTokens Unclosed text = (at : ℕ) × (rest : List ℕ) × IsStuck text at rest
+    × (slice_index rest 0 ≡ 34)
+IsFaultOfTokens (Unexpected span) text = (rest : List ℕ) × IsStuck text span.start rest
+    × (span.end ≡ span.start + char_len rest) × (slice_index rest 0 ≢ 34)
 IsFaultOfTokens (Duplicate span) text = ⊥

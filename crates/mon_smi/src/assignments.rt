@@ -165,7 +165,8 @@ fn type_body_at<'a, 's>(ls: &'a [Lexeme<'s>]) -> Result<&'a [Lexeme<'s>], ReadFa
     type_at(rest)
 }
 
-/// An assignment of this name, with which the whole begins: a value's, or a type's, which is passed over.
+/// An assignment of this name, with which the whole begins: a value's, or a type's, which is passed
+/// over.
 #[tactic(auto, unfolding(crate::specs::Reading::assignment_of))]
 fn assignment_of<'a, 's>(
     alloc: Global,

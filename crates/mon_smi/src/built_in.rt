@@ -6,7 +6,8 @@ use crate::numbers::Numbers;
 use crate::word::Word;
 use std::alloc::{AllocError, Global};
 
-/// `iso` of ASN.1, and the names of the module SNMPv2-SMI (RFC 2578 section 2), with all of their numbers.
+/// `iso` of ASN.1, and the names of the module SNMPv2-SMI (RFC 2578 section 2), with all of their
+/// numbers.
 const BUILT_IN: [(&str, &[u32]); 17] = [
     ("iso", &[1]),
     ("org", &[1, 3]),

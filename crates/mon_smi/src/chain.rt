@@ -20,7 +20,8 @@ fn chain<'a>(
     word: &'a str,
 ) -> Result<Vec<&'a Definition>, NamesFault>
     requires { AreFound places.now defs.now }
-    ensures found { IfOk result (λ v. Leads defs.now (Some word.now) (map (λ d. d.now) v.items) None) }
+    ensures found { IfOk result (λ v. Leads defs.now (Some word.now) (map (λ d. d.now) v.items)
+        None) }
     ensures fault { IfErr result (λ e. IsFaultOfWord e defs.now word.now) }
 {
     let mut passed = BTreeSet::new(alloc);
@@ -77,8 +78,10 @@ fn join_parents(
     mut chain: Vec<&Definition>,
     rest: &[u32],
 ) -> Result<Vec<u32>, NamesFault>
-    ensures found { IfOk result (λ v. (v.items ≡ chain_numbers (map (λ d. d.now) chain.entry.items) ++ rest.now) × (length v.items ≤ 128)) }
-    ensures fault { IfErr result (λ e. IsFaultOfJoining e (chain_numbers (map (λ d. d.now) chain.entry.items) ++ rest.now)) }
+    ensures found { IfOk result (λ v. (v.items ≡ chain_numbers (map (λ d. d.now) chain.entry.items)
+        ++ rest.now) × (length v.items ≤ 128)) }
+    ensures fault { IfErr result (λ e. IsFaultOfJoining e (chain_numbers
+        (map (λ d. d.now) chain.entry.items) ++ rest.now)) }
 {
     if rest.len() > 128 {
         return Err(NamesFault::TooDeep);
@@ -105,7 +108,8 @@ pub(crate) fn identifier_of(
     rest: &[u32],
 ) -> Result<Oid, NamesFault>
     requires { AreFound places.now defs.now }
-    ensures found { IfOk result (λ oid. IsOid oid × ((known : List ℕ) × StandsFor defs.now word.now known × (oid ≡ known ++ rest.now))) }
+    ensures found { IfOk result (λ oid. IsOid oid × ((known : List ℕ)
+        × StandsFor defs.now word.now known × (oid ≡ known ++ rest.now))) }
     ensures fault { IfErr result (λ e. IsFaultOfName e defs.now word.now rest.now) }
 {
     let parents = chain(alloc, places, defs, word)?;

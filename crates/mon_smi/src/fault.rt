@@ -36,8 +36,8 @@ pub enum NamesFault {
 pub struct Clash {
     /// The index of the definition in its module, from 0.
     pub added: usize,
-    /// The index of the earlier definition, from 0, in the known ones with those of the module after
-    /// them. From the number of the known ones on it is in the module too.
+    /// The index of the earlier definition, from 0, in the known ones with those of the module
+    /// after them. From the number of the known ones on it is in the module too.
     pub earlier: usize,
 }
 

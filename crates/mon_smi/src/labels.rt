@@ -19,7 +19,8 @@ use std::alloc::{AllocError, Global};
 use std::collections::BTreeMap;
 use std::marker::Model;
 
-/// The names of identifiers, in an order that finds them fast. Contracts see the definitions of the names.
+/// The names of identifiers, in an order that finds them fast. Contracts see the definitions of the
+/// names.
 #[derive(Drop)]
 pub struct Labels<'a> {
     defs: &'a [Definition],
@@ -37,7 +38,8 @@ impl<'a> Model for Labels<'a> {
 
     ghost view = { λ l. l.defs.now };
 
-    ghost invariant = { λ l. AreDistinct l.defs.now × AreLabels l.defs.now l.defs.now l.by_identifier };
+    ghost invariant = { λ l. AreDistinct l.defs.now × AreLabels l.defs.now l.defs.now
+        l.by_identifier };
 }
 
 impl<'a> Labels<'a> {
@@ -71,7 +73,8 @@ impl<'a> Labels<'a> {
     }
 
     /// The name with the longest identifier that the other one begins with (of equal ones the least
-    /// by bytes) and the rest with dots, as `ifInOctets.1`. Without such a name all of it with dots.
+    /// by bytes) and the rest with dots, as `ifInOctets.1`. Without such a name all of it with
+    /// dots.
     pub fn name_of(&self, alloc: Global, oid: &Oid) -> Result<String, AllocError>
         ensures name { IfOk result (λ text. IsNameOf self.now oid.now (string_bytes text)) }
         ensures text { IfOk result (λ text. string_bytes text ≡ name_text self.now oid.now) }
@@ -83,7 +86,8 @@ impl<'a> Labels<'a> {
 
     /// Adds the name, as `name_of` gives it, to the text.
     fn put_name(&self, text: &mut String, oid: &Oid) -> Result<(), AllocError>
-        ensures text { OnOk result (string_bytes text.new ≡ string_bytes text.old ++ name_text self.now oid.now) }
+        ensures text { OnOk result (string_bytes text.new ≡ string_bytes text.old
+            ++ name_text self.now oid.now) }
         ensures name { IsNameOf self.now oid.now (name_text self.now oid.now) }
     {
         laws::one_text();
@@ -100,7 +104,8 @@ impl<'a> Labels<'a> {
     /// The name of the longest beginning that has one, with its length.
     fn nearest(&self, parts: &[u32]) -> Option<(&'a str, usize)>
         requires { IsOid parts.now }
-        ensures longest { option_map (λ b. (b.0.now, b.1)) result ≡ longest (label_of self.now) parts.now (length parts.now) }
+        ensures longest { option_map (λ b. (b.0.now, b.1)) result
+            ≡ longest (label_of self.now) parts.now (length parts.now) }
         ensures within { IfSome result (λ b. b.1 ≤ length parts.now) }
         ensures distinct { AreDistinct self.now }
     {
@@ -124,8 +129,10 @@ fn identify(
 ) -> Result<Option<Oid>, AllocError>
     requires distinct { AreDistinct defs.now }
     requires found { AreFound places.now defs.now }
-    ensures found { IfOk result (λ oid. IfSome oid (λ q. IsOid q × (numbers_of defs.now name.now ≡ Some q))) }
-    ensures none { IfOk result (λ oid. IfNone oid ((q : List ℕ) → IsOid q → numbers_of defs.now name.now ≡ Some q → ⊥)) }
+    ensures found { IfOk result (λ oid. IfSome oid (λ q. IsOid q
+        × (numbers_of defs.now name.now ≡ Some q))) }
+    ensures none { IfOk result (λ oid. IfNone oid ((q : List ℕ) → IsOid q
+        → numbers_of defs.now name.now ≡ Some q → ⊥)) }
 {
     match identifier_of(alloc, places, defs, name, &[]) {
         Ok(oid) => Ok(Some(oid)),
@@ -182,7 +189,8 @@ fn is_known(known: Option<&str>, name: &str) -> bool
 
 /// Adds the numbers with a dot before each.
 fn put_numbers(text: &mut String, numbers: &[u32]) -> Result<(), AllocError>
-    ensures { OnOk result (string_bytes text.new ≡ string_bytes text.old ++ dotted_after numbers.now) }
+    ensures { OnOk result (string_bytes text.new ≡ string_bytes text.old
+        ++ dotted_after numbers.now) }
 {
     for number in numbers {
         text.push('.')?;

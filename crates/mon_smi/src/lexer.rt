@@ -39,7 +39,8 @@ fn fault_at(start: usize, rest: &[u8]) -> TextFault
 /// Adds the piece's token, where it is one.
 fn keep(tokens: &mut Vec<Token>, start: usize, piece: Piece) -> Result<(), TextFault>
     requires { start + piece.len < 2 ^ 64 }
-    ensures kept { OnOk result (tokens.new.items ≡ tokens.old.items ++ token_of start piece.len piece.kind) }
+    ensures kept { OnOk result (tokens.new.items ≡ tokens.old.items
+        ++ token_of start piece.len piece.kind) }
     ensures memory { IfErr result (λ e. e ≡ OutOfMemory) }
 {
     let Some(kind) = piece.kind else {

@@ -60,8 +60,10 @@ struct Body {
 
 /// Adds a definition that begins with this many tokens left, where there is one.
 fn keep(body: &mut Body, definition: Option<Definition>, left: usize) -> Result<(), AllocError>
-    ensures kept { OnOk result (body.new.defs.items ≡ body.old.defs.items ++ option_to_list definition) }
-    ensures starts { OnOk result (body.new.starts.items ≡ body.old.starts.items ++ map (λ d. left) (option_to_list definition)) }
+    ensures kept { OnOk result (body.new.defs.items ≡ body.old.defs.items
+        ++ option_to_list definition) }
+    ensures starts { OnOk result (body.new.starts.items ≡ body.old.starts.items
+        ++ map (λ d. left) (option_to_list definition)) }
 {
     if let Some(definition) = definition {
         body.defs.push(definition)?;
@@ -133,7 +135,8 @@ fn distinct(
     tokens: &[Token],
 ) -> Result<Module, TextFault>
     requires len { length starts.now ≡ length read.defs }
-    requires within { (i : ℕ) → i < length read.defs → (0 < slice_index starts.now i) × (slice_index starts.now i ≤ length tokens.now) }
+    requires within { (i : ℕ) → i < length read.defs → (0 < slice_index starts.now i)
+        × (slice_index starts.now i ≤ length tokens.now) }
     ensures found { IfOk result (λ m. (m ≡ read) × AreDistinct m.defs) }
     ensures fault { IfErr result (λ e. IsTwice e tokens.now starts.now read.defs) }
 {
@@ -165,7 +168,8 @@ fn fault_of(tokens: &[Token], fault: ReadFault) -> TextFault
     }
 }
 
-/// A module of these tokens, how many are left where each definition begins, and where they are no module the fault of the text.
+/// A module of these tokens, how many are left where each definition begins, and where they are no
+/// module the fault of the text.
 fn read_tokens(
     alloc: Global,
     tokens: &[Token],
@@ -192,17 +196,18 @@ fn module_of(alloc: Global, text: &str) -> Result<Module, TextFault>
     distinct(alloc, read, starts.as_slice(), tokens.as_slice())
 }
 
-/// The module that a text is (RFC 2578 section 3): its name, and what its value assignments define, in
-/// order. What is imported is passed over, and so are types and all clauses but an identifier's value.
-/// `Unclosed` where the text ends inside a string or before END, `Unexpected` at a place where no token
-/// begins or another token than a module has there, `Duplicate` where a value name is defined that was
-/// defined before.
-/// The whole text is cut into tokens before the first one is read.
+/// The module that a text is (RFC 2578 section 3): its name, and what its value assignments define,
+/// in order. What is imported is passed over, and so are types and all clauses but an identifier's
+/// value. `Unclosed` where the text ends inside a string or before END, `Unexpected` at a place
+/// where no token begins or another token than a module has there, `Duplicate` where a value name
+/// is defined that was defined before. The whole text is cut into tokens before the first one is
+/// read.
 pub fn read_module(alloc: Global, text: &str) -> Result<Module, TextFault>
     // The text derives the module, whose value names are distinct.
     ensures found { IfOk result (λ m. Derives text.now m.name m.defs × AreDistinct m.defs) }
     // A text that derives distinct definitions is read, unless memory runs out.
-    ensures accepted { (name : List ℕ) (defs : List AnyDefinition) → Derives text.now name defs → AreDistinct defs → IsOkUnless result OutOfMemory }
+    ensures accepted { (name : List ℕ) (defs : List AnyDefinition) → Derives text.now name defs
+        → AreDistinct defs → IsOkUnless result OutOfMemory }
     // Duplicate is for a module with a name twice and says where it is defined again, the other
     // faults are for a text that derives no module.
     ensures fault { IfErr result (λ e. IsFaultOfModule e text.now) }

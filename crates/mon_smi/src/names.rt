@@ -20,7 +20,8 @@ use std::marker::Model;
 /// The names that are defined, which contracts see as the list of their definitions.
 pub struct Names {
     defs: Vec<Definition>,
-    // The place of each definition by its name. An add that failed may leave more, of which nothing is believed.
+    // The place of each definition by its name. An add that failed may leave more, of which nothing
+    // is believed.
     places: BTreeMap<String, usize>,
 }
 
@@ -83,7 +84,8 @@ impl Names {
         self.defs.as_slice()
     }
 
-    /// No name is defined twice. It does nothing: the clause holds of all names, and is here for whoever needs it.
+    /// No name is defined twice. It does nothing: the clause holds of all names, and is here for
+    /// whoever needs it.
     pub fn invariants(&self)
         ensures { AreDistinct self.now }
     {
@@ -93,12 +95,13 @@ impl Names {
 
     /// The identifier that a text means: numbers with dots between them, a name, or a name with
     /// numbers after it, as `ifInOctets.1`. `Formless` where the text has another form, `Unknown`
-    /// where the chain of parents ends at a name that is not defined, `Cycle` where the chain comes to
-    /// a name that it has passed, `TooDeep` above 128 sub-identifiers, `BadIdentifier` where they are
-    /// no identifier.
+    /// where the chain of parents ends at a name that is not defined, `Cycle` where the chain comes
+    /// to a name that it has passed, `TooDeep` above 128 sub-identifiers, `BadIdentifier` where
+    /// they are no identifier.
     pub fn resolve(&self, alloc: Global, text: &str) -> Result<Oid, NamesFault>
         ensures found { IfOk result (λ oid. IsOid oid × MeansNumbers self.now text.now oid) }
-        ensures accepted { (q : List ℕ) → MeansNumbers self.now text.now q → IsOid q → IsOkUnless result NamesFault.OutOfMemory }
+        ensures accepted { (q : List ℕ) → MeansNumbers self.now text.now q → IsOid q
+            → IsOkUnless result NamesFault.OutOfMemory }
         ensures fault { IfErr result (λ e. IsFaultOfNameText e self.now text.now) }
         // No name is defined twice.
         ensures distinct { AreDistinct self.now }
@@ -107,26 +110,29 @@ impl Names {
         resolve_in(alloc, &self.places, self.defs.as_slice(), text)
     }
 
-    /// The name that is missing where `resolve` answers `Unknown`: the one at which the chain of the
-    /// parents of the text's name ends, and which has no definition. `None` if there is no such name.
-    /// Of a text that is no name it says nothing.
+    /// The name that is missing where `resolve` answers `Unknown`: the one at which the chain of
+    /// the parents of the text's name ends, and which has no definition. `None` if there is no such
+    /// name. Of a text that is no name it says nothing.
     pub fn missing<'a>(&'a self, text: &'a str) -> Option<&'a str>
-        ensures some { IfSome result (λ p. (w rest : List ℕ) → IsNamed text.now w rest → EndsAt self.now w p.now) }
-        ensures none { IfNone result ((w rest : List ℕ) → IsNamed text.now w rest → ¬ (EndsUndefined self.now w)) }
+        ensures some { IfSome result (λ p. (w rest : List ℕ) → IsNamed text.now w rest
+            → EndsAt self.now w p.now) }
+        ensures none { IfNone result ((w rest : List ℕ) → IsNamed text.now w rest
+            → ¬ (EndsUndefined self.now w)) }
     {
         undefined_end(&self.places, self.defs.as_slice(), name_in(text))
     }
 
     /// The name with the longest identifier that the other one begins with (of equal ones the least
-    /// by bytes) and the rest with dots, as `ifInOctets.1`. Without such a name all of it with dots.
-    /// It goes over all definitions: for the names of many identifiers see `labels`.
+    /// by bytes) and the rest with dots, as `ifInOctets.1`. Without such a name all of it with
+    /// dots. It goes over all definitions: for the names of many identifiers see `labels`.
     pub fn name_of(&self, alloc: Global, oid: &Oid) -> Result<String, AllocError>
         ensures { IfOk result (λ text. IsNameOf self.now oid.now (string_bytes text)) }
     {
         self.labels(alloc)?.name_of(alloc, oid)
     }
 
-    /// The names by their identifiers. Made once, they find each name without going over all definitions.
+    /// The names by their identifiers. Made once, they find each name without going over all
+    /// definitions.
     pub fn labels(&self, alloc: Global) -> Result<Labels<'_>, AllocError>
         ensures { IfOk result (λ labels. labels ≡ self.now) }
     {

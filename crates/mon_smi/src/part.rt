@@ -1,6 +1,7 @@
 //! What follows the keyword of a clause.
 
-/// What a clause of an OBJECT-TYPE or a TEXTUAL-CONVENTION says (RFC 2578 section 7, RFC 2579 section 3).
+/// What a clause of an OBJECT-TYPE or a TEXTUAL-CONVENTION says (RFC 2578 section 7, RFC 2579
+/// section 3).
 #[derive(Clone, Copy)]
 pub(crate) enum Part {
     /// A type.

@@ -12,7 +12,8 @@ use std::collections::BTreeMap;
 
 /// The place of the first definition whose name an earlier one has.
 pub(crate) fn first_twice(alloc: Global, defs: &[Definition]) -> Result<Option<usize>, AllocError>
-    ensures some { IfOk result (λ found. IfSome found (λ i. (d : AnyDefinition) × IsAgain defs.now i d)) }
+    ensures some { IfOk result (λ found. IfSome found (λ i. (d : AnyDefinition)
+        × IsAgain defs.now i d)) }
     ensures none { IfOk result (λ found. IfNone found (AreDistinct defs.now)) }
 {
     let mut places = BTreeMap::new(alloc);
@@ -24,7 +25,8 @@ pub(crate) fn first_twice(alloc: Global, defs: &[Definition]) -> Result<Option<u
     Ok(None)
 }
 
-/// The first definition whose name is known or an earlier one of these has, with the place of the earlier one.
+/// The first definition whose name is known or an earlier one of these has, with the place of the
+/// earlier one.
 pub(crate) fn first_clash(
     alloc: Global,
     places: &BTreeMap<String, usize>,
@@ -33,7 +35,8 @@ pub(crate) fn first_clash(
 ) -> Result<Option<Clash>, AllocError>
     requires distinct { AreDistinct known.now }
     requires found { AreFound places.now known.now }
-    ensures some { IfOk result (λ found. IfSome found (λ clash. IsFirstClash known.now defs.now clash)) }
+    ensures some { IfOk result (λ found. IfSome found (λ clash. IsFirstClash known.now defs.now
+        clash)) }
     ensures none { IfOk result (λ found. IfNone found (AreDistinct (known.now ++ defs.now))) }
 {
     let mut passed = BTreeMap::new(alloc);
@@ -76,7 +79,8 @@ pub(crate) fn position(
     name: &str,
 ) -> Option<usize>
     requires { AreFound places.now defs.now }
-    ensures found { IfSome result (λ i. (d : AnyDefinition) × IsAt defs.now i d × (d.name ≡ name.now)) }
+    ensures found { IfSome result (λ i. (d : AnyDefinition) × IsAt defs.now i d
+        × (d.name ≡ name.now)) }
     ensures none { IfNone result (IsUndefined defs.now name.now) }
 {
     let Some(place) = places.get(name) else {

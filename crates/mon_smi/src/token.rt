@@ -18,10 +18,12 @@ impl Span {
     /// Returns the part of the text that it spans. `None` if the text ends before the span does, if
     /// the span ends before it starts, or if it cuts a character.
     pub fn slice(self, text: &str) -> Option<&str>
-        ensures some { IfSome result (λ slice. slice.now ≡ take (self.end - self.start) (drop self.start text.now)) }
+        ensures some { IfSome result (λ slice. slice.now ≡ take (self.end - self.start)
+            (drop self.start text.now)) }
         ensures ordered { IfSome result (λ _. self.start ≤ self.end) }
         ensures within { IfSome result (λ _. self.end ≤ length text.now) }
-        ensures none { IfNone result (self.start ≤ self.end → self.end ≤ length text.now → ¬ (IsUtf8 (take (self.end - self.start) (drop self.start text.now)))) }
+        ensures none { IfNone result (self.start ≤ self.end → self.end ≤ length text.now
+            → ¬ (IsUtf8 (take (self.end - self.start) (drop self.start text.now)))) }
     {
         let octets = text.as_bytes().get(self.start..self.end)?;
         str::from_utf8(octets).ok()

@@ -104,7 +104,8 @@ fn numbers_at<'a, 's>(
     alloc: Global,
     ls: &'a [Lexeme<'s>],
 ) -> Result<(Vec<u32>, usize), ReadFault<'a, 's>>
-    ensures gives { Gives (λ x. (x.0.items, drop (length ls.now - x.1) ls.now)) result (numbers_at ls.now) }
+    ensures gives { Gives (λ x. (x.0.items, drop (length ls.now - x.1) ls.now)) result
+        (numbers_at ls.now) }
     ensures within { IfOk result (λ x. x.1 ≤ length ls.now) }
 {
     let mut numbers = Vec::new(alloc);
@@ -140,7 +141,8 @@ pub(crate) fn value_at<'a, 's>(
     alloc: Global,
     ls: &'a [Lexeme<'s>],
 ) -> Result<(Value<'a>, &'a [Lexeme<'s>]), ReadFault<'a, 's>>
-    ensures { Gives (λ x. ((option_map (λ w. w.now) x.0.parent, x.0.numbers.items), x.1.now)) result (value_at ls.now) }
+    ensures { Gives (λ x. ((option_map (λ w. w.now) x.0.parent, x.0.numbers.items), x.1.now)) result
+        (value_at ls.now) }
 {
     let inner = mark_at(TokenKind::LeftBrace, ls)?;
     let (parent, behind) = parent_at(inner);

@@ -15,7 +15,9 @@ use Rattle.mon_saved.specs.Fault as saved
 use Rattle.mon_saved.specs.declared.fault.ImageFault.{ImageFault}
 use Rattle.mon_saved.specs.declared.fault.ImageFault.TheVariants as image
 use Rattle.mon_station.specs.declared.fault.StationFault.{StationFault}
-use Rattle.mon_station.specs.declared.fault.StationFault.TheVariants.{OutOfMemory, Poll, Response, Exchange, Keeper, Image, NoMoreIncarnations}
+use Rattle.mon_station.specs.declared.fault.StationFault.TheVariants.{OutOfMemory, Poll, Response}
+use Rattle.mon_station.specs.declared.fault.StationFault.TheVariants.{Exchange, Keeper, Image}
+use Rattle.mon_station.specs.declared.fault.StationFault.TheVariants.{NoMoreIncarnations}
 
 -- the number of a fault
 abbrev pub number_of : StationFault → ℕ
@@ -49,11 +51,35 @@ told_text fault = fault.part ++ codes " " ++ decimal fault.number ++ codes " " +
 
 -- the innermost fault: the part's, where a part refused
 abbrev pub innermost_of : StationFault → Told
-innermost_of (Poll f) = record { part = codes "mon_poller"; number = poll_number f; name = poll_name f }
-innermost_of (Response f) = record { part = codes "mon_poller"; number = response_number f; name = response_name f }
-innermost_of (Exchange f) = record { part = codes "mon_exchange"; number = exchanging.number_of f; name = exchanging.name_of f }
-innermost_of (Keeper f) = record { part = codes "mon_disk"; number = disk.number_of f; name = disk.name_of f }
-innermost_of (Image f) = record { part = codes "mon_saved"; number = saved.number_of f; name = saved.name_of f }
+innermost_of (Poll f) = record {
+  part = codes "mon_poller";
+  number = poll_number f;
+  name = poll_name
+      f;
+}
+innermost_of (Response f) = record {
+  part = codes "mon_poller";
+  number = response_number f;
+  name =
+      response_name f;
+}
+innermost_of (Exchange f) = record {
+  part = codes "mon_exchange";
+  number = exchanging.number_of f;
+  name = exchanging.name_of f;
+}
+innermost_of (Keeper f) = record {
+  part = codes "mon_disk";
+  number = disk.number_of f;
+  name =
+      disk.name_of f;
+}
+innermost_of (Image f) = record {
+  part = codes "mon_saved";
+  number = saved.number_of f;
+  name =
+      saved.name_of f;
+}
 innermost_of f = record { part = codes "mon_station"; number = number_of f; name = name_of f }
 
 -- a fault of the poller as the station's: its lack of memory is the station's own

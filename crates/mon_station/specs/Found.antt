@@ -20,7 +20,8 @@ use Rattle.mon_station.specs.Saved.{IsFaultOfBody}
 abbrev pub FindsWindows : Watch → Option (List ℕ) → (ℕ → Samples) → Type 0
 FindsWindows watch None windows = (i : ℕ) → windows i ≡ set.empty
 FindsWindows watch (Some octets) windows =
-    (image : Image) × SpellsImage octets (instances_of watch.instances) image × ((i : ℕ) → windows i ≡ window watch (saved_pairs image) i)
+    (image : Image) × SpellsImage octets (instances_of watch.instances) image
+    × ((i : ℕ) → windows i ≡ window watch (saved_pairs image) i)
 
 -- a board has the watch and the windows of a body
 pub record IsBoardOf (watch : Watch) (body : Option (List ℕ)) (board : Board) : Type 0 where
@@ -32,8 +33,8 @@ abbrev pub IsFaultOfImage : Watch → Option (List ℕ) → StationFault → Typ
 IsFaultOfImage watch body fault.NoMoreIncarnations = ⊥
 IsFaultOfImage watch body other = IsFaultOfBody watch body other
 
--- Why a file has no windows: its body, or the keeper. Of the keeper's faults the disk's has its cause in the disk, Damaged is answered only where the file is damaged, and no
--- other at all.
+-- Why a file has no windows: its body, or the keeper. Of the keeper's faults the disk's has its
+-- cause in the disk, Damaged is answered only where the file is damaged, and no other at all.
 abbrev pub IsFaultOfFound : Watch → List ℕ → StationFault → Type 0
 IsFaultOfFound watch file (fault.Keeper keeper.DiskFault) = Unit {0}
 IsFaultOfFound watch file (fault.Keeper keeper.Damaged) = is_undamaged file ≡ false

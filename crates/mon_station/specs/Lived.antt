@@ -1,4 +1,5 @@
--- The states of a station over all its lives, as the clauses of `open` and `step` give them one after another.
+-- The states of a station over all its lives, as the clauses of `open` and `step` give them one
+-- after another.
 use Rattle.std.specs.Prelude.{ℕ, ◌≡◌, List, [], ◌∷◌, Option, Some, None, Result, Ok, Err, map}
 use Rattle.mon_board.specs.Board.{is_marked, window_of}
 use Rattle.mon_board.specs.Instance.{instances_of}
@@ -6,10 +7,12 @@ use Rattle.mon_board.specs.declared.instance.Instance.{Instance}
 use Rattle.mon_saved.specs.Image.{SpellsImage}
 use Rattle.mon_saved.specs.Written.{image_of}
 use Rattle.mon_station.specs.declared.fault.StationFault.{StationFault}
-use Rattle.mon_station.specs.ReadEvent.{ReadEvent, StartPoll, Timeout, FromAgent, FromPeer, Share, Save}
+use Rattle.mon_station.specs.ReadEvent.{ReadEvent, StartPoll, Timeout, FromAgent, FromPeer, Share}
+use Rattle.mon_station.specs.ReadEvent.{Save}
 use Rattle.mon_station.specs.Saved.{IsBegun, saved_octets}
 use Rattle.mon_station.specs.State.{State, IsHandled, known_of, setting_of}
-use Rattle.mon_station.specs.Taken.{Entry, Restart, Answered, Origin, Nothing, Saved, Other, at_place}
+use Rattle.mon_station.specs.Taken.{Entry, Restart, Answered, Origin, Nothing, Saved, Other}
+use Rattle.mon_station.specs.Taken.{at_place}
 use Rattle.mon_station.specs.Verdict.{Setting}
 use Rattle.mon_window.specs.Window.{In}
 
@@ -38,7 +41,8 @@ saved_states ((Answered (Share peer) answer, s) ∷ past) = saved_states past
 -- a life of this setting begins from the image of a saved state, of the same instances
 pub record IsReopened (w : Setting) (old new : State) : Type 0 where
   pub instances : instances_of w.watch.instances ≡ instances_of old.board.watch.instances
-  pub spells : SpellsImage (saved_octets old) (instances_of old.board.watch.instances) (image_of old.board old.incarnation)
+  pub spells : SpellsImage (saved_octets old) (instances_of old.board.watch.instances)
+      (image_of old.board old.incarnation)
   pub begun : IsBegun w (Some (saved_octets old)) new
 
 -- a life of this setting begins from the image of the state, if there is one
@@ -50,14 +54,16 @@ Reopens w (Some old) new = IsReopened w old new
 abbrev pub BeginsFrom : List State → Origin → Setting → State → Type 0
 BeginsFrom saved Nothing w s = IsBegun w None s
 BeginsFrom saved (Saved later) w s = Reopens w (at_place later saved) s
-BeginsFrom saved (Other image) w s = (octets : List ℕ) × SpellsImage octets (instances_of w.watch.instances) image × IsBegun w (Some octets) s
+BeginsFrom saved (Other image) w s = (octets : List ℕ) × SpellsImage octets
+    (instances_of w.watch.instances) image × IsBegun w (Some octets) s
 
 -- an event is answered in the state that there is
 abbrev pub HandledIn : Option State → ReadEvent → Option StationFault → State → Type 0
 HandledIn None e answer new = ⊥
 HandledIn (Some old) e answer new = IsHandled e answer old new
 
--- each state follows from the one before it: a life begins as `open` says, and an event is answered as `step` says
+-- each state follows from the one before it: a life begins as `open` says, and an event is answered
+-- as `step` says
 abbrev pub IsLived : List (Entry × State) → Type 0
 IsLived [] = Unit {0}
 IsLived ((Restart origin w, s) ∷ past) = BeginsFrom (saved_states past) origin w s × IsLived past
@@ -68,12 +74,15 @@ abbrev pub IsImageOf : Option State → List ℕ → List Instance → Type 0
 IsImageOf None octets instances = ⊥
 IsImageOf (Some old) octets instances =
     (saved_octets old ≡ octets) × (instances ≡ instances_of old.board.watch.instances)
-    × SpellsImage octets (instances_of old.board.watch.instances) (image_of old.board old.incarnation)
+    × SpellsImage octets (instances_of old.board.watch.instances)
+    (image_of old.board old.incarnation)
 
--- From where a life of these instances begins that found this body, after these saves: from nothing where none was found, from a save that wrote it, or from an image
+-- From where a life of these instances begins that found this body, after these saves: from nothing
+-- where none was found, from a save that wrote it, or from an image
 abbrev pub IsOrigin : List State → Option (List ℕ) → List Instance → Origin → Type 0
 IsOrigin saved None instances Nothing = Unit {0}
-IsOrigin saved (Some octets) instances (Saved later) = IsImageOf (at_place later saved) octets instances
+IsOrigin saved (Some octets) instances (Saved later) = IsImageOf (at_place later saved) octets
+    instances
 IsOrigin saved (Some octets) instances (Other image) = SpellsImage octets instances image
 IsOrigin saved body instances origin = ⊥
 
@@ -88,7 +97,8 @@ answer_in (Err fault) = Some fault
 pub record IsLeftAlone (old new : State) : Type 0 where
   pub setting : setting_of new ≡ setting_of old
   pub windows : (i : ℕ) → window_of new.board i ≡ window_of old.board i
-  pub marks : (k i s : ℕ) → In s (window_of old.board i) → is_marked new.board k i s ≡ is_marked old.board k i s
+  pub marks : (k i s : ℕ) → In s (window_of old.board i) → is_marked new.board k i s
+      ≡ is_marked old.board k i s
   pub known : (y : ℕ) → known_of new y ≡ known_of old y
   pub incarnation : new.incarnation ≡ old.incarnation
   pub serial : new.serial ≡ old.serial

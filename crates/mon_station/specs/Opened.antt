@@ -1,5 +1,5 @@
 -- What a station is opened with.
-use Rattle.mon_core.specs.StationCore.{Core}
+use Rattle.mon_config.specs.StationCore.{Core}
 use Rattle.mon_station.specs.Verdict.{Setting}
 
 -- the setting that a core is

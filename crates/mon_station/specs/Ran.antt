@@ -1,5 +1,7 @@
 -- What a run of a station did, call by call.
-use Rattle.std.specs.Prelude.{ℕ, zero, suc, ◌≡◌, ◌≤◌, ◌<◌, ◌+◌, ◌-◌, ◌^◌, ◌⊎◌, ◌||◌, Bool, true, false, List, [], ◌∷◌, ◌++◌, length, Option, Some, None, Result, Ok, Err}
+use Rattle.std.specs.Prelude.{ℕ, zero, suc, ◌≡◌, ◌≤◌, ◌<◌, ◌+◌, ◌-◌, ◌^◌, ◌⊎◌, ◌||◌, Bool, true}
+use Rattle.std.specs.Prelude.{false, List, [], ◌∷◌, ◌++◌, length, Option, Some, None, Result, Ok}
+use Rattle.std.specs.Prelude.{Err}
 use Rattle.mon_board.specs.Watch.{Watch}
 use Rattle.mon_disk.specs.declared.disk.Disk.{Ghosts}
 use Rattle.mon_disk.specs.declared.fault.KeeperFault.TheVariants as keeper
@@ -16,7 +18,8 @@ use Rattle.mon_station.specs.declared.event.TargetStamp.{TargetStamp}
 use Rattle.mon_station.specs.declared.fault.StationFault.{StationFault}
 use Rattle.mon_station.specs.declared.fault.StationFault.TheVariants as fault
 use Rattle.mon_station.specs.declared.running.Answer.{Answer}
-use Rattle.mon_station.specs.declared.running.Answer.TheVariants.{Handled, GaveUp, Memory, Refused, Keeper}
+use Rattle.mon_station.specs.declared.running.Answer.TheVariants.{Handled, GaveUp, Memory, Refused}
+use Rattle.mon_station.specs.declared.running.Answer.TheVariants.{Keeper}
 use Rattle.mon_station.specs.declared.running.Run.{Run}
 use Rattle.mon_station.specs.declared.running.SourceFault.{SourceFault}
 use Rattle.mon_station.specs.Lived.{IsLived, last_state}
@@ -213,18 +216,24 @@ IsMet s End = Unit {0}
 IsMet s (Fault f) = Unit {0}
 
 -- a source that was given the open polls and the last answer gave this, and it was met
-pub record IsCall {V : Type 0} (Gives : V → Open → Option Answer → Result (Option OwnedEvent) SourceFault → V → Type 0) (before : V) (s : State) (last : Option Answer) (c : Call V) : Type 0 where
+pub record IsCall {V : Type 0} (Gives : V → Open → Option Answer
+    → Result (Option OwnedEvent) SourceFault → V → Type 0) (before : V) (s : State)
+    (last : Option Answer) (c : Call V) : Type 0 where
   pub gives : Gives before s.poller.polls.open_polls last (result_of c.gave) c.view
   pub met : IsMet s c.gave
 
 -- each call is one, with the state, the view and the answer that the calls before it left, and none
 -- follows the end
-abbrev pub AreCalls : {V : Type 0} (Gives : V → Open → Option Answer → Result (Option OwnedEvent) SourceFault → V → Type 0) → V → State → List (Call V) → Type 0
+abbrev pub AreCalls : {V : Type 0} (Gives : V → Open → Option Answer
+    → Result (Option OwnedEvent) SourceFault → V → Type 0) → V → State → List (Call V) → Type 0
 AreCalls Gives view first [] = Unit {0}
-AreCalls Gives view first (c ∷ calls) = IsCall Gives (view_after view calls) (state_after first (turns_of calls)) (last_answer calls) c × (go_on calls ≡ true) × AreCalls Gives view first calls
+AreCalls Gives view first (c ∷ calls) = IsCall Gives (view_after view calls)
+    (state_after first (turns_of calls)) (last_answer calls) c × (go_on calls ≡ true)
+    × AreCalls Gives view first calls
 
 -- ---- the file
--- an opening of this file finds the saved state, or what was said of it before, by the answer to the save
+-- an opening of this file finds the saved state, or what was said of it before, by the answer to
+-- the save
 abbrev pub FindsSaved : State → Option StationFault → Type 0 → List ℕ → Type 0
 FindsSaved s None Before file = FindsState s file
 FindsSaved s (Some (fault.Keeper keeper.DiskFault)) Before file = FindsState s file ⊎ Before
@@ -240,9 +249,11 @@ FindsAfter s event answer Before file = Before
 -- that met the disk's fault
 abbrev pub FindsLast : State → (List ℕ → Type 0) → List Turn → List ℕ → Type 0
 FindsLast first outcomes [] file = FindsAs outcomes file
-FindsLast first outcomes (t ∷ turns) file = FindsAfter (state_after first turns) t.event t.answer (FindsLast first outcomes turns file) file
+FindsLast first outcomes (t ∷ turns) file = FindsAfter (state_after first turns) t.event t.answer
+    (FindsLast first outcomes turns file) file
 
--- while an event is handled, an opening of this file finds what was said of it before, or the state that a save is saving
+-- while an event is handled, an opening of this file finds what was said of it before, or the state
+-- that a save is saving
 abbrev pub FindsDuring : State → OwnedEvent → Type 0 → List ℕ → Type 0
 FindsDuring s Save Before file = Before ⊎ FindsState s file
 FindsDuring s event Before file = Before
@@ -251,7 +262,8 @@ FindsDuring s event Before file = Before
 -- the state that a save was saving
 abbrev pub FindsAmid : State → (List ℕ → Type 0) → List Turn → List ℕ → Type 0
 FindsAmid first outcomes [] file = FindsAs outcomes file
-FindsAmid first outcomes (t ∷ turns) file = FindsAmid first outcomes turns file ⊎ FindsDuring (state_after first turns) t.event (FindsLast first outcomes turns file) file
+FindsAmid first outcomes (t ∷ turns) file = FindsAmid first outcomes turns file
+    ⊎ FindsDuring (state_after first turns) t.event (FindsLast first outcomes turns file) file
 
 -- ---- lives
 -- the entry of a turn, where its event was read
@@ -266,7 +278,9 @@ entries_by (t ∷ turns) = entry_of t.reading t.answer t.after ++ entries_by tur
 
 -- all lives that come to the first state go on by these entries, and come to the other
 abbrev pub LiveOn : State → State → List (Entry × State) → Type 0
-LiveOn before after more = (past : List (Entry × State)) → IsLived past → last_state past ≡ Some before → IsLived (more ++ past) × (last_state (more ++ past) ≡ Some after)
+LiveOn before after more = (past : List (Entry × State)) → IsLived past
+    → last_state past ≡ Some before → IsLived (more ++ past)
+    × (last_state (more ++ past) ≡ Some after)
 
 -- ---- faults of the file
 -- whether an answer is the disk's fault
@@ -284,28 +298,34 @@ abbrev pub has_answer : (Option StationFault → Bool) → List Turn → Bool
 has_answer test [] = false
 has_answer test (t ∷ turns) = test t.answer || has_answer test turns
 
--- the count of a disk's failures did not fall, and it rose, or was at its end, if one of these turns
--- was answered by the disk's fault
+-- the count of a disk's failures did not fall, and it rose, or was at its end, if one of these
+-- turns was answered by the disk's fault
 pub record CountsFaults (before now : ℕ) (turns : List Turn) : Type 0 where
   pub no_less : before ≤ now
   pub told : has_answer is_disk_fault turns ≡ true → (before < now) ⊎ (before ≡ 2 ^ 64 - 1)
 
 -- if one of these turns was answered so, the greatest generation was found on an honest disk
 abbrev pub IsFull : {X : Type 0} (G : Ghosts X) → List Turn → Type 0
-IsFull {X = X} G turns = has_answer is_last_fault turns ≡ true → (disk : X) × (G.is_honest disk → found_generation (found SLOT_SIZE (G.seen disk)) ≡ 2 ^ 64 - 1)
+IsFull {X = X} G turns = has_answer is_last_fault turns ≡ true
+    → (disk : X) × (G.is_honest disk → found_generation (found SLOT_SIZE (G.seen disk))
+    ≡ 2 ^ 64 - 1)
 
 -- ---- runs
 -- What calls did, from one sight of a station to another. They left the state, the view and what
 -- the outbox was given; an honest disk stays so; a crash after them leaves the last save, which the
 -- keeper knows too, and a crash in the middle of them what was saved then.
-pub record Did {V X : Type 0} {G : Ghosts X} (Gives : V → Open → Option Answer → Result (Option OwnedEvent) SourceFault → V → Type 0) (before after : Seen V G) (calls : List (Call V)) : Type 0 where
+pub record Did {V X : Type 0} {G : Ghosts X} (Gives : V → Open → Option Answer
+    → Result (Option OwnedEvent) SourceFault → V → Type 0) (before after : Seen V G)
+    (calls : List (Call V)) : Type 0 where
   pub are : AreCalls Gives before.view before.state calls
   pub state : after.state ≡ state_after before.state (turns_of calls)
   pub view : after.view ≡ view_after before.view calls
   pub handed : after.handed ≡ extended before.handed (sent_of (turns_of calls))
   pub honest : G.is_honest before.disk → G.is_honest after.disk
-  pub file : G.is_honest before.disk → Leaves (met after) (FindsLast before.state (met before) (turns_of calls))
-  pub any_moment : G.is_honest before.disk → LeavesSince G.moment G.left_since before.disk after.disk (FindsAmid before.state (met before) (turns_of calls))
+  pub file : G.is_honest before.disk → Leaves (met after) (FindsLast before.state (met before)
+      (turns_of calls))
+  pub any_moment : G.is_honest before.disk → LeavesSince G.moment G.left_since before.disk
+      after.disk (FindsAmid before.state (met before) (turns_of calls))
   pub counted : CountsFaults (G.faults before.disk) (G.faults after.disk) (turns_of calls)
   pub full : IsFull G (turns_of calls)
 
@@ -322,7 +342,9 @@ AreAsked turns calls = (length calls ≡ turns) ⊎ ((length calls ≤ turns) ×
 
 -- a run of at most this many calls: what they did and what is said of them; and they are the next
 -- entries of any life of the station
-pub record Ran {V X : Type 0} {G : Ghosts X} (Gives : V → Open → Option Answer → Result (Option OwnedEvent) SourceFault → V → Type 0) (before after : Seen V G) (turns : ℕ) (run : Run) : Type 0 where
+pub record Ran {V X : Type 0} {G : Ghosts X} (Gives : V → Open → Option Answer
+    → Result (Option OwnedEvent) SourceFault → V → Type 0) (before after : Seen V G) (turns : ℕ)
+    (run : Run) : Type 0 where
   pub calls : List (Call V)
   pub did : Did Gives before after calls
   pub told : Tells run calls

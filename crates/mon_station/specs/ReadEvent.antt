@@ -10,7 +10,8 @@ use Rattle.mon_exchange.specs.Reading.{claim_at}
 use Rattle.mon_pdu.specs.declared.message.Message.{Message}
 use Rattle.mon_poller.specs.Verdict as responses
 use Rattle.mon_station.specs.declared.event.Event.{Event}
-pub use Rattle.mon_station.specs.declared.event.Event.TheVariants.{StartPoll, Timeout, FromAgent, FromPeer, Share, Save}
+pub use Rattle.mon_station.specs.declared.event.Event.TheVariants.{StartPoll, Timeout, FromAgent}
+pub use Rattle.mon_station.specs.declared.event.Event.TheVariants.{FromPeer, Share, Save}
 
 -- an event with something else of an agent's datagram, and of a peer's
 abbrev pub map_event : {D P E Q : Type 0} → (D → E) → (P → Q) → Event D P → Event E Q
@@ -38,7 +39,8 @@ pub record Said : Type 0 where
   pub claim : Claim
   pub number : Option ℕ
 
--- An event, its datagram as it reads: of an agent the message that it begins with, if it does; of a peer the claim that it spells, or why it spells none.
+-- An event, its datagram as it reads: of an agent the message that it begins with, if it does; of a
+-- peer the claim that it spells, or why it spells none.
 abbrev pub ReadEvent : Type 0
 ReadEvent = Event (Option Message) (Result Said ExchangeFault)
 
@@ -49,14 +51,18 @@ IsNumbered watch c (Some i) = IsWatchedAs watch c.engine c.name i
 
 -- what octets of a peer say in a watch, or why they are no claim
 abbrev pub SaysAs : Watch → List ℕ → Result Said ExchangeFault → Type 0
-SaysAs watch octets (Ok said) = SpellsClaim octets said.claim × IsNumbered watch said.claim said.number
-SaysAs watch octets (Err fault) = (claim_at octets ≡ Err fault) × ((c : Claim) → ¬ (SpellsClaim octets c))
+SaysAs watch octets (Ok said) = SpellsClaim octets said.claim
+    × IsNumbered watch said.claim said.number
+SaysAs watch octets (Err fault) = (claim_at octets ≡ Err fault)
+    × ((c : Claim) → ¬ (SpellsClaim octets c))
 
 -- how an event reads in a watch
 abbrev pub ReadsAs : Watch → OwnedEvent → ReadEvent → Type 0
 ReadsAs watch (StartPoll target) e = e ≡ StartPoll target
 ReadsAs watch (Timeout id) e = e ≡ Timeout id
-ReadsAs watch (FromAgent from octets) e = (read : Option Message) × responses.ReadsAs octets read × (e ≡ FromAgent from read)
-ReadsAs watch (FromPeer octets) e = (said : Result Said ExchangeFault) × SaysAs watch octets said × (e ≡ FromPeer said)
+ReadsAs watch (FromAgent from octets) e = (read : Option Message) × responses.ReadsAs octets read
+    × (e ≡ FromAgent from read)
+ReadsAs watch (FromPeer octets) e = (said : Result Said ExchangeFault) × SaysAs watch octets said
+    × (e ≡ FromPeer said)
 ReadsAs watch (Share peer) e = e ≡ Share peer
 ReadsAs watch Save e = e ≡ Save

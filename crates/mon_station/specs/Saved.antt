@@ -11,7 +11,8 @@ use Rattle.mon_disk.specs.File.{found}
 use Rattle.mon_disk.specs.Kept.{device_of, last_body}
 use Rattle.mon_disk.specs.declared.disk.Disk.{Ghosts}
 use Rattle.mon_disk.specs.declared.keeper.Keeper.{Keeper}
-use Rattle.mon_disk.specs.Keeper.{FindsAs, FindsBody, IsAs, found_body, found_generation, is_undamaged}
+use Rattle.mon_disk.specs.Keeper.{FindsAs, FindsBody, IsAs, found_body, found_generation}
+use Rattle.mon_disk.specs.Keeper.{is_undamaged}
 use Rattle.mon_disk.specs.declared.file.TheConstants.{SLOT_SIZE}
 use Rattle.mon_poller.specs.Polls.{no_polls}
 use Rattle.mon_saved.specs.declared.image.Image.{Image}
@@ -31,7 +32,8 @@ saved_octets s = written_image s.board s.incarnation
 -- an opening of this file finds the image of this state, which spells it
 pub record FindsState (s : State) (file : List ℕ) : Type 0 where
   pub body : FindsBody (Some (saved_octets s)) file
-  pub spells : SpellsImage (saved_octets s) (instances_of s.board.watch.instances) (image_of s.board s.incarnation)
+  pub spells : SpellsImage (saved_octets s) (instances_of s.board.watch.instances)
+      (image_of s.board s.incarnation)
 
 -- an opening of this file meets what an opening of one of these would, or finds this state
 abbrev pub FindsRunning : (List ℕ → Type 0) → State → List ℕ → Type 0
@@ -40,24 +42,30 @@ FindsRunning outcomes s file = FindsAs outcomes file ⊎ FindsState s file
 -- this body is the image of this state, which it spells
 pub record IsSavedAs (s : State) (body : Option (List ℕ)) : Type 0 where
   pub octets : body ≡ Some (saved_octets s)
-  pub spells : SpellsImage (saved_octets s) (instances_of s.board.watch.instances) (image_of s.board s.incarnation)
+  pub spells : SpellsImage (saved_octets s) (instances_of s.board.watch.instances)
+      (image_of s.board s.incarnation)
 
 -- one of these files, or one in which an opening finds this body
 abbrev pub OrLast : (List ℕ → Type 0) → Option (List ℕ) → List ℕ → Type 0
 OrLast outcomes last file = outcomes file ⊎ FindsBody last file
 
--- What a crash may leave of a keeper's disk, or a file in which its last save is found: a keeper whose disk failed goes back to that at the next save. Until it fails, these are
--- the files that a crash may leave, for in each of them the last save is found.
+-- What a crash may leave of a keeper's disk, or a file in which its last save is found: a keeper
+-- whose disk failed goes back to that at the next save. Until it fails, these are the files that a
+-- crash may leave, for in each of them the last save is found.
 abbrev pub may_meet : {X : Type 0} {G : Ghosts X} → Keeper X G → List ℕ → Type 0
 may_meet {G = G} k = OrLast (G.may_leave (device_of k)) (last_body k)
 
 -- ---- the life that an opening begins
--- the windows and the incarnation of a life that begins from this body: where none is found, empty windows and 1; else those of the image, and the next
+-- the windows and the incarnation of a life that begins from this body: where none is found, empty
+-- windows and 1; else those of the image, and the next
 abbrev pub IsRestoredFrom : Watch → Option (List ℕ) → Board → ℕ → Type 0
-IsRestoredFrom watch None board incarnation = ((i : ℕ) → window_of board i ≡ set.empty) × (incarnation ≡ 1)
-IsRestoredFrom watch (Some octets) board incarnation = (old : ℕ) × IsRestored watch octets board old × (incarnation ≡ old + 1)
+IsRestoredFrom watch None board incarnation = ((i : ℕ) → window_of board i ≡ set.empty)
+    × (incarnation ≡ 1)
+IsRestoredFrom watch (Some octets) board incarnation = (old : ℕ) × IsRestored watch octets board old
+    × (incarnation ≡ old + 1)
 
--- a life of this setting begins from this body: no poll is open or was started, no peer's incarnation is known, and nothing is marked
+-- a life of this setting begins from this body: no poll is open or was started, no peer's
+-- incarnation is known, and nothing is marked
 pub record IsBegun (w : Setting) (body : Option (List ℕ)) (s : State) : Type 0 where
   pub setting : setting_of s ≡ w
   pub restored : IsRestoredFrom w.watch body s.board s.incarnation
@@ -75,25 +83,34 @@ FindsBegun w body file = (s : State) × IsBegun w body s × FindsState s file
 -- might have left before, or finds the life that begins from the body that was found. After it a
 -- crash leaves one of those, or an opening always meets what this one met, or finds that life:
 -- never an older one.
-pub record IsBeginning {D : Type 0} (w : Setting) (seen : D → List ℕ) (may_leave : D → List ℕ → Type 0) (moment : D → ℕ) (left_since : D → ℕ → List ℕ → Type 0) (old new : D) : Type 0 where
-  pub any_moment : LeavesSince moment left_since old new (λ c. FindsAs (may_leave old) c ⊎ FindsBegun w (found_body (seen old)) c)
-  pub settled : Leaves (may_leave new) (may_leave old) ⊎ Leaves (may_leave new) (λ c. IsAs c (seen old) ⊎ FindsBegun w (found_body (seen old)) c)
+pub record IsBeginning {D : Type 0} (w : Setting) (seen : D → List ℕ)
+    (may_leave : D → List ℕ → Type 0) (moment : D → ℕ) (left_since : D → ℕ → List ℕ → Type 0)
+    (old new : D) : Type 0 where
+  pub any_moment : LeavesSince moment left_since old new (λ c. FindsAs (may_leave old) c
+      ⊎ FindsBegun w (found_body (seen old)) c)
+  pub settled : Leaves (may_leave new) (may_leave old) ⊎ Leaves (may_leave new)
+      (λ c. IsAs c (seen old) ⊎ FindsBegun w (found_body (seen old)) c)
 
 -- ---- faults
--- why no life begins from this body: it is no image of the watch's instances, or its incarnation is the greatest
+-- why no life begins from this body: it is no image of the watch's instances, or its incarnation is
+-- the greatest
 abbrev pub IsFaultOfBody : Watch → Option (List ℕ) → StationFault → Type 0
 IsFaultOfBody watch body fault.OutOfMemory = Unit {0}
 IsFaultOfBody watch body (fault.Image f) =
-    (octets : List ℕ) × (body ≡ Some octets) × (image_at (instances_of watch.instances) octets ≡ Err f) × ((image : Image) → ¬ (SpellsImage octets (instances_of watch.instances) image))
-IsFaultOfBody watch body fault.NoMoreIncarnations = (octets : List ℕ) × (board : Board) × (body ≡ Some octets) × IsRestored watch octets board 4294967295
+    (octets : List ℕ) × (body ≡ Some octets) × (image_at (instances_of watch.instances) octets
+    ≡ Err f) × ((image : Image) → ¬ (SpellsImage octets (instances_of watch.instances) image))
+IsFaultOfBody watch body fault.NoMoreIncarnations = (octets : List ℕ) × (board : Board)
+    × (body ≡ Some octets) × IsRestored watch octets board 4294967295
 IsFaultOfBody watch body other = ⊥
 
--- Why an opening of this file was refused: its body, or the keeper. Of the keeper's faults the disk's has its cause in the disk, Damaged is answered only where
--- the file is damaged, NoMoreGenerations only where the greatest generation is found, and no other at all.
+-- Why an opening of this file was refused: its body, or the keeper. Of the keeper's faults the
+-- disk's has its cause in the disk, Damaged is answered only where the file is damaged,
+-- NoMoreGenerations only where the greatest generation is found, and no other at all.
 abbrev pub IsFaultOfFile : Watch → List ℕ → StationFault → Type 0
 IsFaultOfFile watch file (fault.Keeper keeper.DiskFault) = Unit {0}
 IsFaultOfFile watch file (fault.Keeper keeper.Damaged) = is_undamaged file ≡ false
-IsFaultOfFile watch file (fault.Keeper keeper.NoMoreGenerations) = found_generation (found SLOT_SIZE file) ≡ 2 ^ 64 - 1
+IsFaultOfFile watch file (fault.Keeper keeper.NoMoreGenerations) = found_generation
+    (found SLOT_SIZE file) ≡ 2 ^ 64 - 1
 IsFaultOfFile watch file (fault.Keeper f) = ⊥
 IsFaultOfFile watch file other = IsFaultOfBody watch (found_body file) other
 
@@ -113,15 +130,17 @@ IsForItsBody (fault.Image f) = Unit {0}
 IsForItsBody fault.NoMoreIncarnations = Unit {0}
 IsForItsBody other = ⊥
 
--- one of the faults with which a station does not move to a disk: memory runs out, the disk fails, or its file is damaged
+-- one of the faults with which a station does not move to a disk: memory runs out, the disk fails,
+-- or its file is damaged
 abbrev pub IsMovingFault : StationFault → Type 0
 IsMovingFault fault.OutOfMemory = Unit {0}
 IsMovingFault (fault.Keeper keeper.DiskFault) = Unit {0}
 IsMovingFault (fault.Keeper keeper.Damaged) = Unit {0}
 IsMovingFault other = ⊥
 
--- A save is refused if memory runs out, or by the keeper: if the disk failed in it, or at the greatest generation. An image always fits, and a keeper whose disk failed in an
--- earlier save is reopened first.
+-- A save is refused if memory runs out, or by the keeper: if the disk failed in it, or at the
+-- greatest generation. An image always fits, and a keeper whose disk failed in an earlier save is
+-- reopened first.
 abbrev pub IsSaveFault : StationFault → Type 0
 IsSaveFault fault.OutOfMemory = Unit {0}
 IsSaveFault (fault.Keeper keeper.DiskFault) = Unit {0}

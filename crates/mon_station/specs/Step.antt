@@ -18,7 +18,14 @@ IsRead watch event (Err f) = (f ≡ fault.OutOfMemory → ⊥) → (e : ReadEven
 
 -- the state with these open polls in place of its own
 abbrev pub left_polls : State → Polls → State
-left_polls s polls = record { board = s.board; poller = record { targets = s.poller.targets; polls = polls }; peers = s.peers; incarnation = s.incarnation; serial = s.serial }
+left_polls s polls = record {
+  board = s.board;
+  poller = record
+      { targets = s.poller.targets; polls = polls };
+  peers = s.peers;
+  incarnation = s.incarnation;
+  serial = s.serial;
+}
 
 -- what holds of every state: windows hold no more than the watch keeps of them, only what is in
 -- them is marked, no window has more than 64 samples, and at most 256 instances are watched

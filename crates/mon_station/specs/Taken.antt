@@ -1,5 +1,6 @@
 -- What a station took, over all its lives.
-use Rattle.std.specs.Prelude.{ℕ, zero, suc, Bool, List, [], ◌∷◌, ◌==◌, ◌&&◌, if◌then◌else◌, Option, Some, None}
+use Rattle.std.specs.Prelude.{ℕ, zero, suc, Bool, List, [], ◌∷◌, ◌==◌, ◌&&◌, if◌then◌else◌, Option}
+use Rattle.std.specs.Prelude.{Some, None}
 use Rattle.std.specs.FinSet as set
 use Rattle.mon_window.specs.Window.{Samples}
 use Rattle.mon_board.specs.Watch.{Watch, size_of, epoch_of}
@@ -8,10 +9,12 @@ use Rattle.mon_poller.specs.Polls.{Polls, no_polls}
 use Rattle.mon_saved.specs.declared.image.Image.{Image}
 use Rattle.mon_saved.specs.Restored.{saved_pairs}
 use Rattle.mon_station.specs.declared.fault.StationFault.{StationFault}
-use Rattle.mon_station.specs.ReadEvent.{ReadEvent, StartPoll, Timeout, FromAgent, FromPeer, Share, Save}
+use Rattle.mon_station.specs.ReadEvent.{ReadEvent, StartPoll, Timeout, FromAgent, FromPeer, Share}
+use Rattle.mon_station.specs.ReadEvent.{Save}
 use Rattle.mon_station.specs.Verdict.{Setting, added, polls_after}
 
--- what a life begins from: nothing, the save that has this many later ones, or an image that none of the saves wrote, as one of version 1
+-- what a life begins from: nothing, the save that has this many later ones, or an image that none
+-- of the saves wrote, as one of version 1
 pub data Origin : Type 0 where
   Nothing : Origin
   Saved : (later : ℕ) → Origin
@@ -38,7 +41,13 @@ pub record Past : Type 0 where
 -- before the first life
 abbrev pub no_past : Past
 no_past = record {
-  setting = record { watch = record { instances = []; rules = [] }; targets = []; own = 0; peers = [] };
+  setting = record {
+    watch = record { instances = []; rules = [] };
+    targets = [];
+    own = 0;
+    peers =
+        [];
+  };
   polls = no_polls;
   taken = λ i. set.empty;
   saves = [];
@@ -58,7 +67,8 @@ has_sizes a b i = (size_of a i == size_of b i) && (epoch_of a i == epoch_of b i)
 -- taken, else what was in its window
 abbrev pub from_save : Watch → Option SavedTaken → ℕ → Samples
 from_save watch None i = set.empty
-from_save watch (Some save) i = if has_sizes watch save.watch i then save.taken i else kept_by save.watch i (save.taken i)
+from_save watch (Some save) i = if has_sizes watch save.watch i then save.taken i
+    else kept_by save.watch i (save.taken i)
 
 -- what a life of this watch begins with
 abbrev pub begun_with : Watch → List SavedTaken → Origin → ℕ → Samples
@@ -75,7 +85,8 @@ saves_after (FromAgent from read) p = p.saves
 saves_after (FromPeer said) p = p.saves
 saves_after (Share peer) p = p.saves
 
--- what one entry more leaves: a beginning is saved, and an event that is answered without a fault adds what it offers
+-- what one entry more leaves: a beginning is saved, and an event that is answered without a fault
+-- adds what it offers
 abbrev pub past_after : Entry → Past → Past
 past_after (Restart origin w) p = record {
   setting = w;

@@ -1,5 +1,6 @@
 -- What an event sends and reports.
-use Rattle.std.specs.Prelude.{ℕ, ◌≡◌, ◌+◌, List, [], ◌∷◌, Option, Some, None, Result, Ok, Err, map, slice_index_or}
+use Rattle.std.specs.Prelude.{ℕ, ◌≡◌, ◌+◌, List, [], ◌∷◌, Option, Some, None, Result, Ok, Err, map}
+use Rattle.std.specs.Prelude.{slice_index_or}
 use Rattle.std.specs.List.{AllByRecursion}
 use Rattle.mon_board.specs.declared.instance.Instance.{Instance}
 use Rattle.mon_board.specs.Instance.{instances_of, named}
@@ -21,7 +22,8 @@ use Rattle.mon_station.specs.declared.event.TargetStamp.{TargetStamp}
 use Rattle.mon_station.specs.declared.event.Told.{Told}
 use Rattle.mon_station.specs.declared.event.To.TheVariants as to
 use Rattle.mon_station.specs.declared.fault.StationFault.{StationFault}
-use Rattle.mon_station.specs.ReadEvent.{ReadEvent, StartPoll, Timeout, FromAgent, FromPeer, Share, Save}
+use Rattle.mon_station.specs.ReadEvent.{ReadEvent, StartPoll, Timeout, FromAgent, FromPeer, Share}
+use Rattle.mon_station.specs.ReadEvent.{Save}
 use Rattle.mon_station.specs.State.{State, IsHandled, known_of, setting_of, shared_with}
 use Rattle.mon_station.specs.Verdict.{offers, response_stamp}
 
@@ -45,11 +47,21 @@ offer_of s serial p = record {
 -- its offers of portions, with serials from this one on
 abbrev pub offers_from : State → ℕ → List Portion → List Claim
 offers_from s serial [] = []
-offers_from s serial (p ∷ portions) = offer_of s serial p ∷ offers_from s (serial_after serial) portions
+offers_from s serial (p ∷ portions) = offer_of s serial p ∷ offers_from s (serial_after serial)
+    portions
 
 -- its confirmation of a claim: the same instance, serial and samples
 abbrev pub confirm_of : State → Claim → Claim
-confirm_of s c = record { kind = Confirm; station = s.peers.own; incarnation = s.incarnation; serial = c.serial; engine = c.engine; name = c.name; samples = c.samples }
+confirm_of s c = record {
+  kind = Confirm;
+  station = s.peers.own;
+  incarnation = s.incarnation;
+  serial
+      = c.serial;
+  engine = c.engine;
+  name = c.name;
+  samples = c.samples;
+}
 
 -- what it answers to an accepted claim of this kind: an offer is confirmed
 abbrev pub confirms : State → ClaimKind → Claim → List Claim
@@ -79,17 +91,20 @@ claims_sent s e = []
 
 -- the datagrams that an event sends which is not refused
 abbrev pub sends : State → ReadEvent → List Outgoing
-sends s (StartPoll target) = to_target target (poll_octets (target_at s.poller.targets target) (s.poller.polls.started + 1)) ∷ []
+sends s (StartPoll target) = to_target target (poll_octets (target_at s.poller.targets target)
+    (s.poller.polls.started + 1)) ∷ []
 sends s (Timeout id) = resends (timeout_verdict s.poller.targets s.poller.polls id)
 sends s (FromAgent from read) = []
 sends s (FromPeer (Err f)) = []
-sends s (FromPeer (Ok said)) = map (to_peer said.claim.station) (confirms s said.claim.kind said.claim)
+sends s (FromPeer (Ok said)) = map (to_peer said.claim.station)
+    (confirms s said.claim.kind said.claim)
 sends s (Share y) = map (to_peer y) (offers_from s s.serial (shared_with s y))
 sends s Save = []
 
 -- what became of the claim of an event that is not refused
 abbrev pub noted_in : State → ReadEvent → Option Noted
-noted_in s (FromPeer (Ok said)) = Some (noted_as (known_of s said.claim.station) said.claim.incarnation)
+noted_in s (FromPeer (Ok said)) = Some (noted_as (known_of s said.claim.station)
+    said.claim.incarnation)
 noted_in s e = None
 
 -- the target that a timeout gives up, after its last try
@@ -106,7 +121,8 @@ gave_up_in s e = None
 -- the target whose poll a response answers, and the stamp that the response has: the open poll with
 -- its request-id
 abbrev pub answered_in : State → ReadEvent → Option TargetStamp
-answered_in s (FromAgent from read) = response_stamp (response_verdict s.poller.targets s.poller.polls.open_polls from read)
+answered_in s (FromAgent from read) = response_stamp (response_verdict s.poller.targets
+    s.poller.polls.open_polls from read)
 answered_in s e = None
 
 -- what is reported of an event that was handled

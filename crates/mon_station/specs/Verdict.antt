@@ -1,9 +1,11 @@
 -- What a station answers to an event, what the event offers, and which polls are open after it.
-use Rattle.std.specs.Prelude.{ℕ, ◌≡◌, Bool, true, false, List, [], ◌==◌, nat_lt, Option, Some, None, Result, Ok, Err}
+use Rattle.std.specs.Prelude.{ℕ, ◌≡◌, Bool, true, false, List, [], ◌==◌, nat_lt, Option, Some, None}
+use Rattle.std.specs.Prelude.{Result, Ok, Err}
 use Rattle.std.specs.List.{position}
 use Rattle.mon_board.specs.Watch.{Watch}
 use Rattle.mon_board.specs.Windows.{paired}
-use Rattle.mon_exchange.specs.declared.fault.ExchangeFault.TheVariants.{UnknownPeer, UnknownInstance}
+use Rattle.mon_exchange.specs.declared.fault.ExchangeFault.TheVariants.{UnknownPeer}
+use Rattle.mon_exchange.specs.declared.fault.ExchangeFault.TheVariants.{UnknownInstance}
 use Rattle.mon_poller.specs.declared.fault.ResponseFault.{ResponseFault}
 use Rattle.mon_poller.specs.declared.poller.Offered.{Offered}
 use Rattle.mon_poller.specs.declared.target.Target.{Target}
@@ -13,9 +15,11 @@ use Rattle.mon_poller.specs.Verdict.{start_verdict, response_verdict, after_resp
 use Rattle.mon_station.specs.declared.event.TargetStamp.{TargetStamp}
 use Rattle.mon_station.specs.declared.fault.StationFault.{StationFault}
 use Rattle.mon_station.specs.declared.fault.StationFault.TheVariants as fault
-use Rattle.mon_station.specs.ReadEvent.{ReadEvent, StartPoll, Timeout, FromAgent, FromPeer, Share, Save}
+use Rattle.mon_station.specs.ReadEvent.{ReadEvent, StartPoll, Timeout, FromAgent, FromPeer, Share}
+use Rattle.mon_station.specs.ReadEvent.{Save}
 
--- what a station is set up with: its watch, its targets, its own number, and the numbers of its peers
+-- what a station is set up with: its watch, its targets, its own number, and the numbers of its
+-- peers
 pub record Setting : Type 0 where
   pub watch : Watch
   pub targets : List Target
@@ -47,7 +51,8 @@ share_fault (Some slot) = None
 abbrev pub verdict : Setting → Polls → ReadEvent → Option StationFault
 verdict w p (StartPoll target) = fault_in fault.Poll (start_verdict w.targets p target)
 verdict w p (Timeout id) = None
-verdict w p (FromAgent from read) = fault_in fault.Response (response_verdict w.targets p.open_polls from read)
+verdict w p (FromAgent from read) = fault_in fault.Response (response_verdict w.targets p.open_polls
+    from read)
 verdict w p (FromPeer (Err f)) = Some (fault.Exchange f)
 verdict w p (FromPeer (Ok said)) = claim_fault (slot_of w.peers said.claim.station) said.number
 verdict w p (Share peer) = share_fault (slot_of w.peers peer)
@@ -119,7 +124,8 @@ claim_pairs (Some number) samples = paired number samples
 abbrev pub offers : Setting → Polls → ReadEvent → List (ℕ × ℕ)
 offers w p (StartPoll target) = []
 offers w p (Timeout id) = []
-offers w p (FromAgent from read) = response_pairs (response_verdict w.targets p.open_polls from read)
+offers w p (FromAgent from read) = response_pairs (response_verdict w.targets p.open_polls from
+    read)
 offers w p (FromPeer (Ok said)) = claim_pairs said.number said.claim.samples
 offers w p (FromPeer (Err f)) = []
 offers w p (Share peer) = []

@@ -3,7 +3,7 @@
 ghost use Rattle.std.specs.Prelude.{◌≡◌};
 
 use mon_ber::Octets;
-use mon_board::Pairs;
+use mon_board::InstanceSamples;
 use mon_exchange::Noted;
 use mon_udp::Addr;
 
@@ -80,8 +80,9 @@ pub struct TargetStamp {
 /// What a station reports of an event that it did not refuse.
 #[derive(Drop)]
 pub struct Told {
-    /// The samples that were offered, each with the number of its instance: in the order of the target's objects, or of the claim.
-    pub taken: Pairs,
+    /// The samples that were offered, each with the number of its instance: in the order of the
+    /// target's objects, or of the claim.
+    pub taken: InstanceSamples,
     /// What it sends, in this order.
     pub sends: Vec<Outgoing>,
     /// What became of a peer's claim.

@@ -112,7 +112,12 @@ impl fmt::Display for Innermost {
     ghost use Rattle.std.specs.Prelude.{Some};
     ghost use Rattle.mon_station.specs.Fault.{told_text};
 
-    ghost output = { λ i. Some (told_text record { part = i.part.now; number = i.number; name = i.name.now }) };
+    ghost output = { λ i. Some (told_text record {
+      part = i.part.now;
+      number = i.number;
+      name =
+          i.name.now;
+    }) };
 
     fn fmt<W: fmt::Write>(&self, f: &mut fmt::Formatter<W>) -> fmt::Result {
         let Innermost { part, number, name } = *self;

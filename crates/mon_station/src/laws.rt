@@ -21,47 +21,71 @@ ghost use Rattle.mon_window.specs.Window.{Samples};
 
 use mon_disk::Disk;
 
-/// Over any list of lawful answers, in which each life begins from the image that it found: a station's windows are what the watch
-/// keeps of the samples that it took. So two stations with equal watches that took the same samples, directly or through others, hold
-/// equal windows and print equal reports.
+/// Over any list of lawful answers, in which each life begins from the image that it found: a
+/// station's windows are what the watch keeps of the samples that it took. So two stations with
+/// equal watches that took the same samples, directly or through others, hold equal windows and
+/// print equal reports.
 pub fn taken()
-    ensures windows { (history : List (Entry × State)) (s : State) → IsLived history → last_state history ≡ Some s
-        → (i : ℕ) → window_of s.board i ≡ kept_by s.board.watch i (lives.taken (entries_of history) i) }
-    ensures equal { (some others : List (Entry × State)) (s t : State) → IsLived some → IsLived others → last_state some ≡ Some s → last_state others ≡ Some t
-        → s.board.watch ≡ t.board.watch → ((i : ℕ) → lives.taken (entries_of some) i ≡ lives.taken (entries_of others) i)
+    ensures windows { (history : List (Entry × State)) (s : State) → IsLived history
+        → last_state history ≡ Some s
+        → (i : ℕ) → window_of s.board i ≡ kept_by s.board.watch i
+        (lives.taken (entries_of history) i) }
+    ensures equal { (some others : List (Entry × State)) (s t : State) → IsLived some
+        → IsLived others → last_state some ≡ Some s → last_state others ≡ Some t
+        → s.board.watch ≡ t.board.watch → ((i : ℕ) → lives.taken (entries_of some) i
+        ≡ lives.taken (entries_of others) i)
         → (i : ℕ) → window_of s.board i ≡ window_of t.board i }
-    ensures reports { (some others : List (Entry × State)) (s t : State) → IsLived some → IsLived others → last_state some ≡ Some s → last_state others ≡ Some t
-        → s.board.watch ≡ t.board.watch → ((i : ℕ) → lives.taken (entries_of some) i ≡ lives.taken (entries_of others) i)
+    ensures reports { (some others : List (Entry × State)) (s t : State) → IsLived some
+        → IsLived others → last_state some ≡ Some s → last_state others ≡ Some t
+        → s.board.watch ≡ t.board.watch → ((i : ℕ) → lives.taken (entries_of some) i
+        ≡ lives.taken (entries_of others) i)
         → report s.board.watch (window_of s.board) ≡ report t.board.watch (window_of t.board) }
 {
     mon_saved::laws::one_image();
     mon_saved::laws::read_back();
 }
 
-/// The headline. Over any list of events, answered in any lawful way, and of lives that begin from what was saved: each window is what the watch keeps of the samples that
-/// were taken of its instance (the n newest, where its epoch is as great as the window's size n), so two stations with equal watches that took the same, directly or
-/// through others, hold equal windows and print equal reports. Joining windows is commutative, associative and idempotent. What is refused, for memory too, changes
-/// nothing but a poll that it ends.
+/// The headline. Over any list of events, answered in any lawful way, and of lives that begin from
+/// what was saved: each window is what the watch keeps of the samples that were taken of its
+/// instance (the n newest, where its epoch is as great as the window's size n), so two stations
+/// with equal watches that took the same, directly or through others, hold equal windows and print
+/// equal reports. Joining windows is commutative, associative and idempotent. What is refused, for
+/// memory too, changes nothing but a poll that it ends.
 ///
-/// `Station::open`, `step` and `run` extend such a list by what they answered (`lived`), so it holds of every station.
+/// `Station::open`, `step` and `run` extend such a list by what they answered (`lived`), so it
+/// holds of every station.
 pub fn headline()
-    ensures windows { (history : List (Entry × State)) (s : State) → IsLived history → last_state history ≡ Some s
-        → (i : ℕ) → window_of s.board i ≡ kept_by s.board.watch i (lives.taken (entries_of history) i) }
-    ensures equal { (some others : List (Entry × State)) (s t : State) → IsLived some → IsLived others → last_state some ≡ Some s → last_state others ≡ Some t
-        → s.board.watch ≡ t.board.watch → ((i : ℕ) → lives.taken (entries_of some) i ≡ lives.taken (entries_of others) i)
+    ensures windows { (history : List (Entry × State)) (s : State) → IsLived history
+        → last_state history ≡ Some s
+        → (i : ℕ) → window_of s.board i ≡ kept_by s.board.watch i
+        (lives.taken (entries_of history) i) }
+    ensures equal { (some others : List (Entry × State)) (s t : State) → IsLived some
+        → IsLived others → last_state some ≡ Some s → last_state others ≡ Some t
+        → s.board.watch ≡ t.board.watch → ((i : ℕ) → lives.taken (entries_of some) i
+        ≡ lives.taken (entries_of others) i)
         → (i : ℕ) → window_of s.board i ≡ window_of t.board i }
-    ensures reports { (some others : List (Entry × State)) (s t : State) → IsLived some → IsLived others → last_state some ≡ Some s → last_state others ≡ Some t
-        → s.board.watch ≡ t.board.watch → ((i : ℕ) → lives.taken (entries_of some) i ≡ lives.taken (entries_of others) i)
+    ensures reports { (some others : List (Entry × State)) (s t : State) → IsLived some
+        → IsLived others → last_state some ≡ Some s → last_state others ≡ Some t
+        → s.board.watch ≡ t.board.watch → ((i : ℕ) → lives.taken (entries_of some) i
+        ≡ lives.taken (entries_of others) i)
         → report s.board.watch (window_of s.board) ≡ report t.board.watch (window_of t.board) }
-    ensures newest { (history : List (Entry × State)) (s : State) → IsLived history → last_state history ≡ Some s → (i : ℕ) → epoch_of s.board.watch i ≡ size_of s.board.watch i
+    ensures newest { (history : List (Entry × State)) (s : State) → IsLived history
+        → last_state history ≡ Some s → (i : ℕ) → epoch_of s.board.watch i ≡ size_of s.board.watch i
         → window_of s.board i ≡ top (size_of s.board.watch i) (lives.taken (entries_of history) i) }
-    ensures commutative { (watch : AnyWatch) (a b : ℕ → Samples) (i : ℕ) → of_both watch a b i ≡ of_both watch b a i }
-    ensures associative { (watch : AnyWatch) (a b c : ℕ → Samples) (i : ℕ) → of_both watch (of_both watch a b) c i ≡ of_both watch a (of_both watch b c) i }
-    ensures idempotent { (watch : AnyWatch) (a : ℕ → Samples) (i : ℕ) → IsWhole watch a i → of_both watch a a i ≡ a i }
-    ensures refused { (past : List (Entry × State)) (old new : State) (e : ReadEvent) (fault : StationFault) → IsLived ((Answered e (Some fault), new) ∷ past) → last_state past ≡ Some old
+    ensures commutative { (watch : AnyWatch) (a b : ℕ → Samples) (i : ℕ)
+        → of_both watch a b i ≡ of_both watch b a i }
+    ensures associative { (watch : AnyWatch) (a b c : ℕ → Samples) (i : ℕ)
+        → of_both watch (of_both watch a b) c i ≡ of_both watch a (of_both watch b c) i }
+    ensures idempotent { (watch : AnyWatch) (a : ℕ → Samples) (i : ℕ) → IsWhole watch a i
+        → of_both watch a a i ≡ a i }
+    ensures refused { (past : List (Entry × State)) (old new : State) (e : ReadEvent)
+        (fault : StationFault) → IsLived ((Answered e (Some fault), new) ∷ past)
+        → last_state past ≡ Some old
         → IsLeftAlone old new }
-    ensures untaken { (past : List (Entry × State)) (new : State) (e : ReadEvent) (fault : StationFault) (i : ℕ)
-        → lives.taken (entries_of ((Answered e (Some fault), new) ∷ past)) i ≡ lives.taken (entries_of past) i }
+    ensures untaken { (past : List (Entry × State)) (new : State) (e : ReadEvent)
+        (fault : StationFault) (i : ℕ)
+        → lives.taken (entries_of ((Answered e (Some fault), new) ∷ past)) i
+        ≡ lives.taken (entries_of past) i }
 {
     taken();
     mon_window::laws::whole_epoch();
@@ -76,14 +100,25 @@ pub fn headline()
 /// a save, with what its watch keeps of the windows. Its incarnation is greater than that of each
 /// earlier life that was handed out; no other life sent anything.
 pub fn stops<D: Disk>()
-    ensures left { (first : D) (history : List (Happening × D)) → D.is_honest first → Leaves (D.may_leave first) (FindsBody None)
-        → IsHistory D.is_honest D.seen D.may_leave D.moment D.left_since first history → Leaves (D.may_leave (last_disk first history)) (FindsOneOf (MayFind D.seen first history)) }
-    ensures undamaged { (first : D) (history : List (Happening × D)) → D.is_honest first → Leaves (D.may_leave first) (FindsBody None)
-        → IsHistory D.is_honest D.seen D.may_leave D.moment D.left_since first history → is_undamaged (D.seen (last_disk first history)) ≡ true }
-    ensures opened { (first disk : D) (past : List (Happening × D)) (w : Setting) (s : State) → D.is_honest first → Leaves (D.may_leave first) (FindsBody None)
-        → IsHistory D.is_honest D.seen D.may_leave D.moment D.left_since first ((Opened w s, disk) ∷ past) → (save : Option State) × MayFind D.seen first past save × GoesOn w save s }
-    ensures later { (first disk : D) (past : List (Happening × D)) (w : Setting) (s : State) → D.is_honest first → Leaves (D.may_leave first) (FindsBody None)
-        → IsHistory D.is_honest D.seen D.may_leave D.moment D.left_since first ((Opened w s, disk) ∷ past) → AllByRecursion (λ life. life.incarnation < s.incarnation) (begun_in past) }
+    ensures left { (first : D) (history : List (Happening × D)) → D.is_honest first
+        → Leaves (D.may_leave first) (FindsBody None)
+        → IsHistory D.is_honest D.seen D.may_leave D.moment D.left_since first history
+        → Leaves (D.may_leave (last_disk first history))
+        (FindsOneOf (MayFind D.seen first history)) }
+    ensures undamaged { (first : D) (history : List (Happening × D)) → D.is_honest first
+        → Leaves (D.may_leave first) (FindsBody None)
+        → IsHistory D.is_honest D.seen D.may_leave D.moment D.left_since first history
+        → is_undamaged (D.seen (last_disk first history)) ≡ true }
+    ensures opened { (first disk : D) (past : List (Happening × D)) (w : Setting) (s : State)
+        → D.is_honest first → Leaves (D.may_leave first) (FindsBody None)
+        → IsHistory D.is_honest D.seen D.may_leave D.moment D.left_since first
+        ((Opened w s, disk) ∷ past) → (save : Option State) × MayFind D.seen first past save
+        × GoesOn w save s }
+    ensures later { (first disk : D) (past : List (Happening × D)) (w : Setting) (s : State)
+        → D.is_honest first → Leaves (D.may_leave first) (FindsBody None)
+        → IsHistory D.is_honest D.seen D.may_leave D.moment D.left_since first
+        ((Opened w s, disk) ∷ past) → AllByRecursion (λ life. life.incarnation < s.incarnation)
+        (begun_in past) }
 {
     mon_saved::laws::one_image();
     mon_saved::laws::read_back();

@@ -1,7 +1,7 @@
-//! Stations: they poll agents, keep windows of samples, share them with peers, and save them. It follows no standard; its parts
-//! say which they follow.
-//! Contract: a station's windows are what the watch keeps of the samples that it took, also after restarts; what is refused
-//! changes nothing but a poll that it ends. `laws` say it of all lives of a station.
+//! Stations: they poll agents, keep windows of samples, share them with peers, and save them. It
+//! follows no standard; its parts say which they follow. Contract: a station's windows are what the
+//! watch keeps of the samples that it took, also after restarts; what is refused changes nothing
+//! but a poll that it ends. `laws` say it of all lives of a station.
 #![tactic(auto)]
 
 mod event;

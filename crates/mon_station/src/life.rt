@@ -14,7 +14,7 @@ ghost use Rattle.mon_station.specs.Verdict.{claim_pairs, stamp_in};
 use crate::event::{Outgoing, TargetStamp, To, Told};
 use crate::fault::StationFault;
 use mon_ber::Octets;
-use mon_board::{Board, Pairs};
+use mon_board::{Board, InstanceSamples};
 use mon_exchange::{Claim, ClaimKind, ClaimRef, Peers, read_claim, write_claim};
 use mon_poller::{Offered, Poller, TimedOut};
 use mon_sample::Sample;
@@ -35,7 +35,8 @@ pub(crate) struct Life {
     /// The serial of the next offer.
     pub(crate) serial: u32,
     ghost born: { (1 ≤ incarnation) × (incarnation < 2 ^ 32) },
-    ghost watched: { All (λ t. All (λ o. o.instance < length board.watch.instances) t.objects) poller.targets },
+    ghost watched: { All (λ t. All (λ o. o.instance < length board.watch.instances) t.objects)
+        poller.targets },
 }
 
 // By hand: where one is let go, a proof has one call and not a drop of each field.
@@ -82,10 +83,15 @@ impl Life {
     pub(crate) fn image(&self, image: &mut KeptImage) -> Result<(), AllocError>
         requires kept { IsKept image.old self.now.board }
         ensures head { OnOk result (16 ≤ length image.new.octets.items) }
-        ensures written { OnOk result (drop 16 image.new.octets.items ≡ saved_octets (state_of self.now)) }
-        ensures spells { OnOk result (SpellsImage (saved_octets (state_of self.now)) (instances_of self.now.board.watch.instances) (image_of self.now.board self.now.incarnation)) }
+        ensures written { OnOk result (drop 16 image.new.octets.items
+            ≡ saved_octets (state_of self.now)) }
+        ensures spells { OnOk result (SpellsImage (saved_octets (state_of self.now))
+            (instances_of self.now.board.watch.instances) (image_of self.now.board
+            self.now.incarnation)) }
         ensures few { OnOk result (length (saved_octets (state_of self.now)) ≤ 484617) }
-        ensures spared { 16 + length (saved_octets (state_of self.now)) ≤ vec_capacity image.old.octets → length self.now.board.watch.instances ≤ vec_capacity image.old.places → IsOk result }
+        ensures spared { 16 + length (saved_octets (state_of self.now))
+            ≤ vec_capacity image.old.octets → length self.now.board.watch.instances
+            ≤ vec_capacity image.old.places → IsOk result }
         ensures capacity { vec_capacity image.old.octets ≤ vec_capacity image.new.octets }
         ensures places_capacity { vec_capacity image.old.places ≤ vec_capacity image.new.places }
         ensures kept { IsKept image.new self.now.board }
@@ -96,7 +102,8 @@ impl Life {
     /// Starts a poll of the target of this number.
     pub(crate) fn start_poll(&mut self, alloc: Global, target: u16) -> Result<Told, StationFault>
         ensures board { self.new.board ≡ self.old.board }
-        ensures answered { IsAnswered (state_of self.old) (state_of self.new) (read.StartPoll target) result }
+        ensures answered { IsAnswered (state_of self.old) (state_of self.new)
+            (read.StartPoll target) result }
         ensures refused { OnErr result (state_of self.new ≡ state_of self.old) }
     {
         // Proof: the invariants of the state.
@@ -117,8 +124,10 @@ impl Life {
     /// The poll of this request-id timed out. It allocates nothing if it is not sent again.
     pub(crate) fn timeout(&mut self, alloc: Global, id: u32) -> Result<Told, StationFault>
         ensures board { self.new.board ≡ self.old.board }
-        ensures answered { IsAnswered (state_of self.old) (state_of self.new) (read.Timeout id) result }
-        ensures spared { ¬ (IsSentAgain (timeout_verdict self.old.poller.targets self.old.poller.polls id)) → IsOk result }
+        ensures answered { IsAnswered (state_of self.old) (state_of self.new) (read.Timeout id)
+            result }
+        ensures spared { ¬ (IsSentAgain (timeout_verdict self.old.poller.targets
+            self.old.poller.polls id)) → IsOk result }
         ensures refused { OnErr result (state_of self.new ≡ state_of self.old) }
     {
         // Proof: the invariants of the state.
@@ -130,9 +139,11 @@ impl Life {
 
     /// Allocates for the datagram of a timeout, if one is sent.
     fn room_to_send_again(&self, alloc: Global, id: u32) -> Result<Vec<Outgoing>, AllocError>
-        ensures room { IfOk result (λ room. IsSentAgain (timeout_verdict self.now.poller.targets self.now.poller.polls id) → 1 ≤ vec_capacity room) }
+        ensures room { IfOk result (λ room. IsSentAgain (timeout_verdict self.now.poller.targets
+            self.now.poller.polls id) → 1 ≤ vec_capacity room) }
         ensures empty { IfOk result (λ room. room.items ≡ []) }
-        ensures memory { OnErr result (IsSentAgain (timeout_verdict self.now.poller.targets self.now.poller.polls id)) }
+        ensures memory { OnErr result (IsSentAgain (timeout_verdict self.now.poller.targets
+            self.now.poller.polls id)) }
     {
         if self.poller.has_tries(id) {
             room_for_one(alloc)
@@ -160,7 +171,7 @@ impl Life {
                 told_one(alloc, room, out)
             }
             TimedOut::GivenUp { target } => Told {
-                taken: Pairs::new(alloc),
+                taken: InstanceSamples::new(alloc),
                 sends: room,
                 noted: None,
                 given_up: Some(target),
@@ -180,10 +191,13 @@ impl Life {
     ) -> Result<Told, StationFault>
         requires kept { IsKept image.old self.old.board }
         ensures kept { IsKept image.new self.new.board }
-        ensures answered { (r : Option AnyMessage) → ReadsAs octets.now r → IsAnswered (state_of self.old) (state_of self.new) (read.FromAgent from r) result }
+        ensures answered { (r : Option AnyMessage) → ReadsAs octets.now r
+            → IsAnswered (state_of self.old) (state_of self.new) (read.FromAgent from r) result }
         ensures read { (r : Option AnyMessage) × ReadsAs octets.now r }
-        ensures refused { OnErr result (state_of self.new ≡ left_polls (state_of self.old) self.new.poller.polls) }
-        ensures memory { result ≡ Err StationFault.OutOfMemory → state_of self.new ≡ state_of self.old }
+        ensures refused { OnErr result (state_of self.new ≡ left_polls (state_of self.old)
+            self.new.poller.polls) }
+        ensures memory { result ≡ Err StationFault.OutOfMemory
+            → state_of self.new ≡ state_of self.old }
     {
         mon_poller::laws::offered();
         // Proof: the invariants of the state.
@@ -197,7 +211,8 @@ impl Life {
         }
     }
 
-    /// Takes what a peer's claim claims. The image of the windows is forgotten where it takes something.
+    /// Takes what a peer's claim claims. The image of the windows is forgotten where it takes
+    /// something.
     pub(crate) fn from_peer(
         &mut self,
         alloc: Global,
@@ -206,9 +221,13 @@ impl Life {
     ) -> Result<Told, StationFault>
         requires kept { IsKept image.old self.old.board }
         ensures kept { IsKept image.new self.new.board }
-        ensures answered { (r : Result Said AnyExchangeFault) → SaysAs self.old.board.watch octets.now r → IsAnswered (state_of self.old) (state_of self.new) (read.FromPeer r) result }
-        ensures read { IfOk result (λ _. (r : Result Said AnyExchangeFault) × SaysAs self.old.board.watch octets.now r) }
-        ensures read_err { IfErr result (λ f. (f ≡ StationFault.OutOfMemory → ⊥) → (r : Result Said AnyExchangeFault) × SaysAs self.old.board.watch octets.now r) }
+        ensures answered { (r : Result Said AnyExchangeFault)
+            → SaysAs self.old.board.watch octets.now r → IsAnswered (state_of self.old)
+            (state_of self.new) (read.FromPeer r) result }
+        ensures read { IfOk result (λ _. (r : Result Said AnyExchangeFault)
+            × SaysAs self.old.board.watch octets.now r) }
+        ensures read_err { IfErr result (λ f. (f ≡ StationFault.OutOfMemory → ⊥)
+            → (r : Result Said AnyExchangeFault) × SaysAs self.old.board.watch octets.now r) }
         ensures refused { OnErr result (state_of self.new ≡ state_of self.old) }
     {
         // Proof: the invariants of the state.
@@ -230,7 +249,8 @@ impl Life {
         requires kept { IsKept image.old self.old.board }
         ensures kept { IsKept image.new self.new.board }
         ensures answered { (n : Option ℕ) → IsNumbered self.old.board.watch claim.now n
-            → IsAnswered (state_of self.old) (state_of self.new) (read.FromPeer (Ok (record { claim = claim.now; number = n }))) result }
+            → IsAnswered (state_of self.old) (state_of self.new)
+            (read.FromPeer (Ok (record { claim = claim.now; number = n }))) result }
         ensures numbered { (n : Option ℕ) × IsNumbered self.old.board.watch claim.now n }
         ensures refused { OnErr result (state_of self.new ≡ state_of self.old) }
     {
@@ -254,21 +274,24 @@ impl Life {
     }
 
     /// The samples of a claim with the number of its instance, where that is watched.
-    fn pairs(&self, alloc: Global, claim: &Claim) -> Result<Pairs, AllocError>
-        ensures pairs { IfOk result (λ pairs. (n : Option ℕ) → IsNumbered self.now.board.watch claim.now n → pairs ≡ claim_pairs n claim.now.samples) }
+    fn pairs(&self, alloc: Global, claim: &Claim) -> Result<InstanceSamples, AllocError>
+        ensures pairs { IfOk result (λ pairs. (n : Option ℕ)
+            → IsNumbered self.now.board.watch claim.now n → pairs ≡ claim_pairs n claim.now.samples) }
         ensures numbered { (n : Option ℕ) × IsNumbered self.now.board.watch claim.now n }
     {
         match self.board.find(claim.engine.as_slice(), &claim.name) {
             Some(number) => pairs_of(alloc, number, claim.samples.as_slice()),
-            None => Ok(Pairs::new(alloc)),
+            None => Ok(InstanceSamples::new(alloc)),
         }
     }
 
     /// The confirmation of a claim, where it is an offer.
     fn confirm(&self, alloc: Global, claim: &Claim) -> Result<Vec<Outgoing>, AllocError>
         requires { IsClaim claim.now }
-        ensures sent { IfOk result (λ sends. sends.items ≡ map (to_peer claim.now.station) (confirms (state_of self.now) claim.now.kind claim.now)) }
-        ensures claims { IfOk result (λ _. AllByRecursion IsClaim (confirms (state_of self.now) claim.now.kind claim.now)) }
+        ensures sent { IfOk result (λ sends. sends.items ≡ map (to_peer claim.now.station)
+            (confirms (state_of self.now) claim.now.kind claim.now)) }
+        ensures claims { IfOk result (λ _. AllByRecursion IsClaim
+            (confirms (state_of self.now) claim.now.kind claim.now)) }
     {
         match claim.kind {
             ClaimKind::Confirm => Ok(Vec::new(alloc)),
@@ -279,7 +302,8 @@ impl Life {
     /// The confirmation of an offer.
     fn confirm_offer(&self, alloc: Global, offer: &Claim) -> Result<Vec<Outgoing>, AllocError>
         requires { IsClaim offer.now }
-        ensures sent { IfOk result (λ sends. sends.items ≡ to_peer offer.now.station (confirm_of (state_of self.now) offer.now) ∷ []) }
+        ensures sent { IfOk result (λ sends. sends.items ≡ to_peer offer.now.station
+            (confirm_of (state_of self.now) offer.now) ∷ []) }
         ensures claim { IfOk result (λ _. IsClaim (confirm_of (state_of self.now) offer.now)) }
     {
         let mut sends = room_for_one(alloc)?;
@@ -303,10 +327,10 @@ impl Life {
 }
 
 /// Samples of an instance, each with its number.
-fn pairs_of(alloc: Global, number: u16, samples: &[Sample]) -> Result<Pairs, AllocError>
+fn pairs_of(alloc: Global, number: u16, samples: &[Sample]) -> Result<InstanceSamples, AllocError>
     ensures { IfOk result (λ pairs. pairs ≡ paired number samples.now) }
 {
-    let mut pairs = Pairs::new(alloc);
+    let mut pairs = InstanceSamples::new(alloc);
     for sample in samples {
         pairs.push(number, *sample)?;
     }
@@ -334,7 +358,7 @@ fn told_one(alloc: Global, room: Vec<Outgoing>, out: Outgoing) -> Told
     let mut sends = room;
     sends.push(out).unwrap();
     Told {
-        taken: Pairs::new(alloc),
+        taken: InstanceSamples::new(alloc),
         sends,
         noted: None,
         given_up: None,
@@ -373,7 +397,7 @@ pub(crate) fn told_none(alloc: Global) -> Told
     ensures answered { result.answered ≡ None }
 {
     Told {
-        taken: Pairs::new(alloc),
+        taken: InstanceSamples::new(alloc),
         sends: Vec::new(alloc),
         noted: None,
         given_up: None,

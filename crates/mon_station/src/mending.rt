@@ -6,8 +6,9 @@ ghost use Rattle.mon_station.specs.Mended.{IsMendedSave};
 
 use mon_disk::{Disk, Keeper, KeeperFault};
 
-/// Saves what follows the first 16 of these octets, as `Keeper::save_in_place` does, and reopens the file first where the disk failed in an earlier save.
-pub(crate) fn save_again<D: Disk>(
+/// Saves what follows the first 16 of these octets, as `Keeper::save_in_place` does, and reopens
+/// the file first where the disk failed in an earlier save.
+pub(crate) fn reopen_and_save<D: Disk>(
     keeper: &mut Keeper<D>,
     octets: &mut [u8],
 ) -> Result<(), KeeperFault>

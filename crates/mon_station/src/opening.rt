@@ -12,7 +12,7 @@ use crate::fault::StationFault;
 use crate::life::Life;
 use crate::station::Station;
 use mon_board::{Board, Watch};
-use mon_core::Core;
+use mon_config::Core;
 use mon_disk::{Disk, Keeper};
 use mon_exchange::Peers;
 use mon_poller::Poller;
@@ -28,34 +28,53 @@ impl<D: Disk + Drop> Station<D> {
     ghost use Rattle.mon_station.specs.Stops.{Happens, Opened, Unopened};
     ghost use Rattle.mon_station.specs.Taken.{Entry, Origin, Restart};
 
-    /// Begins a life from what the disk holds: its windows, and the next incarnation, which is saved before the station is handed out.
+    /// Begins a life from what the disk holds: its windows, and the next incarnation, which is
+    /// saved before the station is handed out.
     ///
     /// # Errors
-    /// With the disk: `OutOfMemory`, a fault of the keeper, `Image` where the body that was found is no image of the watch's instances, and
-    /// `NoMoreIncarnations`. The file may have been laid out, and it may hold the next incarnation.
+    /// With the disk: `OutOfMemory`, a fault of the keeper, `Image` where the body that was found
+    /// is no image of the watch's instances, and `NoMoreIncarnations`. The file may have been laid
+    /// out, and it may hold the next incarnation.
     pub fn open(alloc: Global, core: Core, disk: D) -> Result<Self, (StationFault, D)>
         ensures setting { IfOk result (λ s. setting_of (state_of s.life) ≡ setting_in core) }
         // The life begins from the body that is found in what a read gives.
-        ensures opened { D.is_honest disk → IfOk result (λ s. IsBegun (setting_in core) (found_body (D.seen disk)) (state_of s.life)) }
-        // From then on a crash leaves a file in which an opening finds these windows and this incarnation.
-        ensures kept { D.is_honest disk → IfOk result (λ s. Leaves (D.may_leave (device_of s.keeper)) (FindsState (state_of s.life))) }
+        ensures opened { D.is_honest disk → IfOk result (λ s. IsBegun (setting_in core)
+            (found_body (D.seen disk)) (state_of s.life)) }
+        // From then on a crash leaves a file in which an opening finds these windows and this
+        // incarnation.
+        ensures kept { D.is_honest disk → IfOk result (λ s. Leaves
+            (D.may_leave (device_of s.keeper)) (FindsState (state_of s.life))) }
         // The keeper knows it as the last save.
-        ensures last { D.is_honest disk → IfOk result (λ s. IsSavedAs (state_of s.life) (last_body s.keeper)) }
+        ensures last { D.is_honest disk → IfOk result (λ s. IsSavedAs (state_of s.life)
+            (last_body s.keeper)) }
         // A lived history goes on, from where the body that is found was written.
-        ensures lived { D.is_honest disk → IfOk result (λ s. (past : List (Entry × State)) (origin : Origin) → IsLived past
-            → IsOrigin (saved_states past) (found_body (D.seen disk)) (instances_of core.watch.instances) origin → IsLived ((Restart origin (setting_in core), state_of s.life) ∷ past)) }
+        ensures lived { D.is_honest disk → IfOk result (λ s. (past : List (Entry × State))
+            (origin : Origin) → IsLived past
+            → IsOrigin (saved_states past) (found_body (D.seen disk))
+            (instances_of core.watch.instances) origin → IsLived
+            ((Restart origin (setting_in core), state_of s.life) ∷ past)) }
         // It is a step of the law of stops.
-        ensures happens { D.is_honest disk → (running saved : Option State) → IfOk result (λ s. Happens D.seen D.may_leave D.moment D.left_since running saved (Opened (setting_in core) (state_of s.life)) disk (device_of s.keeper)) }
-        ensures happens_err { D.is_honest disk → (running saved : Option State) → IfErr result (λ e. Happens D.seen D.may_leave D.moment D.left_since running saved (Unopened (setting_in core)) disk e.1) }
+        ensures happens { D.is_honest disk → (running saved : Option State)
+            → IfOk result (λ s. Happens D.seen D.may_leave D.moment D.left_since running saved
+            (Opened (setting_in core) (state_of s.life)) disk (device_of s.keeper)) }
+        ensures happens_err { D.is_honest disk → (running saved : Option State)
+            → IfErr result (λ e. Happens D.seen D.may_leave D.moment D.left_since running saved
+            (Unopened (setting_in core)) disk e.1) }
         // In the middle of it a crash leaves what was there, or the raised incarnation; and no
         // older one later.
-        ensures beginning { D.is_honest disk → IfOk result (λ s. IsBeginning (setting_in core) D.seen D.may_leave D.moment D.left_since disk (device_of s.keeper)) }
-        ensures beginning_err { D.is_honest disk → IfErr result (λ e. IsBeginning (setting_in core) D.seen D.may_leave D.moment D.left_since disk e.1) }
+        ensures beginning { D.is_honest disk → IfOk result (λ s. IsBeginning (setting_in core)
+            D.seen D.may_leave D.moment D.left_since disk (device_of s.keeper)) }
+        ensures beginning_err { D.is_honest disk → IfErr result
+            (λ e. IsBeginning (setting_in core) D.seen D.may_leave D.moment D.left_since disk e.1) }
         // Each fault is one of an opening and has its cause.
         ensures fault { IfErr result (λ e. IsOpeningFault e.0) }
-        ensures fault_of { D.is_honest disk → IfErr result (λ e. IsFaultOfFile core.watch (D.seen disk) e.0) }
-        // Where it was refused for the body that was found, a crash leaves files in which that body is found.
-        ensures found_still { D.is_honest disk → IfErr result (λ e. IsForItsBody e.0 → Leaves (D.may_leave e.1) (FindsBody (found_body (D.seen disk)))) }
+        ensures fault_of { D.is_honest disk → IfErr result (λ e. IsFaultOfFile core.watch
+            (D.seen disk) e.0) }
+        // Where it was refused for the body that was found, a crash leaves files in which that body
+        // is found.
+        ensures found_still { D.is_honest disk → IfErr result
+            (λ e. IsForItsBody e.0 → Leaves (D.may_leave e.1)
+            (FindsBody (found_body (D.seen disk)))) }
         ensures honest { IfOk result (λ s. D.is_honest disk → D.is_honest (device_of s.keeper)) }
         ensures honest_err { IfErr result (λ e. D.is_honest disk → D.is_honest e.1) }
         ensures count { IfOk result (λ s. D.faults disk ≤ D.faults (device_of s.keeper)) }
@@ -74,19 +93,27 @@ impl<D: Disk + Drop> Station<D> {
     /// A station of this life, which is saved first.
     fn settle(alloc: Global, life: Life, keeper: Keeper<D>) -> Result<Self, (StationFault, D)>
         requires fresh { is_spoiled keeper ≡ false }
-        requires kept { D.is_honest (device_of keeper) → Leaves (D.may_leave (device_of keeper)) (FindsBody (last_body keeper)) }
+        requires kept { D.is_honest (device_of keeper) → Leaves (D.may_leave (device_of keeper))
+            (FindsBody (last_body keeper)) }
         ensures life { IfOk result (λ s. s.life ≡ life) }
-        ensures kept { D.is_honest (device_of keeper) → IfOk result (λ s. Leaves (D.may_leave (device_of s.keeper)) (FindsState (state_of life))) }
-        ensures last { D.is_honest (device_of keeper) → IfOk result (λ s. IsSavedAs (state_of life) (last_body s.keeper)) }
-        ensures any_moment { D.is_honest (device_of keeper) → IfOk result (λ s. LeavesSince D.moment D.left_since (device_of keeper) (device_of s.keeper)
+        ensures kept { D.is_honest (device_of keeper) → IfOk result
+            (λ s. Leaves (D.may_leave (device_of s.keeper)) (FindsState (state_of life))) }
+        ensures last { D.is_honest (device_of keeper) → IfOk result
+            (λ s. IsSavedAs (state_of life) (last_body s.keeper)) }
+        ensures any_moment { D.is_honest (device_of keeper) → IfOk result
+            (λ s. LeavesSince D.moment D.left_since (device_of keeper) (device_of s.keeper)
             (FindsRunning (D.may_leave (device_of keeper)) (state_of life))) }
-        ensures any_moment_err { D.is_honest (device_of keeper) → IfErr result (λ e. LeavesSince D.moment D.left_since (device_of keeper) e.1
+        ensures any_moment_err { D.is_honest (device_of keeper)
+            → IfErr result (λ e. LeavesSince D.moment D.left_since (device_of keeper) e.1
             (FindsRunning (D.may_leave (device_of keeper)) (state_of life))) }
         ensures fault { IfErr result (λ e. IsFirstSaveFault (last_generation keeper) e.0) }
-        ensures honest { IfOk result (λ s. D.is_honest (device_of keeper) → D.is_honest (device_of s.keeper)) }
+        ensures honest { IfOk result (λ s. D.is_honest (device_of keeper)
+            → D.is_honest (device_of s.keeper)) }
         ensures honest_err { IfErr result (λ e. D.is_honest (device_of keeper) → D.is_honest e.1) }
-        ensures count { IfOk result (λ s. D.faults (device_of keeper) ≤ D.faults (device_of s.keeper)) }
-        ensures cause { IfErr result (λ e. IsCausedBy (D.faults (device_of keeper)) (D.faults e.1) e.0) }
+        ensures count { IfOk result (λ s. D.faults (device_of keeper)
+            ≤ D.faults (device_of s.keeper)) }
+        ensures cause { IfErr result (λ e. IsCausedBy (D.faults (device_of keeper)) (D.faults e.1)
+            e.0) }
         ensures fresh { IfOk result (λ s. is_spoiled s.keeper ≡ false) }
     {
         let image = KeptImage::new(alloc);
@@ -104,7 +131,8 @@ impl<D: Disk + Drop> Station<D> {
 
 /// The life that begins from the body that was found.
 fn begin(alloc: Global, core: Core, body: Option<Vec<u8>>) -> Result<Life, StationFault>
-    ensures begun { IfOk result (λ l. IsBegun (setting_in core) (option_map (λ v. v.items) body) (state_of l)) }
+    ensures begun { IfOk result (λ l. IsBegun (setting_in core) (option_map (λ v. v.items) body)
+        (state_of l)) }
     ensures fault { IfErr result (IsFaultOfBody core.watch (option_map (λ v. v.items) body)) }
 {
     let parts = core.into_parts();
@@ -122,7 +150,8 @@ fn begin(alloc: Global, core: Core, body: Option<Vec<u8>>) -> Result<Life, Stati
 
 /// The board that a life begins with, and its incarnation.
 fn restore(alloc: Global, watch: Watch, body: Option<Vec<u8>>) -> Result<(Board, u32), StationFault>
-    ensures restored { IfOk result (λ r. IsRestoredFrom watch (option_map (λ v. v.items) body) r.0 r.1) }
+    ensures restored { IfOk result (λ r. IsRestoredFrom watch (option_map (λ v. v.items) body) r.0
+        r.1) }
     ensures watch { IfOk result (λ r. r.0.watch ≡ watch) }
     ensures unmarked { IfOk result (λ r. IsUnmarked r.0) }
     ensures positive { IfOk result (λ r. 1 ≤ r.1) }

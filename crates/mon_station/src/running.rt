@@ -43,14 +43,15 @@ pub trait Source {
 
     // From this view, a call that is given these open polls and this answer returns this and leaves
     // that view.
-    ghost gives: { View → Open → Option AnyAnswer → Result (Option AnyEvent) AnySourceFault → View → Type 0 };
+    ghost gives: { View → Open → Option AnyAnswer → Result (Option AnyEvent) AnySourceFault → View
+        → Type 0 };
 
     // How often it failed, at most 2^64 - 1.
     ghost failures: { Self → ℕ };
 
-    /// Returns the next event, or None if the source has ended. It is given the station's polls, and
-    /// what became of the event that the call before it gave: None if that gave none, or if this is
-    /// the first call of its run.
+    /// Returns the next event, or None if the source has ended. It is given the station's polls,
+    /// and what became of the event that the call before it gave: None if that gave none, or if
+    /// this is the first call of its run.
     fn next(
         &mut self,
         polls: &Poller,
@@ -159,11 +160,16 @@ impl<D: Disk + Drop> Station<D> {
         turns: u64,
         run: &mut Run,
     ) -> Result<(), StationFault>
-        // The calls of the source, what became of each event, what was sent, what a crash leaves and left, and that all lives go on so.
-        ensures ran { OnOk result (Ran S.gives (seen self.old (S.view source.old) (O.handed outbox.old)) (seen self.new (S.view source.new) (O.handed outbox.new)) turns run.new) }
+        // The calls of the source, what became of each event, what was sent, what a crash leaves
+        // and left, and that all lives go on so.
+        ensures ran { OnOk result (Ran S.gives (seen self.old (S.view source.old)
+            (O.handed outbox.old)) (seen self.new (S.view source.new) (O.handed outbox.new)) turns
+            run.new) }
         ensures refused { OnOk result (run.new.refused ≡ faults_in run.new.answers.items) }
-        ensures source { OnOk result (S.failures source.new ≡ failures_after run.new.source_faults (S.failures source.old)) }
-        ensures outbox { OnOk result (HasFailed (O.failures outbox.old) (O.failures outbox.new) run.new.send_faults) }
+        ensures source { OnOk result (S.failures source.new ≡ failures_after run.new.source_faults
+            (S.failures source.old)) }
+        ensures outbox { OnOk result (HasFailed (O.failures outbox.old) (O.failures outbox.new)
+            run.new.send_faults) }
         ensures fault { IfErr result (λ f. f ≡ StationFault.OutOfMemory) }
         ensures nothing { OnErr result (IsEmpty run.new) }
         // If the run has the capacity it is not refused, and it keeps it.
@@ -197,9 +203,14 @@ impl<D: Disk + Drop> Station<D> {
         requires room { length run.old.answers.items < vec_capacity run.old.answers }
         requires faults { run.old.source_faults < u64.MAX }
         requires refused { run.old.refused < u64.MAX }
-        ensures called { Called (told_of last.old S.gives) (seen self.old (S.view source.old) (O.handed outbox.old)) (seen self.new (S.view source.new) (O.handed outbox.new)) run.old run.new last.new result }
-        ensures source { (first : ℕ) → S.failures source.old ≡ failures_after run.old.source_faults first → S.failures source.new ≡ failures_after run.new.source_faults first }
-        ensures outbox { (first : ℕ) → HasFailed first (O.failures outbox.old) run.old.send_faults → HasFailed first (O.failures outbox.new) run.new.send_faults }
+        ensures called { Called (told_of last.old S.gives) (seen self.old (S.view source.old)
+            (O.handed outbox.old)) (seen self.new (S.view source.new) (O.handed outbox.new)) run.old
+            run.new last.new result }
+        ensures source { (first : ℕ) → S.failures source.old
+            ≡ failures_after run.old.source_faults first → S.failures source.new
+            ≡ failures_after run.new.source_faults first }
+        ensures outbox { (first : ℕ) → HasFailed first (O.failures outbox.old) run.old.send_faults
+            → HasFailed first (O.failures outbox.new) run.new.send_faults }
     {
         match source.next(&self.life.poller, *last) {
             Ok(Some(event)) => {
@@ -229,8 +240,10 @@ impl<D: Disk + Drop> Station<D> {
         event: OwnedEvent,
         send_faults: &mut u64,
     ) -> Answer
-        ensures turned { Turned (seen self.old (tt {0}) (O.handed outbox.old)) (seen self.new (tt {0}) (O.handed outbox.new)) event result }
-        ensures failed { (first : ℕ) → HasFailed first (O.failures outbox.old) send_faults.old → HasFailed first (O.failures outbox.new) send_faults.new }
+        ensures turned { Turned (seen self.old (tt {0}) (O.handed outbox.old))
+            (seen self.new (tt {0}) (O.handed outbox.new)) event result }
+        ensures failed { (first : ℕ) → HasFailed first (O.failures outbox.old) send_faults.old
+            → HasFailed first (O.failures outbox.new) send_faults.new }
     {
         match self.step(alloc, event.lend()) {
             Ok(told) => {
@@ -256,7 +269,8 @@ fn count_refused(refused: u64, answer: Answer) -> u64
 /// Hands datagrams to an outbox. One that could not be sent is lost.
 fn hand<O: Outbox>(outbox: &mut O, sends: &[Outgoing], send_faults: &mut u64)
     ensures handed { O.handed outbox.new ≡ extended (O.handed outbox.old) sends.now }
-    ensures failed { (first : ℕ) → HasFailed first (O.failures outbox.old) send_faults.old → HasFailed first (O.failures outbox.new) send_faults.new }
+    ensures failed { (first : ℕ) → HasFailed first (O.failures outbox.old) send_faults.old
+        → HasFailed first (O.failures outbox.new) send_faults.new }
 {
     for out in sends {
         *send_faults = failed_after(*send_faults, &outbox.send(out));

@@ -11,25 +11,31 @@ use mon_disk::{Disk, Keeper, KeeperFault, MemoryDisk};
 use mon_saved::read_image;
 use std::alloc::Global;
 
-/// The windows that an opening finds on a disk, empty ones where nothing was saved, and the disk. A file that is shorter than
-/// the layout is laid out; nothing is saved, and no incarnation is raised.
+/// The windows that an opening finds on a disk, empty ones where nothing was saved, and the disk. A
+/// file that is shorter than the layout is laid out; nothing is saved, and no incarnation is
+/// raised.
 ///
 /// # Errors
-/// With the disk: `OutOfMemory`, a fault of the keeper, `Image` where the body that was found is no image of the watch's instances.
+/// With the disk: `OutOfMemory`, a fault of the keeper, `Image` where the body that was found is no
+/// image of the watch's instances.
 pub fn saved_board<D: Disk + Drop>(
     alloc: Global,
     watch: &Watch,
     disk: D,
 ) -> Result<(Board, D), (StationFault, D)>
     // The windows are those of the body that is found in what a read gives.
-    ensures found { D.is_honest disk → IfOk result (λ r. IsBoardOf watch.now (found_body (D.seen disk)) r.0) }
+    ensures found { D.is_honest disk → IfOk result (λ r. IsBoardOf watch.now
+        (found_body (D.seen disk)) r.0) }
     // Nothing is done to the disk except what each opening of it does: a crash at any time leaves
     // what an opening takes for one of the files before.
-    ensures opening { D.is_honest disk → IfOk result (λ r. IsOpening D.seen D.may_leave D.moment D.left_since disk r.1) }
-    ensures opening_err { D.is_honest disk → IfErr result (λ e. IsOpening D.seen D.may_leave D.moment D.left_since disk e.1) }
+    ensures opening { D.is_honest disk → IfOk result (λ r. IsOpening D.seen D.may_leave D.moment
+        D.left_since disk r.1) }
+    ensures opening_err { D.is_honest disk → IfErr result (λ e. IsOpening D.seen D.may_leave
+        D.moment D.left_since disk e.1) }
     // Each fault is one of an opening and has its cause.
     ensures fault { IfErr result (λ e. IsFindingFault e.0) }
-    ensures fault_of { D.is_honest disk → IfErr result (λ e. IsFaultOfFound watch.now (D.seen disk) e.0) }
+    ensures fault_of { D.is_honest disk → IfErr result (λ e. IsFaultOfFound watch.now (D.seen disk)
+        e.0) }
     ensures honest { IfOk result (λ r. D.is_honest disk → D.is_honest r.1) }
     ensures cause { IfErr result (λ e. IsCausedBy (D.faults disk) (D.faults e.1) e.0) }
 {
@@ -42,10 +48,12 @@ pub fn saved_board<D: Disk + Drop>(
     }
 }
 
-/// The windows that an opening finds in a file of these octets, empty ones where nothing was saved. The file is not written: it is opened as a disk in memory.
+/// The windows that an opening finds in a file of these octets, empty ones where nothing was saved.
+/// The file is not written: it is opened as a disk in memory.
 ///
 /// # Errors
-/// `OutOfMemory`; `Keeper` with `Damaged` where the file is damaged; `Image` where the body that was found is no image of the watch's instances.
+/// `OutOfMemory`; `Keeper` with `Damaged` where the file is damaged; `Image` where the body that
+/// was found is no image of the watch's instances.
 pub fn board_in(alloc: Global, watch: &Watch, octets: &[u8]) -> Result<Board, StationFault>
     ensures found { IfOk result (λ board. IsBoardOf watch.now (found_body octets.now) board) }
     ensures fault { IfErr result (IsFaultOfOctets watch.now octets.now) }
@@ -69,7 +77,8 @@ fn in_memory(fault: StationFault) -> StationFault
 
 /// Returns the windows in a body, empty ones if there is no body.
 fn board_of(alloc: Global, watch: &Watch, body: Option<Vec<u8>>) -> Result<Board, StationFault>
-    ensures found { IfOk result (λ board. IsBoardOf watch.now (option_map (λ v. v.items) body) board) }
+    ensures found { IfOk result (λ board. IsBoardOf watch.now (option_map (λ v. v.items) body)
+        board) }
     ensures fault { IfErr result (IsFaultOfImage watch.now (option_map (λ v. v.items) body)) }
 {
     match body {

@@ -11,7 +11,7 @@ use crate::event::{Outgoing, To, Told};
 use crate::fault::StationFault;
 use crate::life::Life;
 use mon_ber::Octets;
-use mon_board::Pairs;
+use mon_board::InstanceSamples;
 use mon_exchange::{
     ClaimKind, ClaimRef, ExchangeFault, Portion, portions, serial_after, write_claim,
 };
@@ -26,7 +26,8 @@ impl Life {
     /// Offers the peer of this station number what it is owed.
     pub(crate) fn share(&mut self, alloc: Global, peer: u32) -> Result<Told, StationFault>
         ensures board { self.new.board ≡ self.old.board }
-        ensures answered { IsAnswered (state_of self.old) (state_of self.new) (read.Share peer) result }
+        ensures answered { IsAnswered (state_of self.old) (state_of self.new) (read.Share peer)
+            result }
         ensures few { IfOk result (λ told. length told.sends.items ≤ 512) }
         ensures refused { OnErr result (state_of self.new ≡ state_of self.old) }
     {
@@ -43,7 +44,8 @@ impl Life {
         requires slot { Some slot ≡ peer_slot self.old.peers.peers peer }
         requires small { slot < 15 }
         ensures board { self.new.board ≡ self.old.board }
-        ensures answered { IsAnswered (state_of self.old) (state_of self.new) (read.Share peer) result }
+        ensures answered { IsAnswered (state_of self.old) (state_of self.new) (read.Share peer)
+            result }
         ensures few { IfOk result (λ told. length told.sends.items ≤ 512) }
         ensures refused { OnErr result (state_of self.new ≡ state_of self.old) }
     {
@@ -53,7 +55,7 @@ impl Life {
         let (sends, serial) = self.offers(alloc, peer, portions.as_slice())?;
         self.serial = serial;
         Ok(Told {
-            taken: Pairs::new(alloc),
+            taken: InstanceSamples::new(alloc),
             sends,
             noted: None,
             given_up: None,
@@ -69,9 +71,11 @@ impl Life {
         portions: &[Portion],
     ) -> Result<(Vec<Outgoing>, u32), AllocError>
         requires { All (IsPortion (length self.now.board.watch.instances)) portions.now }
-        ensures sent { IfOk result (λ r. r.0.items ≡ map (to_peer peer) (offers_from (state_of self.now) self.now.serial portions.now)) }
+        ensures sent { IfOk result (λ r. r.0.items ≡ map (to_peer peer)
+            (offers_from (state_of self.now) self.now.serial portions.now)) }
         ensures next { IfOk result (λ r. r.1 ≡ serial_past self.now.serial portions.now) }
-        ensures claims { IfOk result (λ _. AllByRecursion IsClaim (offers_from (state_of self.now) self.now.serial portions.now)) }
+        ensures claims { IfOk result (λ _. AllByRecursion IsClaim
+            (offers_from (state_of self.now) self.now.serial portions.now)) }
     {
         let mut sends = Vec::with_capacity(alloc, portions.len())?;
         let mut serial = self.serial;
@@ -92,7 +96,8 @@ impl Life {
         portion: &Portion,
     ) -> Result<Outgoing, AllocError>
         requires { IsPortion (length self.now.board.watch.instances) portion.now }
-        ensures sent { IfOk result (λ out. out ≡ to_peer peer (offer_of (state_of self.now) serial portion.now)) }
+        ensures sent { IfOk result (λ out. out ≡ to_peer peer
+            (offer_of (state_of self.now) serial portion.now)) }
         ensures claim { IfOk result (λ _. IsClaim (offer_of (state_of self.now) serial portion.now)) }
     {
         let watched = &self.board.watch().instances()[usize::from(portion.instance)];
@@ -116,7 +121,8 @@ impl Life {
     /// How many samples are owed to the peer in this slot.
     pub(crate) fn owed_count(&self, slot: u8) -> u32
         requires { slot < 15 }
-        ensures { result ≡ owed_below (owed_to (state_of self.now) slot) (length self.now.board.watch.instances) }
+        ensures { result ≡ owed_below (owed_to (state_of self.now) slot)
+            (length self.now.board.watch.instances) }
     {
         // Proof: the invariants of the state.
         self.settled();

@@ -11,7 +11,7 @@ ghost use Rattle.mon_saved.specs.Kept.{IsKept};
 use crate::event::{Event, LentEvent, OwnedEvent, Told};
 use crate::fault::StationFault;
 use crate::life::{Life, told_none};
-use crate::mending::save_again;
+use crate::mending::reopen_and_save;
 use mon_board::Board;
 use mon_disk::{Disk, FuseDisk, Keeper, KeeperFault};
 use mon_saved::KeptImage;
@@ -22,8 +22,8 @@ use std::alloc::Global;
 pub struct Station<D: Disk + Drop> {
     pub(crate) life: Life,
     pub(crate) keeper: Keeper<D>,
-    /// The last image that was saved, behind the head that the keeper wrote. It moves with the windows, so that a save
-    /// writes little of it anew.
+    /// The last image that was saved, behind the head that the keeper wrote. It moves with the
+    /// windows, so that a save writes little of it anew.
     pub(crate) image: KeptImage,
     ghost kept: { IsKept image life.board },
 }
@@ -48,61 +48,93 @@ impl<D: Disk + Drop> Station<D> {
     /// # Errors
     /// `OutOfMemory`, which changes nothing; the refusal of a poll, a response, a claim or a share;
     /// at a save the keeper's fault. A refusal changes nothing, except that a response may end its
-    /// poll, and a save that met `DiskFault` may have been saved or not; the next save mends the file
-    /// first.
+    /// poll, and a save that met `DiskFault` may have been saved or not; the next save mends the
+    /// file first.
     pub fn step(&mut self, alloc: Global, event: LentEvent<'_>) -> Result<Told, StationFault>
         // However the event's datagram reads: the answer is the verdict, and this is what it
         // leaves, sends and reports.
-        ensures answered { (e : ReadEvent) → ReadsAs self.old.life.board.watch (owned event.entry) e → IsAnswered (state_of self.old.life) (state_of self.new.life) e result }
+        ensures answered { (e : ReadEvent) → ReadsAs self.old.life.board.watch (owned event.entry) e
+            → IsAnswered (state_of self.old.life) (state_of self.new.life) e result }
         ensures read { IsRead self.old.life.board.watch (owned event.entry) result }
-        ensures setting { setting_of (state_of self.new.life) ≡ setting_of (state_of self.old.life) }
+        ensures setting { setting_of (state_of self.new.life)
+            ≡ setting_of (state_of self.old.life) }
 
         // At most 512 datagrams are sent.
         ensures few { IfOk result (λ told. length told.sends.items ≤ 512) }
 
         // What is refused changes nothing except the open polls, and out of memory nothing at all.
-        ensures refused { OnErr result (state_of self.new.life ≡ left_polls (state_of self.old.life) self.new.life.poller.polls) }
-        ensures memory { result ≡ Err StationFault.OutOfMemory → (state_of self.new.life ≡ state_of self.old.life) × (self.new.keeper ≡ self.old.keeper) }
+        ensures refused { OnErr result (state_of self.new.life
+            ≡ left_polls (state_of self.old.life) self.new.life.poller.polls) }
+        ensures memory { result ≡ Err StationFault.OutOfMemory
+            → (state_of self.new.life ≡ state_of self.old.life)
+            × (self.new.keeper ≡ self.old.keeper) }
 
         // A timeout at which nothing is sent allocates nothing.
-        ensures spared { (id : ℕ) → owned event.entry ≡ Event.Timeout id → ¬ (IsSentAgain (timeout_verdict self.old.life.poller.targets self.old.life.poller.polls id)) → IsOk result }
+        ensures spared { (id : ℕ) → owned event.entry ≡ Event.Timeout id
+            → ¬ (IsSentAgain (timeout_verdict self.old.life.poller.targets
+            self.old.life.poller.polls id)) → IsOk result }
 
-        // A lived history goes on: with the event, as it reads, its answer and the state that it left.
-        ensures lived { (past : List (Entry × State)) → IsLived past → last_state past ≡ Some (state_of self.old.life)
-            → (e : ReadEvent) → ReadsAs self.old.life.board.watch (owned event.entry) e → IsLived ((Answered e (answer_in result), state_of self.new.life) ∷ past) }
+        // A lived history goes on: with the event, as it reads, its answer and the state that it
+        // left.
+        ensures lived { (past : List (Entry × State)) → IsLived past
+            → last_state past ≡ Some (state_of self.old.life)
+            → (e : ReadEvent) → ReadsAs self.old.life.board.watch (owned event.entry) e
+            → IsLived ((Answered e (answer_in result), state_of self.new.life) ∷ past) }
         // It is a step of the law of stops.
-        ensures happens { D.is_honest (device_of self.old.keeper) → (saved : State) → IsSavedAs saved (last_body self.old.keeper) → (e : ReadEvent) → ReadsAs self.old.life.board.watch (owned event.entry) e
-            → Happens D.seen D.may_leave D.moment D.left_since (Some (state_of self.old.life)) (Some saved) (Handled e (answer_in result) (state_of self.new.life)) (device_of self.old.keeper) (device_of self.new.keeper) }
+        ensures happens { D.is_honest (device_of self.old.keeper) → (saved : State)
+            → IsSavedAs saved (last_body self.old.keeper) → (e : ReadEvent)
+            → ReadsAs self.old.life.board.watch (owned event.entry) e
+            → Happens D.seen D.may_leave D.moment D.left_since (Some (state_of self.old.life))
+            (Some saved) (Handled e (answer_in result) (state_of self.new.life))
+            (device_of self.old.keeper) (device_of self.new.keeper) }
 
         // So is a save on a disk to which the station moved (`move_to`), from the first that is
         // answered Ok on.
-        ensures moved { D.is_honest (device_of self.old.keeper) → event.entry ≡ Event.Save → (before : D) (saved : Option State)
-            → OnOk result (Happens D.seen D.may_leave D.moment D.left_since (Some (state_of self.old.life)) saved Moved before (device_of self.new.keeper)) }
+        ensures moved { D.is_honest (device_of self.old.keeper) → event.entry ≡ Event.Save
+            → (before : D) (saved : Option State)
+            → OnOk result (Happens D.seen D.may_leave D.moment D.left_since
+            (Some (state_of self.old.life)) saved Moved before (device_of self.new.keeper)) }
 
         // A save changes nothing in memory.
         ensures same { event.entry ≡ Event.Save → self.new.life ≡ self.old.life }
 
-        // The file: no other event than a save changes it, and after one that was answered Ok a crash leaves a file in which it is found.
+        // The file: no other event than a save changes it, and after one that was answered Ok a
+        // crash leaves a file in which it is found.
         ensures disk { (event.entry ≡ Event.Save → ⊥) → self.new.keeper ≡ self.old.keeper }
-        ensures saved { D.is_honest (device_of self.old.keeper) → event.entry ≡ Event.Save → OnOk result (Leaves (D.may_leave (device_of self.new.keeper)) (FindsState (state_of self.old.life))) }
-        ensures unsaved { IfErr result (λ f. (f ≡ StationFault.Keeper KeeperFault.DiskFault → ⊥) → self.new.keeper ≡ self.old.keeper) }
+        ensures saved { D.is_honest (device_of self.old.keeper) → event.entry ≡ Event.Save
+            → OnOk result (Leaves (D.may_leave (device_of self.new.keeper))
+            (FindsState (state_of self.old.life))) }
+        ensures unsaved { IfErr result (λ f. (f ≡ StationFault.Keeper KeeperFault.DiskFault → ⊥)
+            → self.new.keeper ≡ self.old.keeper) }
         // The keeper then knows this state as the last saved, else the one before.
-        ensures last { D.is_honest (device_of self.old.keeper) → event.entry ≡ Event.Save → OnOk result (IsSavedAs (state_of self.old.life) (last_body self.new.keeper)) }
-        ensures last_err { D.is_honest (device_of self.old.keeper) → OnErr result (last_body self.new.keeper ≡ last_body self.old.keeper) }
+        ensures last { D.is_honest (device_of self.old.keeper) → event.entry ≡ Event.Save
+            → OnOk result (IsSavedAs (state_of self.old.life) (last_body self.new.keeper)) }
+        ensures last_err { D.is_honest (device_of self.old.keeper)
+            → OnErr result (last_body self.new.keeper ≡ last_body self.old.keeper) }
         // A crash in the middle leaves a file in which an opening meets what it might have met
         // before, or finds the last save again, or this one.
-        ensures any_moment { D.is_honest (device_of self.old.keeper) → LeavesSince D.moment D.left_since (device_of self.old.keeper) (device_of self.new.keeper)
+        ensures any_moment { D.is_honest (device_of self.old.keeper)
+            → LeavesSince D.moment D.left_since (device_of self.old.keeper)
+            (device_of self.new.keeper)
             (FindsRunning (may_meet self.old.keeper) (state_of self.old.life)) }
-        ensures honest { D.is_honest (device_of self.old.keeper) → D.is_honest (device_of self.new.keeper) }
+        ensures honest { D.is_honest (device_of self.old.keeper)
+            → D.is_honest (device_of self.new.keeper) }
 
         // A keeper's fault is a save's, and each has its cause.
         ensures keeper { IfErr result (λ f. IsOfKeeper f → event.entry ≡ Event.Save) }
         ensures save_fault { event.entry ≡ Event.Save → IfErr result IsSaveFault }
-        ensures count { D.faults (device_of self.old.keeper) ≤ D.faults (device_of self.new.keeper) }
-        ensures cause { IfErr result (IsCausedBy (D.faults (device_of self.old.keeper)) (D.faults (device_of self.new.keeper))) }
-        ensures no_more { event.entry ≡ Event.Save → result ≡ Err (StationFault.Keeper KeeperFault.NoMoreGenerations) → last_generation self.old.keeper ≡ 2 ^ 64 - 1 }
-        ensures no_more_found { D.is_honest (device_of self.old.keeper) → event.entry ≡ Event.Save → result ≡ Err (StationFault.Keeper KeeperFault.NoMoreGenerations) → found_generation (found SLOT_SIZE (D.seen (device_of self.old.keeper))) ≡ 2 ^ 64 - 1 }
-        ensures spoiled { event.entry ≡ Event.Save → result ≡ Err (StationFault.Keeper KeeperFault.DiskFault) → is_spoiled self.new.keeper ≡ true }
+        ensures count { D.faults (device_of self.old.keeper)
+            ≤ D.faults (device_of self.new.keeper) }
+        ensures cause { IfErr result (IsCausedBy (D.faults (device_of self.old.keeper))
+            (D.faults (device_of self.new.keeper))) }
+        ensures no_more { event.entry ≡ Event.Save → result ≡ Err
+            (StationFault.Keeper KeeperFault.NoMoreGenerations)
+            → last_generation self.old.keeper ≡ 2 ^ 64 - 1 }
+        ensures no_more_found { D.is_honest (device_of self.old.keeper) → event.entry ≡ Event.Save
+            → result ≡ Err (StationFault.Keeper KeeperFault.NoMoreGenerations)
+            → found_generation (found SLOT_SIZE (D.seen (device_of self.old.keeper))) ≡ 2 ^ 64 - 1 }
+        ensures spoiled { event.entry ≡ Event.Save → result ≡ Err
+            (StationFault.Keeper KeeperFault.DiskFault) → is_spoiled self.new.keeper ≡ true }
     {
         match event {
             Event::StartPoll(target) => self.life.start_poll(alloc, target),
@@ -120,25 +152,40 @@ impl<D: Disk + Drop> Station<D> {
     /// reopened first.
     pub(crate) fn save(&mut self, alloc: Global) -> Result<Told, StationFault>
         ensures same { self.new.life ≡ self.old.life }
-        ensures answered { IsAnswered (state_of self.old.life) (state_of self.new.life) read.Save result }
-        ensures saved { D.is_honest (device_of self.old.keeper) → OnOk result (Leaves (D.may_leave (device_of self.new.keeper)) (FindsState (state_of self.old.life))) }
-        ensures last { D.is_honest (device_of self.old.keeper) → OnOk result (IsSavedAs (state_of self.old.life) (last_body self.new.keeper)) }
-        ensures last_err { D.is_honest (device_of self.old.keeper) → OnErr result (last_body self.new.keeper ≡ last_body self.old.keeper) }
-        ensures any_moment { D.is_honest (device_of self.old.keeper) → LeavesSince D.moment D.left_since (device_of self.old.keeper) (device_of self.new.keeper)
+        ensures answered { IsAnswered (state_of self.old.life) (state_of self.new.life) read.Save
+            result }
+        ensures saved { D.is_honest (device_of self.old.keeper)
+            → OnOk result (Leaves (D.may_leave (device_of self.new.keeper))
+            (FindsState (state_of self.old.life))) }
+        ensures last { D.is_honest (device_of self.old.keeper)
+            → OnOk result (IsSavedAs (state_of self.old.life) (last_body self.new.keeper)) }
+        ensures last_err { D.is_honest (device_of self.old.keeper)
+            → OnErr result (last_body self.new.keeper ≡ last_body self.old.keeper) }
+        ensures any_moment { D.is_honest (device_of self.old.keeper)
+            → LeavesSince D.moment D.left_since (device_of self.old.keeper)
+            (device_of self.new.keeper)
             (FindsRunning (may_meet self.old.keeper) (state_of self.old.life)) }
-        ensures unsaved { IfErr result (λ f. (f ≡ StationFault.Keeper KeeperFault.DiskFault → ⊥) → self.new.keeper ≡ self.old.keeper) }
+        ensures unsaved { IfErr result (λ f. (f ≡ StationFault.Keeper KeeperFault.DiskFault → ⊥)
+            → self.new.keeper ≡ self.old.keeper) }
         ensures fault { IfErr result IsSaveFault }
-        ensures honest { D.is_honest (device_of self.old.keeper) → D.is_honest (device_of self.new.keeper) }
+        ensures honest { D.is_honest (device_of self.old.keeper)
+            → D.is_honest (device_of self.new.keeper) }
         ensures fresh { OnOk result (is_spoiled self.new.keeper ≡ false) }
-        ensures count { D.faults (device_of self.old.keeper) ≤ D.faults (device_of self.new.keeper) }
-        ensures cause { IfErr result (IsCausedBy (D.faults (device_of self.old.keeper)) (D.faults (device_of self.new.keeper))) }
-        ensures no_more { result ≡ Err (StationFault.Keeper KeeperFault.NoMoreGenerations) → last_generation self.old.keeper ≡ 2 ^ 64 - 1 }
-        ensures no_more_found { D.is_honest (device_of self.old.keeper) → result ≡ Err (StationFault.Keeper KeeperFault.NoMoreGenerations) → found_generation (found SLOT_SIZE (D.seen (device_of self.old.keeper))) ≡ 2 ^ 64 - 1 }
-        ensures spoiled { result ≡ Err (StationFault.Keeper KeeperFault.DiskFault) → is_spoiled self.new.keeper ≡ true }
+        ensures count { D.faults (device_of self.old.keeper)
+            ≤ D.faults (device_of self.new.keeper) }
+        ensures cause { IfErr result (IsCausedBy (D.faults (device_of self.old.keeper))
+            (D.faults (device_of self.new.keeper))) }
+        ensures no_more { result ≡ Err (StationFault.Keeper KeeperFault.NoMoreGenerations)
+            → last_generation self.old.keeper ≡ 2 ^ 64 - 1 }
+        ensures no_more_found { D.is_honest (device_of self.old.keeper)
+            → result ≡ Err (StationFault.Keeper KeeperFault.NoMoreGenerations)
+            → found_generation (found SLOT_SIZE (D.seen (device_of self.old.keeper))) ≡ 2 ^ 64 - 1 }
+        ensures spoiled { result ≡ Err (StationFault.Keeper KeeperFault.DiskFault)
+            → is_spoiled self.new.keeper ≡ true }
     {
         self.life.settled();
         self.life.image(&mut self.image)?;
-        match save_again(&mut self.keeper, self.image.octets.as_mut_slice()) {
+        match reopen_and_save(&mut self.keeper, self.image.octets.as_mut_slice()) {
             Ok(()) => Ok(told_none(alloc)),
             Err(fault) => Err(StationFault::from(fault)),
         }
@@ -168,7 +215,8 @@ impl<D: Disk + Drop> Station<D> {
     /// Returns how many samples a peer is owed: of what is in the windows, all that no claim of it
     /// in its known incarnation has said. A station that is no peer is owed nothing.
     pub fn owed(&self, peer: u32) -> u32
-        ensures { result ≡ owed_count (state_of self.now.life) (slot_of (setting_of (state_of self.now.life)).peers peer) }
+        ensures { result ≡ owed_count (state_of self.now.life)
+            (slot_of (setting_of (state_of self.now.life)).peers peer) }
     {
         match self.life.peers.slot(peer) {
             Some(slot) => self.life.owed_count(slot),
@@ -178,8 +226,10 @@ impl<D: Disk + Drop> Station<D> {
 
     /// The request-id of the oldest open poll.
     pub fn oldest(&self) -> Option<u32>
-        ensures there { IfSome result (λ id. IsTrue (map.contains_key (state_of self.now.life).poller.polls.open_polls id)) }
-        ensures least { IfSome result (λ id. (other : ℕ) → IsTrue (map.contains_key (state_of self.now.life).poller.polls.open_polls other) → id ≤ other) }
+        ensures there { IfSome result (λ id. IsTrue (map.contains_key
+            (state_of self.now.life).poller.polls.open_polls id)) }
+        ensures least { IfSome result (λ id. (other : ℕ) → IsTrue
+            (map.contains_key (state_of self.now.life).poller.polls.open_polls other) → id ≤ other) }
         ensures none { IfNone result ((state_of self.now.life).poller.polls.open_polls ≡ map.empty) }
     {
         self.life.poller.oldest()
@@ -207,7 +257,8 @@ impl<D: Disk + Drop> Station<FuseDisk<D>> {
     /// From now on `calls` calls of the disk pass, and all later ones fail and do nothing.
     pub fn set(&mut self, calls: u64)
         ensures life { self.new.life ≡ self.old.life }
-        ensures disk { under_fuse (device_of self.new.keeper) ≡ under_fuse (device_of self.old.keeper) }
+        ensures disk { under_fuse (device_of self.new.keeper)
+            ≡ under_fuse (device_of self.old.keeper) }
         ensures calls { calls_left (device_of self.new.keeper) ≡ Some calls }
         ensures spoiled { is_spoiled self.new.keeper ≡ is_spoiled self.old.keeper }
         ensures last { last_body self.new.keeper ≡ last_body self.old.keeper }

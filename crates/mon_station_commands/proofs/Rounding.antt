@@ -11,7 +11,7 @@ use Rattle.mon_host.specs.AtHost.{AtHost}
 use Rattle.mon_host.specs.Log.{GoesOnBy}
 use Rattle.mon_host.proofs.Promised.{goes_on, quietly, stays, then_fails, then_follows, weaker}
 use Rattle.mon_host.specs.Then.{Follows, Quietly}
-use Rattle.mon_rounds.specs.Course.{IsDue}
+use Rattle.mon_rounds.specs.Totals.{IsDue}
 use Rattle.mon_rounds.specs.Order.{RoundEvent}
 use Rattle.mon_station.specs.declared.running.Run.{Run}
 use Rattle.mon_station_commands.specs.Ending.{IsEnded}

@@ -1,5 +1,6 @@
 -- What `station --check` prints.
-use Rattle.std.specs.Prelude.{◌≡◌, ℕ, IsErrAnd, List, [], ◌∷◌, Option, Result, Ok, codes, string_bytes}
+use Rattle.std.specs.Prelude.{◌≡◌, ℕ, IsErrAnd, List, [], ◌∷◌, Option, Result, Ok, codes}
+use Rattle.std.specs.Prelude.{string_bytes}
 use Rattle.mon_cli.specs.declared.meaning.Printed.{Printed}
 use Rattle.mon_console.specs.Failure.{IsOfText}
 use Rattle.mon_console.specs.Files.{IsPrint}
@@ -23,7 +24,9 @@ HasFile (c ∷ cs) result = result ≡ Ok tt
 
 -- The command `station --check`: the settings and labels are read, and what limits the station is
 -- printed, if they name a file. Nothing is opened.
-abbrev pub IsCheck : (path : List ℕ) (labels : Option (List ℕ)) → Printed → (interval : ℕ) → List AtHost → Result Unit Failure → Type 0
+abbrev pub IsCheck : (path : List ℕ) (labels : Option (List ℕ)) → Printed → (interval : ℕ)
+    → List AtHost → Result Unit Failure → Type 0
 IsCheck path labels printed interval =
     Then (IsLabelled path labels printed) (λ both.
-    Then (Quietly (HasFile (string_bytes both.0.file))) (λ (has : Unit {0}). AreLimits both.0 interval))
+    Then (Quietly (HasFile (string_bytes both.0.file))) (λ (has : Unit {0}). AreLimits both.0
+    interval))

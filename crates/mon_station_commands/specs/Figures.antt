@@ -1,13 +1,14 @@
 -- What a running station says of itself.
-use Rattle.std.specs.Prelude.{◌≡◌, ℕ, zero, suc, ◌+◌, Bool, List, [], ◌∷◌, ◌++◌, Option, Some, None, is_some, map, length, slice_get, string_bytes}
+use Rattle.std.specs.Prelude.{◌≡◌, ℕ, zero, suc, ◌+◌, Bool, List, [], ◌∷◌, ◌++◌, Option, Some, None}
+use Rattle.std.specs.Prelude.{is_some, map, length, slice_get, string_bytes}
 use Rattle.std.specs.Global.{Vec}
 use Rattle.mon_page.specs.declared.figures.Figures.{Figures}
 use Rattle.mon_page.specs.declared.figures.PeerFigures.{PeerFigures}
 use Rattle.mon_page.specs.declared.figures.TargetFigures.{TargetFigures}
 use Rattle.mon_rounds.specs.Changes.{is_lost}
-use Rattle.mon_rounds.specs.Course.{debts_to}
+use Rattle.mon_rounds.specs.Totals.{debts_to}
 use Rattle.mon_rounds.specs.Freshness.{seconds_since}
-use Rattle.mon_rounds.specs.declared.course.Course.{Course}
+use Rattle.mon_rounds.specs.declared.totals.Totals.{Totals}
 use Rattle.mon_rounds.specs.declared.freshness.Freshness.{Freshness}
 use Rattle.mon_rounds.specs.declared.freshness.InstanceAge.{InstanceAge}
 use Rattle.mon_rounds.specs.declared.freshness.PeerAge.{PeerAge}
@@ -73,9 +74,9 @@ abbrev pub peer_of : (limit : ℕ) → PeerAge → PeerFigures
 peer_of limit p = record { station = p.station; rounds = p.rounds; silent = is_lost limit p }
 
 -- The figures are those of a station with this state, of what it did and received since its start,
--- with these peers and engine ids of targets, at this time in milliseconds since its start. Its last
--- round ended at `round_at`, in seconds since 1970.
-pub record AreFigures (state : State) (course : Course) (fresh : Freshness) (peers : List ℕ)
+-- with these peers and engine ids of targets, at this time in milliseconds since its start. Its
+-- last round ended at `round_at`, in seconds since 1970.
+pub record AreFigures (state : State) (course : Totals) (fresh : Freshness) (peers : List ℕ)
     (engines : List (Vec ℕ)) (now : ℕ) (round_at : Option ℕ) (reports : Reports) (f : Figures)
     : Type 0 where
   pub station : f.station ≡ reports.station

@@ -1,5 +1,6 @@
 -- Settings that change while their station runs.
-use Rattle.std.specs.Prelude.{◌≡◌, ◌==◌, ℕ, Bool, true, false, if◌then◌else◌, List, [], ◌∷◌, ◌++◌, Option, Some, None, Result, Ok, Err, codes, decimal, option_map}
+use Rattle.std.specs.Prelude.{◌≡◌, ◌==◌, ℕ, Bool, true, false, if◌then◌else◌, List, [], ◌∷◌, ◌++◌}
+use Rattle.std.specs.Prelude.{Option, Some, None, Result, Ok, Err, codes, decimal, option_map}
 use Rattle.std.specs.Result.{result_ok}
 use Rattle.std.specs.Time.{system_time_nanos}
 use Rattle.std.specs.declared.time.SystemTime.{SystemTime}
@@ -28,9 +29,9 @@ changed_line round path false = codes "snmpmon: round " ++ (decimal round ++ (co
 changed_line round path true = codes "snmpmon: round " ++ (decimal round ++ (codes ": "
     ++ (path ++ codes " changed: the station ends after this round, to be started with it\n")))
 
--- What is said of settings that changed at this time, and whether the station ends: it ends if they can
--- be used and it follows them. What is wrong with them is said as `station --check` says it. Then `after`
--- is the time that is known; none if memory ran out, so that they are read again.
+-- What is said of settings that changed at this time, and whether the station ends: it ends if they
+-- can be used and it follows them. What is wrong with them is said as `station --check` says it.
+-- Then `after` is the time that is known; none if memory ran out, so that they are read again.
 abbrev pub IsNewsSaid : (words : StationArgs) (round : ℕ) (at : SystemTime)
     → Result (StationSettings × Printing) Failure → List AtHost → (after : Option SystemTime)
     → (ends : Bool) → Type 0
@@ -45,7 +46,8 @@ pub record AreNews (words : StationArgs) (round : ℕ) (at : SystemTime) (log : 
     (after : Option SystemTime) (ends : Bool) : Type 0 where
   pub given : Result (StationSettings × Printing) Failure
   pub begin : List AtHost
-  pub read : IsLabelled words.settings.now (option_map (λ l. l.now) words.labels) words.printed begin given
+  pub read : IsLabelled words.settings.now (option_map (λ l. l.now) words.labels) words.printed
+      begin given
   pub rest : List AtHost
   pub said : IsNewsSaid words round at given rest after ends
   pub log_is : log ≡ begin ++ rest
@@ -56,8 +58,9 @@ abbrev pub IsFollowed : (words : StationArgs) (round : ℕ) (known new : Option 
 IsFollowed words round known None log after ends = (log ≡ []) × (after ≡ known) × (ends ≡ false)
 IsFollowed words round known (Some at) log after ends = AreNews words round at log after ends
 
--- Before a round it is asked when the settings were changed last, and what is new is said. `known` and
--- `after` are the time that is known before and after that, and `ends` is whether the station ends.
+-- Before a round it is asked when the settings were changed last, and what is new is said. `known`
+-- and `after` are the time that is known before and after that, and `ends` is whether the station
+-- ends.
 pub record IsSettingsLook (words : StationArgs) (round : ℕ) (known : Option SystemTime)
     (log : List AtHost) (after : Option SystemTime) (ends : Bool) : Type 0 where
   pub changed : Result SystemTime Reason
@@ -66,7 +69,8 @@ pub record IsSettingsLook (words : StationArgs) (round : ℕ) (known : Option Sy
   pub log_is : log ≡ dating_file words.settings.now changed ∷ rest
 
 -- Before the first round it is asked when the settings were changed last.
-pub record AreDated (words : StationArgs) (log : List AtHost) (known : Option SystemTime) : Type 0 where
-  pub changed : Result SystemTime Reason
-  pub known_is : known ≡ result_ok changed
-  pub log_is : log ≡ dating_file words.settings.now changed ∷ []
+pub record AreDated (words : StationArgs) (log : List AtHost) (known : Option SystemTime) : Type 0
+  where
+    pub changed : Result SystemTime Reason
+    pub known_is : known ≡ result_ok changed
+    pub log_is : log ≡ dating_file words.settings.now changed ∷ []

@@ -1,5 +1,6 @@
 -- How long a round waits, and what else limits a station.
-use Rattle.std.specs.Prelude.{ℕ, ◌+◌, ◌*◌, ◌/◌, List, [], ◌∷◌, ◌++◌, if◌then◌else◌, ◌==◌, codes, decimal, length, nat_le, string_bytes, sum_by}
+use Rattle.std.specs.Prelude.{ℕ, ◌+◌, ◌*◌, ◌/◌, List, [], ◌∷◌, ◌++◌, if◌then◌else◌, ◌==◌, codes}
+use Rattle.std.specs.Prelude.{decimal, length, nat_le, string_bytes, sum_by}
 use Rattle.mon_board.specs.declared.instance.Watched.{Watched}
 use Rattle.mon_poller.specs.declared.target.Target.{Target}
 use Rattle.mon_settings.specs.RoundTime.{greatest_tries, has_some, waits}
@@ -24,7 +25,8 @@ abbrev pub interval_line : (most interval : ℕ) → List ℕ
 interval_line most interval = if interval == 0 then []
     else if nat_le most (interval * 1000) then []
     else (codes "interval: " ++ decimal interval
-    ++ codes " s are less than the longest round; fewer tries, a smaller wait_ms or a longer --interval keep rounds on time\n")
+    ++ codes
+    " s are less than the longest round; fewer tries, a smaller wait_ms or a longer --interval keep rounds on time\n")
 
 -- how many stations poll one after another, and how long each one's turn is
 abbrev pub turn_line : (stations turn : ℕ) → List ℕ
@@ -36,7 +38,8 @@ turn_line stations turn =
 abbrev pub outlasting_line : (silent turn : ℕ) → List ℕ
 outlasting_line silent turn = if nat_le silent turn then [] else
     (codes "turns: a round of " ++ decimal silent
-    ++ codes " ms outlasts its turn; a longer --interval, fewer tries or a smaller wait_ms keep stations apart\n")
+    ++ codes
+    " ms outlasts its turn; a longer --interval, fewer tries or a smaller wait_ms keep stations apart\n")
 
 -- the lines about turns, if there is an interval and a peer
 abbrev pub turn_lines : (silent interval peers : ℕ) → List ℕ
@@ -50,11 +53,13 @@ turn_lines silent interval peers = if interval == 0 then []
 abbrev pub sample_line : (apart : ℕ) → List ℕ
 sample_line apart = if nat_le 5000 apart then [] else
     (codes "samples: one every " ++ decimal apart
-    ++ codes " ms; an agent that renews its counters less often (net-snmp's every 3 s) makes rates of 0 and too high ones: a longer --interval mends that, and --alarm-after 4 keeps most such alarms from being announced\n")
+    ++ codes
+    " ms; an agent that renews its counters less often (net-snmp's every 3 s) makes rates of 0 and too high ones: a longer --interval mends that, and --alarm-after 4 keeps most such alarms from being announced\n")
 
 -- that line for a station with these peers, if there is an interval
 abbrev pub sample_lines : (interval peers : ℕ) → List ℕ
-sample_lines interval peers = if interval == 0 then [] else sample_line (turn_of interval (peers + 1))
+sample_lines interval peers = if interval == 0 then [] else sample_line
+    (turn_of interval (peers + 1))
 
 -- of a target: its number, its address, how many objects it is asked for, and how often
 abbrev pub target_text : (number : ℕ) (at : Addr) (objects tries : ℕ) → List ℕ

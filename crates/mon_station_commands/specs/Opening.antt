@@ -1,5 +1,6 @@
 -- What is said of a station's file that could not be opened or saved.
-use Rattle.std.specs.Prelude.{◌≡◌, ◌⊎◌, ◌-◌, ◌++◌, ℕ, IsErrAnd, List, Option, Result, Ok, Err, Some, None, codes, false, length, slice_get}
+use Rattle.std.specs.Prelude.{◌≡◌, ◌⊎◌, ◌-◌, ◌++◌, ℕ, IsErrAnd, List, Option, Result, Ok, Err, Some}
+use Rattle.std.specs.Prelude.{None, codes, false, length, slice_get}
 use Rattle.std.specs.IoError.{error_kind}
 use Rattle.mon_console.specs.Failure.{HasLine, IsMemory, IsOf, IsOfStream}
 use Rattle.mon_console.specs.declared.failure.Failure.{Failure}
@@ -19,8 +20,8 @@ abbrev pub IsInUse : Fault → Type 0
 IsInUse fault = ((innermost_of fault).part ≡ codes "mon_disk") × ((innermost_of fault).number ≡ 7)
     × ((innermost_of fault).name ≡ codes "InUse")
 
--- The failure of a station's file that could not be opened: it is in use; or the system's error, with a
--- reason of its kind.
+-- The failure of a station's file that could not be opened: it is in use; or the system's error,
+-- with a reason of its kind.
 abbrev pub IsOfFile : (path : List ℕ) → OpenFault → Failure → Type 0
 IsOfFile path InUse failure = IsInUse failure.fault
     × HasLine (path ++ codes ": another process has the file open as a station's") failure.more
@@ -29,7 +30,8 @@ IsOfFile path (System error) failure =
     (reason : Why) × (reason.kind ≡ error_kind error) × IsOfStream path reason failure
 
 -- what the opening of the file at a path gave: its value, or its fault's failure
-abbrev pub IsOpenedOr : {T : Type 0} → (path : List ℕ) → Result T OpenFault → Result T Failure → Type 0
+abbrev pub IsOpenedOr : {T : Type 0} → (path : List ℕ) → Result T OpenFault → Result T Failure
+    → Type 0
 IsOpenedOr path (Ok value) result = result ≡ Ok value
 IsOpenedOr path (Err fault) result = IsErrAnd result (IsOfFile path fault)
 

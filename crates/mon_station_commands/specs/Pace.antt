@@ -13,7 +13,8 @@ use Rattle.mon_station_commands.specs.Quiet.{AreQuiet}
 -- the time was told; or that failed, which the failure says
 abbrev pub IsTime : List AtHost → Result Instant Failure → Type 0
 IsTime log (Ok now) = log ≡ Timed now ∷ []
-IsTime log (Err failure) = (why : Why) × (log ≡ Untimed why ∷ []) × IsOfStream (codes "the clock") why failure
+IsTime log (Err failure) = (why : Why) × (log ≡ Untimed why ∷ [])
+    × IsOfStream (codes "the clock") why failure
 
 -- the time was told, and this is how many milliseconds it is after another; or that failed
 abbrev pub IsPassed : (origin : Instant) → List AtHost → Result ℕ Failure → Type 0

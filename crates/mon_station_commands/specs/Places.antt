@@ -1,5 +1,6 @@
 -- Where a station is before its first round: its socket, its file and its address.
-use Rattle.std.specs.Prelude.{◌≡◌, ◌⊎◌, ℕ, Bool, true, false, IsErrAnd, List, [], ◌∷◌, ◌++◌, Option, Some, None, Result, Ok, Err, codes, string_bytes}
+use Rattle.std.specs.Prelude.{◌≡◌, ◌⊎◌, ℕ, Bool, true, false, IsErrAnd, List, [], ◌∷◌, ◌++◌, Option}
+use Rattle.std.specs.Prelude.{Some, None, Result, Ok, Err, codes, string_bytes}
 use Rattle.std.specs.IoError.{error_kind}
 use Rattle.std.specs.declared.io.Error.{Error}
 use Rattle.std.specs.declared.io.ErrorKind.{ErrorKind}
@@ -37,7 +38,8 @@ IsOfError at error = IsUnopened (Some (addr_text at)) (of_socket (error_kind err
 
 -- the failure of a socket at an address, for a reason of some kind; memory is one
 abbrev pub IsNoSocket : Addr → Failure → Type 0
-IsNoSocket at failure = (kind : ErrorKind) × IsUnopened (Some (addr_text at)) (of_socket kind) failure
+IsNoSocket at failure = (kind : ErrorKind) × IsUnopened (Some (addr_text at)) (of_socket kind)
+    failure
 
 -- what a call for a socket at an address gave: its value, or its error's failure
 abbrev pub IsHad : {T : Type 0} → Addr → Result T Error → Result T Failure → Type 0
@@ -50,7 +52,8 @@ MayBeThere path log there = (log ≡ Found path there ∷ [])
     ⊎ ((why : Why) × (log ≡ Unfound path why ∷ []) × (there ≡ true))
 
 -- The windows in a station's file are read if the file may be there. What they are is not kept.
-abbrev pub AreSavedIf : (there : Bool) → StationSettings → List AtHost → Result Unit Failure → Type 0
+abbrev pub AreSavedIf : (there : Bool) → StationSettings → List AtHost → Result Unit Failure
+    → Type 0
 AreSavedIf true s log (Ok done) =
     (board : Board) × IsSavedIn s log (let r : Result Board Failure = Ok board in r)
 AreSavedIf true s log (Err failure) = IsSavedIn s log (Err failure)
@@ -70,7 +73,8 @@ pub record IsLookedAt (s : StationSettings) (log : List AtHost) (result : Result
 -- first; else it is that of the socket.
 abbrev pub IsWithout : StationSettings → Error → List AtHost → Failure → Type 0
 IsWithout s error log failure = Then (IsLookedAt s)
-    (λ (looked : Unit {0}). Quietly (λ (r : Result Unit Failure). IsErrAnd r (IsOfError s.listen error)))
+    (λ (looked : Unit {0}). Quietly (λ (r : Result Unit Failure). IsErrAnd r
+    (IsOfError s.listen error)))
     log (Err failure)
 
 -- what the system gave for a station's socket: that socket; or its error
@@ -106,8 +110,8 @@ IsPlace s log result = (address : Result SocketAddr Error) × IsPlaceAt address 
 abbrev pub IsUnseenOpened : StationSettings → List AtHost → Result SocketAddr Failure → Type 0
 IsUnseenOpened s = Then (IsSocket s) (λ (socket : Unit {0}). IsPlace s)
 
--- A station that serves HTTP is opened: its socket, the listener at this address, and then its file.
--- The result is where it is, and where it serves HTTP.
+-- A station that serves HTTP is opened: its socket, the listener at this address, and then its
+-- file. The result is where it is, and where it serves HTTP.
 abbrev pub IsShownOpened : StationSettings → (door : Addr) → List AtHost
     → Result (SocketAddr × SocketAddr) Failure → Type 0
 IsShownOpened s door = Then (IsSocket s) (λ (socket : Unit {0}).

@@ -1,5 +1,6 @@
 -- The reports of a station.
-use Rattle.std.specs.Prelude.{◌≡◌, ◌∷◌, ◌++◌, ℕ, Bool, true, false, not, if◌then◌else◌, List, [], IfSome, Option, Some, None, is_some, Result, Ok, Err, codes, decimal}
+use Rattle.std.specs.Prelude.{◌≡◌, ◌∷◌, ◌++◌, ℕ, Bool, true, false, not, if◌then◌else◌, List, []}
+use Rattle.std.specs.Prelude.{IfSome, Option, Some, None, is_some, Result, Ok, Err, codes, decimal}
 use Rattle.std.specs.Global.{Vec}
 use Rattle.mon_alarms.specs.Announcing.{announced_states}
 use Rattle.mon_alarms.specs.declared.alarm.AlarmState.{AlarmState}
@@ -13,7 +14,7 @@ use Rattle.mon_host.specs.AtHost.{AtHost, Noted}
 use Rattle.mon_host.specs.declared.level.Level.TheVariants as level
 use Rattle.mon_host.specs.Then.{Quietly, Then}
 use Rattle.mon_page.specs.declared.figures.Figures.{Figures}
-use Rattle.mon_rounds.specs.declared.course.Course.{Course}
+use Rattle.mon_rounds.specs.declared.totals.Totals.{Totals}
 use Rattle.mon_rounds.specs.declared.freshness.Freshness.{Freshness}
 use Rattle.mon_station.specs.State.{State}
 use Rattle.mon_station_commands.specs.Figures.{AreFigures}
@@ -26,8 +27,9 @@ abbrev pub states_with : Option Figures → List AlarmState → List AlarmState
 states_with None states = []
 states_with (Some figures) states = states
 
--- A text is the report of a board, of these states of its alarms and of figures for which this holds.
--- Lines of text say nothing of figures and of what was announced, and may be made without them.
+-- A text is the report of a board, of these states of its alarms and of figures for which this
+-- holds. Lines of text say nothing of figures and of what was announced, and may be made without
+-- them.
 pub record IsReport (Holds : Figures → Type 0) (printing : Printing) (board : Board)
     (states : List AlarmState) (text : List ℕ) : Type 0 where
   pub figures : Option Figures
@@ -35,12 +37,13 @@ pub record IsReport (Holds : Figures → Type 0) (printing : Printing) (board : 
   pub needed : figures ≡ None → printing.format ≡ Text
   pub text_is : text ≡ report_by printing board (states_with figures states) figures
 
--- A text is the report of a station: of its board as it is, of what was announced of its alarms, and of
--- what it says of itself, as AreFigures has it.
-abbrev pub IsReportOf : State → Course → Freshness → (peers : List ℕ) (engines : List (Vec ℕ))
+-- A text is the report of a station: of its board as it is, of what was announced of its alarms,
+-- and of what it says of itself, as AreFigures has it.
+abbrev pub IsReportOf : State → Totals → Freshness → (peers : List ℕ) (engines : List (Vec ℕ))
     (now : ℕ) (round_at : Option ℕ) → Reports → List ℕ → Type 0
 IsReportOf state course fresh peers engines now round_at reports =
-    IsReport (AreFigures state course fresh peers engines now round_at reports) reports.printing state.board
+    IsReport (AreFigures state course fresh peers engines now round_at reports) reports.printing
+    state.board
     (announced_states course.announcer)
 
 -- a report for which this holds is printed
@@ -60,26 +63,30 @@ is_known (Some before) failure =
 -- the line of a file for reports that could not be written in a round
 abbrev pub unwritten_line : (round : ℕ) (path : List ℕ) → List ℕ
 unwritten_line round path =
-    codes "snmpmon: round " ++ (decimal round ++ (codes ": " ++ (path ++ codes " is not written\n")))
+    codes "snmpmon: round " ++ (decimal round ++ (codes ": "
+    ++ (path ++ codes " is not written\n")))
 
 -- the line of a file for reports that is written again after that
 abbrev pub written_line : (round : ℕ) (path : List ℕ) → List ℕ
 written_line round path =
-    codes "snmpmon: round " ++ (decimal round ++ (codes ": " ++ (path ++ codes " is written again\n")))
+    codes "snmpmon: round " ++ (decimal round ++ (codes ": "
+    ++ (path ++ codes " is written again\n")))
 
 -- a file for reports could not be written: that is said in a line, and why, unless it is known
-abbrev pub IsUnwritten : (known : Bool) → (round : ℕ) (path : List ℕ) → Failure → List AtHost → Type 0
+abbrev pub IsUnwritten : (known : Bool) → (round : ℕ) (path : List ℕ) → Failure → List AtHost
+    → Type 0
 IsUnwritten true round path failure log = log ≡ []
 IsUnwritten false round path failure log =
-    (rest : List AtHost) × IsTold level.Warning failure rest × (log ≡ Noted level.Warning (unwritten_line round path) ∷ rest)
+    (rest : List AtHost) × IsTold level.Warning failure rest
+    × (log ≡ Noted level.Warning (unwritten_line round path) ∷ rest)
 
 -- a file for reports is written: that is said in a line if it was not before
 abbrev pub IsAgain : (failed : Bool) → (round : ℕ) (path : List ℕ) → List AtHost → Type 0
 IsAgain false round path log = log ≡ []
 IsAgain true round path log = log ≡ Noted level.Notice (written_line round path) ∷ []
 
--- What is said of the file for reports, which was not written before for this reason, if there is one:
--- a failure that is new, and that it is written again.
+-- What is said of the file for reports, which was not written before for this reason, if there is
+-- one: a failure that is new, and that it is written again.
 abbrev pub IsChangeOut : (round : ℕ) (path : List ℕ) → Option Failure → Result Unit Failure
     → List AtHost → Type 0
 IsChangeOut round path before (Ok done) log = IsAgain (is_some before) round path log

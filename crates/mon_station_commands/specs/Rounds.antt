@@ -1,5 +1,7 @@
 -- What a station does from its first round to its last one.
-use Rattle.std.specs.Prelude.{◌≡◌, ◌⊎◌, ◌↔◌, ◌<◌, ◌≤◌, ◌-◌, ℕ, zero, suc, Bool, IsTrue, false, true, List, [], ◌++◌, Option, Some, None, Result, Ok, Err, option_map, string_bytes}
+use Rattle.std.specs.Prelude.{◌≡◌, ◌⊎◌, ◌↔◌, ◌<◌, ◌≤◌, ◌-◌, ℕ, zero, suc, Bool, IsTrue, false, true}
+use Rattle.std.specs.Prelude.{List, [], ◌++◌, Option, Some, None, Result, Ok, Err, option_map}
+use Rattle.std.specs.Prelude.{string_bytes}
 use Rattle.std.specs.Global.{Vec}
 use Rattle.mon_alarms.specs.Announcing.{Announcer}
 use Rattle.mon_cli.specs.declared.meaning.StationArgs.{StationArgs}
@@ -8,9 +10,9 @@ use Rattle.mon_console.specs.declared.failure.Failure.{Failure}
 use Rattle.mon_console.specs.declared.printing.Printing.{Printing}
 use Rattle.mon_host.specs.AtHost.{AtHost}
 use Rattle.mon_host.specs.Then.{Follows, Quietly, Then}
-use Rattle.mon_rounds.specs.Course.{IsDue}
+use Rattle.mon_rounds.specs.Totals.{IsDue}
 use Rattle.mon_rounds.specs.Order.{RoundEvent}
-use Rattle.mon_rounds.specs.declared.course.Course.{Course}
+use Rattle.mon_rounds.specs.declared.totals.Totals.{Totals}
 use Rattle.mon_rounds.specs.declared.freshness.Freshness.{Freshness}
 use Rattle.mon_station.specs.State.{State}
 use Rattle.mon_station.specs.declared.running.Run.{Run}
@@ -31,7 +33,7 @@ use Rattle.mon_udp.specs.declared.addr.Addr.{Addr}
 -- what a station is at a time at which it reports
 pub record Moment : Type 0 where
   pub state : State
-  pub course : Course
+  pub course : Totals
   pub fresh : Freshness
   pub peers : List ℕ
   pub engines : List (Vec ℕ)
@@ -40,7 +42,8 @@ pub record Moment : Type 0 where
   pub reports : Reports
 
 -- a station at a time, of which this is known
-abbrev pub moment_of : State → Course → Freshness → (peers : List ℕ) (engines : List (Vec ℕ)) (now : ℕ)
+abbrev pub moment_of : State → Totals → Freshness → (peers : List ℕ) (engines : List (Vec ℕ))
+    (now : ℕ)
     (round_at : Option ℕ) → Reports → Moment
 moment_of state course fresh peers engines now round_at reports = record {
   state = state;
@@ -63,13 +66,21 @@ IsReportAt m = IsReportOf m.state m.course m.fresh m.peers m.engines m.now m.rou
 
 -- what a station keeps before its first round
 abbrev pub nothing_kept : Kept
-nothing_kept = record { round_at = None; unsaved = None; unprinted = None; unwritten = None; strayed = false; settings_at = None; ends = false }
+nothing_kept = record {
+  round_at = None;
+  unsaved = None;
+  unprinted = None;
+  unwritten = None;
+  strayed
+      = false;
+  settings_at = None;
+  ends = false;
+}
 
 -- A round, before which it is seen that the station's file is at its path, and at whose end all is
--- saved if `saves` says so. Its lines are said, and its report is written to the file for reports, if
--- there is one.
--- `before` and `after` are what is kept; `seen` is what the windows of alarms were before, and
--- `announcer` what was announced.
+-- saved if `saves` says so. Its lines are said, and its report is written to the file for reports,
+-- if there is one. `before` and `after` are what is kept; `seen` is what the windows of alarms were
+-- before, and `announcer` what was announced.
 pub record IsRound (round : ℕ) (saves : Bool) (printing : Printing) (paths : Paths)
     (before after : Kept) (log : List AtHost) : Type 0 where
   pub targets : List Addr
@@ -89,7 +100,8 @@ pub record IsRound (round : ℕ) (saves : Bool) (printing : Printing) (paths : P
       (announced_notes printing round moment.state.board seen announcer) round true
       record before { strayed = strayed } ran begin
   pub rest : List AtHost
-  pub written : IsOut round (option_map string_bytes paths.out) (IsReportAt moment) ran.unwritten rest after.unwritten
+  pub written : IsOut round (option_map string_bytes paths.out) (IsReportAt moment) ran.unwritten
+      rest after.unwritten
   pub kept : after ≡ record ran { unwritten = after.unwritten }
   pub log_is : log ≡ look ++ (begin ++ rest)
 
@@ -115,15 +127,15 @@ IsBetween round every printing before log after =
     (IsDue round every × IsPrinted printing before log after)
     ⊎ ((¬ (IsDue round every)) × (log ≡ []) × (after ≡ before))
 
--- Before a round it is asked whether the settings changed, and what is new is said; `ends` says whether
--- the round is the last one for that.
+-- Before a round it is asked whether the settings changed, and what is new is said; `ends` says
+-- whether the round is the last one for that.
 pub record IsLook (words : StationArgs) (round : ℕ) (before after : Kept) (ends : Bool)
     (log : List AtHost) : Type 0 where
   pub look : IsSettingsLook words round before.settings_at log after.settings_at ends
   pub kept : after ≡ record before { settings_at = after.settings_at; ends = ends }
 
--- after earlier ones a look at the settings, a round more, the report after it, and the wait for the
--- next one
+-- after earlier ones a look at the settings, a round more, the report after it, and the wait for
+-- the next one
 pub record IsOneMore (Earlier : List AtHost → Kept → Type 0) (round : ℕ) (words : StationArgs)
     (printing : Printing) (paths : Paths) (log : List AtHost) (after : Kept) : Type 0 where
   pub before : Kept
@@ -144,16 +156,17 @@ pub record IsOneMore (Earlier : List AtHost → Kept → Type 0) (round : ℕ) (
   pub log_is : log ≡ (((begin ++ look) ++ run) ++ told) ++ rest
 
 -- before the first round it is asked when the settings were changed last, and that is kept
-pub record IsBegun (words : StationArgs) (start : Kept) (log : List AtHost) (after : Kept) : Type 0 where
-  pub begin : List AtHost
-  pub dated : AreDated words begin after.settings_at
-  pub kept : after ≡ record start { settings_at = after.settings_at }
-  pub rest : List AtHost
-  pub quiet : AreQuiet rest
-  pub log_is : log ≡ begin ++ rest
+pub record IsBegun (words : StationArgs) (start : Kept) (log : List AtHost) (after : Kept) : Type 0
+  where
+    pub begin : List AtHost
+    pub dated : AreDated words begin after.settings_at
+    pub kept : after ≡ record start { settings_at = after.settings_at }
+    pub rest : List AtHost
+    pub quiet : AreQuiet rest
+    pub log_is : log ≡ begin ++ rest
 
--- So many rounds were run, each with what is between it and the next. `start` and `after` are what is
--- kept before and after them.
+-- So many rounds were run, each with what is between it and the next. `start` and `after` are what
+-- is kept before and after them.
 abbrev pub AreRounds : StationArgs → Printing → (paths : Paths) → (start : Kept) → ℕ
     → List AtHost → (after : Kept) → Type 0
 AreRounds words printing paths start zero log after = IsBegun words start log after
@@ -164,12 +177,14 @@ AreRounds words printing paths start (suc n) log after =
 abbrev pub IsLast : (rounds : ℕ) → Printing → (paths : Paths) → (before after : Kept)
     → List AtHost → Type 0
 IsLast zero printing paths before after log = (log ≡ []) × (after ≡ before)
-IsLast (suc n) printing paths before after log = IsRound (suc n) true printing paths before after log
+IsLast (suc n) printing paths before after log = IsRound (suc n) true printing paths before after
+    log
 
 -- the last of so many rounds, in which a clock may fail
 abbrev pub IsLastRun : (rounds : ℕ) → Printing → (paths : Paths) → (before after : Kept)
     → List AtHost → Result Unit Failure → Type 0
-IsLastRun rounds printing paths before after log (Ok done) = IsLast rounds printing paths before after log
+IsLastRun rounds printing paths before after log (Ok done) = IsLast rounds printing paths before
+    after log
 IsLastRun rounds printing paths before after log (Err failure) = IsStopped log failure
 
 -- the settings changed, so this round is the last one: the look at them, and the round
@@ -182,8 +197,8 @@ pub record IsEndedBy (round : ℕ) (words : StationArgs) (printing : Printing) (
   pub round_is : IsRound round true printing paths looked after rest
   pub log_is : log ≡ look ++ rest
 
--- The end of a run after this number of rounds: the last one of all; or one before it, if the settings changed
--- and the station ends for that.
+-- The end of a run after this number of rounds: the last one of all; or one before it, if the
+-- settings changed and the station ends for that.
 abbrev pub IsEnd : (ran : ℕ) → StationArgs → Printing → (paths : Paths) → (before after : Kept)
     → List AtHost → Type 0
 IsEnd ran words printing paths before after log =
@@ -204,7 +219,8 @@ pub record AreAll (words : StationArgs) (printing : Printing) (paths : Paths) (s
 -- a clock failed, after a look at the settings if there was one before this round
 abbrev pub IsCut : (round : ℕ) → StationArgs → (before : Kept) → List AtHost → Failure → Type 0
 IsCut round words before log failure = IsStopped log failure
-    ⊎ ((looked : Kept) × (ends : Bool) × (look : List AtHost) × IsLook words round before looked ends look
+    ⊎ ((looked : Kept) × (ends : Bool) × (look : List AtHost)
+    × IsLook words round before looked ends look
     × (rest : List AtHost) × IsStopped rest failure × (log ≡ look ++ rest))
 
 -- A clock failed after some of the rounds, which the failure says.
@@ -227,9 +243,10 @@ AreRun words printing paths start log after (Ok done) =
 AreRun words printing paths start log after (Err failure) =
     AreCutShort words printing paths start log failure
 
--- the last report is printed: as a table, if standard output is a terminal and the arguments name no
--- format
-pub record IsLastReport (moment : Moment) (log : List AtHost) (result : Result Unit Failure) : Type 0 where
+-- the last report is printed: as a table, if standard output is a terminal and the arguments name
+-- no format
+pub record IsLastReport (moment : Moment) (log : List AtHost) (result : Result Unit Failure) : Type
+    0 where
   pub last : Printing
   pub look : List AtHost
   pub fitted : IsFitted moment.reports.printing last look
@@ -243,9 +260,9 @@ IsFinish moment after = Then (IsLastReport moment)
     (λ done. Quietly (IsEnded after.unsaved after.unprinted after.unwritten after.ends))
 
 -- A station's run from its first round on: so many rounds, each with its report, and at the end one
--- report more. All is saved at the end of the last round, and of each one that is due. Before each round
--- but the last it is asked whether the settings changed. Nothing but these reports is printed or written,
--- and nothing is read but settings that changed.
+-- report more. All is saved at the end of the last round, and of each one that is due. Before each
+-- round but the last it is asked whether the settings changed. Nothing but these reports is printed
+-- or written, and nothing is read but settings that changed.
 pub record IsRun (words : StationArgs) (printing : Printing) (paths : Paths) (start : Kept)
     (log : List AtHost) (result : Result Unit Failure) : Type 0 where
   pub after : Kept

@@ -3,7 +3,8 @@ use Rattle.std.specs.Prelude.{◌≡◌, ℕ, false, true, List, Some}
 use Rattle.mon_console.specs.Shown.{shown_by}
 use Rattle.mon_formats.specs.Formats.{formatted}
 use Rattle.mon_formats.specs.declared.format.Format.{Format}
-use Rattle.mon_formats.specs.declared.format.Format.TheVariants.{Html, Json, OpenMetrics, Prometheus}
+use Rattle.mon_formats.specs.declared.format.Format.TheVariants.{Html, Json, OpenMetrics}
+use Rattle.mon_formats.specs.declared.format.Format.TheVariants.{Prometheus}
 use Rattle.mon_file_commands.specs.Report.{entries_by}
 use Rattle.mon_station_commands.specs.declared.snapshot.Draft.{Draft}
 use Rattle.mon_station_commands.specs.declared.snapshot.Drafts.{Drafts}

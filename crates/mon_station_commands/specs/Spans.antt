@@ -1,5 +1,6 @@
 -- What is said of a round, or of the time after it.
-use Rattle.std.specs.Prelude.{◌≡◌, ◌⊎◌, ◌≤◌, ◌/◌, ℕ, Bool, true, false, IsErrAnd, List, [], ◌∷◌, ◌++◌, Option, Some, None, Result, Ok, Err, length, map, take}
+use Rattle.std.specs.Prelude.{◌≡◌, ◌⊎◌, ◌≤◌, ◌/◌, ℕ, Bool, true, false, IsErrAnd, List, [], ◌∷◌}
+use Rattle.std.specs.Prelude.{◌++◌, Option, Some, None, Result, Ok, Err, length, map, take}
 use Rattle.std.specs.List.{flat_map}
 use Rattle.std.specs.Time.{system_time_nanos}
 use Rattle.std.specs.declared.time.Instant.{Instant}
@@ -41,7 +42,8 @@ is_round Round = true
 is_round (Between milliseconds) = false
 
 -- The report of a run with these targets and events, as far as lines are made of it.
-pub record IsOfRun (targets : List Addr) (events : List RoundEvent) (run : Run) (report : RoundReport)
+pub record IsOfRun (targets : List Addr) (events : List RoundEvent) (run : Run)
+    (report : RoundReport)
     : Type 0 where
   pub noticed : report.notices.items ≡ notices_of targets events run.answers.items
   pub sources : report.source_faults ≡ run.source_faults
@@ -56,7 +58,8 @@ pub record IsOfRound (saves : Bool) (targets : List Addr) (events : List RoundEv
   pub order : IsRound (length targets) most peers saves events
 
 -- the report of a round, or of the time between two
-abbrev pub IsOfSpan : Span → (saves : Bool) → List Addr → List RoundEvent → Run → RoundReport → Type 0
+abbrev pub IsOfSpan : Span → (saves : Bool) → List Addr → List RoundEvent → Run → RoundReport
+    → Type 0
 IsOfSpan Round saves = IsOfRound saves
 IsOfSpan (Between milliseconds) saves = IsOfRun
 
@@ -67,8 +70,10 @@ IsUnsavedBy (Some number) None = ⊥
 IsUnsavedBy (Some number) (Some fault) = 1 ≤ number → number ≤ 6 → number_of fault ≡ number
 
 -- What is kept of the last round's save: after a round what its last notice says, else what it was.
-abbrev pub IsSavedAfter : (whole : Bool) → RoundReport → (before after : Option KeeperFault) → Type 0
-IsSavedAfter true report before after = IsUnsavedBy (unsaved_in (last_of report.notices.items)) after
+abbrev pub IsSavedAfter : (whole : Bool) → RoundReport → (before after : Option KeeperFault)
+    → Type 0
+IsSavedAfter true report before after = IsUnsavedBy (unsaved_in (last_of report.notices.items))
+    after
 IsSavedAfter false report before after = after ≡ before
 
 -- these troubles are said as they are known by this freshness; some lines are, if memory runs out
@@ -90,16 +95,18 @@ AreAlarms lines log (Ok done) = log ≡ map noted lines
 AreAlarms lines log (Err failure) =
     IsMemory failure × ((many : ℕ) × (log ≡ map noted (take many lines)))
 
--- What is said after the lines of a round: troubles, and the lines of alarms, which differ by whether
--- it is a whole round.
-abbrev pub AreChanges : (alarms : Bool → List (Level × List ℕ)) → (round : ℕ) → (whole : Bool) → List AtHost
+-- What is said after the lines of a round: troubles, and the lines of alarms, which differ by
+-- whether it is a whole round.
+abbrev pub AreChanges : (alarms : Bool → List (Level × List ℕ)) → (round : ℕ) → (whole : Bool)
+    → List AtHost
     → Result Unit Failure → Type 0
 AreChanges alarms round whole =
     Then (AreTroubles whole round) (λ (said : Unit {0}). AreAlarms (alarms whole))
 
--- A report was made. Its lines are said, then which agents restarted, and what changed: `alarms` are
--- the lines of alarms. `before` and `after` are what is kept of the last save.
-pub record IsReportSaid (IsReport : RoundReport → Type 0) (alarms : Bool → List (Level × List ℕ)) (round : ℕ)
+-- A report was made. Its lines are said, then which agents restarted, and what changed: `alarms`
+-- are the lines of alarms. `before` and `after` are what is kept of the last save.
+pub record IsReportSaid (IsReport : RoundReport → Type 0) (alarms : Bool → List (Level × List ℕ))
+    (round : ℕ)
     (whole : Bool) (before after : Option KeeperFault) (log : List AtHost)
     (result : Result Unit Failure) : Type 0 where
   pub report : RoundReport
@@ -117,15 +124,18 @@ abbrev pub IsNoReport : (Failure → Type 0) → List AtHost → Result Unit Fai
 IsNoReport IsWhy log result = (log ≡ []) × IsErrAnd result IsWhy
 
 -- The account of what was run: its report is said, unless there was no memory for that.
-abbrev pub IsReportOr : (IsReport : RoundReport → Type 0) → (alarms : Bool → List (Level × List ℕ)) → (round : ℕ)
-    → (whole : Bool) → (before after : Option KeeperFault) → List AtHost → Result Unit Failure → Type 0
+abbrev pub IsReportOr : (IsReport : RoundReport → Type 0) → (alarms : Bool → List (Level × List ℕ))
+    → (round : ℕ)
+    → (whole : Bool) → (before after : Option KeeperFault) → List AtHost → Result Unit Failure
+    → Type 0
 IsReportOr IsReport alarms round whole before after log result =
     (IsNoReport IsMemory log result × (after ≡ before))
     ⊎ IsReportSaid IsReport alarms round whole before after log result
 
 -- The account of a spell; or there was no memory to run it.
 abbrev pub IsAccountOf : Result Spell StationFault → (IsReport : RoundReport → Type 0)
-    → (alarms : Bool → List (Level × List ℕ)) → (round : ℕ) → (before after : Option KeeperFault) → List AtHost
+    → (alarms : Bool → List (Level × List ℕ)) → (round : ℕ) → (before after : Option KeeperFault)
+    → List AtHost
     → Result Unit Failure → Type 0
 IsAccountOf (Ok spell) IsReport alarms round before after log result =
     IsReportOr IsReport alarms round (is_round spell.span) before after log result
@@ -133,8 +143,10 @@ IsAccountOf (Err fault) IsReport alarms round before after log result =
     IsNoReport (IsPlain (station_fault fault)) log result × (after ≡ before)
 
 -- the account of a span; or there was no memory to run it
-abbrev pub IsAccount : (IsReport : RoundReport → Type 0) → (alarms : Bool → List (Level × List ℕ)) → (round : ℕ)
-    → (whole : Bool) → (before after : Option KeeperFault) → List AtHost → Result Unit Failure → Type 0
+abbrev pub IsAccount : (IsReport : RoundReport → Type 0) → (alarms : Bool → List (Level × List ℕ))
+    → (round : ℕ)
+    → (whole : Bool) → (before after : Option KeeperFault) → List AtHost → Result Unit Failure
+    → Type 0
 IsAccount IsReport alarms round whole before after log result =
     IsReportOr IsReport alarms round whole before after log result
     ⊎ (IsNoReport (IsPlain (station_fault OutOfMemory)) log result × (after ≡ before))
@@ -144,9 +156,10 @@ abbrev pub round_after : (whole : Bool) → SystemTime → Option ℕ → Option
 round_after true date before = Some (milliseconds_of (system_time_nanos date) / 1000)
 round_after false date before = before
 
--- A span was run between two looks at the clock. Then its account is given, and a failure of that is
--- said. `before` and `after` are what is kept.
-pub record IsSpan (IsReport : RoundReport → Type 0) (alarms : Bool → List (Level × List ℕ)) (round : ℕ)
+-- A span was run between two looks at the clock. Then its account is given, and a failure of that
+-- is said. `before` and `after` are what is kept.
+pub record IsSpan (IsReport : RoundReport → Type 0) (alarms : Bool → List (Level × List ℕ))
+    (round : ℕ)
     (whole : Bool) (before after : Kept) (log : List AtHost) : Type 0 where
   pub began : Instant
   pub ended : Instant
@@ -155,11 +168,13 @@ pub record IsSpan (IsReport : RoundReport → Type 0) (alarms : Bool → List (L
   pub kept : after ≡ record before { round_at = after.round_at; unsaved = after.unsaved }
   pub rest : List AtHost
   pub failure : Option Failure
-  pub account : IsTried (IsAccount IsReport alarms round whole before.unsaved after.unsaved) rest failure
+  pub account : IsTried (IsAccount IsReport alarms round whole before.unsaved after.unsaved) rest
+      failure
   pub log_is : log ≡ Timed began ∷ Timed ended ∷ Dated date ∷ rest
 
 -- a span was run; or a clock failed, and no account was given
-abbrev pub IsSpanRun : (IsReport : RoundReport → Type 0) → (alarms : Bool → List (Level × List ℕ)) → (round : ℕ)
+abbrev pub IsSpanRun : (IsReport : RoundReport → Type 0) → (alarms : Bool → List (Level × List ℕ))
+    → (round : ℕ)
     → (whole : Bool) → (before after : Kept) → List AtHost → Result Unit Failure → Type 0
 IsSpanRun IsReport alarms round whole before after log (Ok done) =
     IsSpan IsReport alarms round whole before after log

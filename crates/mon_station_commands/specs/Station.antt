@@ -1,5 +1,6 @@
 -- The command `station`: what is read, opened and said before the first round, and then the rounds.
-use Rattle.std.specs.Prelude.{◌≡◌, ℕ, Bool, true, false, List, [], ◌∷◌, Option, Some, None, Result, Ok, length, option_copied, option_map, string_bytes}
+use Rattle.std.specs.Prelude.{◌≡◌, ℕ, Bool, true, false, List, [], ◌∷◌, Option, Some, None, Result}
+use Rattle.std.specs.Prelude.{Ok, length, option_copied, option_map, string_bytes}
 use Rattle.std.specs.declared.net.socket_addr.SocketAddr.{SocketAddr}
 use Rattle.mon_cli.specs.declared.meaning.StationArgs.{StationArgs}
 use Rattle.mon_console.specs.Labelled.{IsLabelled}
@@ -54,18 +55,22 @@ IsRunOf words reports = IsRun words reports.printing
 
 -- A station whose socket and file are open begins to receive. It says where it is, which alarms are
 -- raised, and where it serves HTTP, if it does. Then come its rounds.
-abbrev pub IsWhole : StationArgs → Reports → StationSettings → SocketAddr → (web : Option SocketAddr)
+abbrev pub IsWhole : StationArgs → Reports → StationSettings → SocketAddr
+    → (web : Option SocketAddr)
     → List AtHost → Result Unit Failure → Type 0
-IsWhole words reports s at web = Then (Quietly (SomeOr (IsNoSocket s.listen))) (λ (heard : Unit {0}).
+IsWhole words reports s at web = Then (Quietly (SomeOr (IsNoSocket s.listen)))
+    (λ (heard : Unit {0}).
     Then (IsStarted reports.printing s at) (λ (state : State).
     Then (IsWebSaid web) (λ (said : Unit {0}). IsRunOf words reports)))
 
 -- a station that serves no HTTP, from its opening on
-abbrev pub IsUnseen : StationArgs → Reports → StationSettings → List AtHost → Result Unit Failure → Type 0
+abbrev pub IsUnseen : StationArgs → Reports → StationSettings → List AtHost → Result Unit Failure
+    → Type 0
 IsUnseen words reports s = Then (IsUnseenOpened s) (λ at. IsWhole words reports s at None)
 
 -- a station that serves HTTP at an address, from its opening on
-abbrev pub IsSeen : Addr → StationArgs → Reports → StationSettings → List AtHost → Result Unit Failure
+abbrev pub IsSeen : Addr → StationArgs → Reports → StationSettings → List AtHost
+    → Result Unit Failure
     → Type 0
 IsSeen door words reports s =
     Then (IsShownOpened s door) (λ both. IsWhole words reports s both.0 (Some both.1))
@@ -76,17 +81,19 @@ abbrev pub IsSeenIf : Option Addr → StationArgs → Reports → StationSetting
 IsSeenIf None words reports s log result = IsUnseen words reports s log result
 IsSeenIf (Some door) words reports s log result = IsSeen door words reports s log result
 
--- A station is run: the address for HTTP is read, then the settings, the modules and the labels. Then
--- it is opened.
+-- A station is run: the address for HTTP is read, then the settings, the modules and the labels.
+-- Then it is opened.
 abbrev pub IsRunning : StationArgs → List AtHost → Result Unit Failure → Type 0
 IsRunning words = Then (Quietly (IsDoor (option_copied words.http))) (λ door.
-    Then (IsLabelled words.settings.now (option_map (λ l. l.now) words.labels) words.printed) (λ both.
+    Then (IsLabelled words.settings.now (option_map (λ l. l.now) words.labels) words.printed)
+    (λ both.
     Then (Quietly (OrMemory (AreReports words both.0 both.1))) (λ reports.
     IsSeenIf door words reports both.0)))
 
 -- only what limits a station is printed, or it is run
 abbrev pub IsStationIf : (checks : Bool) → StationArgs → List AtHost → Result Unit Failure → Type 0
-IsStationIf true words log result = IsCheck words.settings.now (option_map (λ l. l.now) words.labels)
+IsStationIf true words log result = IsCheck words.settings.now
+    (option_map (λ l. l.now) words.labels)
     words.printed words.timing.interval log result
 IsStationIf false words log result = IsRunning words log result
 

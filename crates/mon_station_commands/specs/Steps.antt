@@ -1,5 +1,6 @@
 -- Steps of commands that have a log.
-use Rattle.std.specs.Prelude.{◌≡◌, List, [], ◌++◌, if◌then◌else◌, Option, Some, None, Result, Ok, Err}
+use Rattle.std.specs.Prelude.{◌≡◌, List, [], ◌++◌, if◌then◌else◌, Option, Some, None, Result, Ok}
+use Rattle.std.specs.Prelude.{Err}
 use Rattle.mon_console.specs.Failure.{IsTold, is_memory}
 use Rattle.mon_console.specs.declared.failure.Failure.{Failure}
 use Rattle.mon_host.specs.AtHost.{AtHost}
@@ -11,7 +12,8 @@ IsSaidOf (Ok done) log failure = (log ≡ []) × (failure ≡ None)
 IsSaidOf (Err why) log failure = IsTold level.Warning why log × (failure ≡ Some why)
 
 -- A step is done. If it fails, that is said on standard error.
-pub record IsTried (Step : List AtHost → Result Unit Failure → Type 0) (log : List AtHost) (failure : Option Failure) : Type 0 where
+pub record IsTried (Step : List AtHost → Result Unit Failure → Type 0) (log : List AtHost)
+    (failure : Option Failure) : Type 0 where
   pub given : Result Unit Failure
   pub begin : List AtHost
   pub step : Step begin given
@@ -25,7 +27,8 @@ kept_after before None = before
 kept_after before (Some failure) = if is_memory failure.fault then before else Some failure
 
 -- A step is done. If it fails, that is said and kept, except if memory ran out.
-pub record IsKeptOf (Step : List AtHost → Result Unit Failure → Type 0) (before : Option Failure) (log : List AtHost) (after : Option Failure) : Type 0 where
+pub record IsKeptOf (Step : List AtHost → Result Unit Failure → Type 0) (before : Option Failure)
+    (log : List AtHost) (after : Option Failure) : Type 0 where
   pub failure : Option Failure
   pub tried : IsTried Step log failure
   pub kept : after ≡ kept_after before failure

@@ -1,5 +1,40 @@
 -- What a running station says of troubles that begin or end.
-use Rattle.std.specs.Prelude.{◌≡◌, ◌≢◌, ◌+◌, ◌^◌, ◌-◌, ◌==◌, ◌&&◌, ℕ, zero, suc, min, nat_lt, Bool, true, false, not, if◌then◌else◌, List, [], ◌∷◌, ◌++◌, length, map, Option, Some, None, Result, Ok, Err, codes, decimal, slice_get, string_bytes, take}
+use Rattle.std.specs.Prelude.{
+  ◌≡◌,
+  ◌≢◌,
+  ◌+◌,
+  ◌^◌,
+  ◌-◌,
+  ◌==◌,
+  ◌&&◌,
+  ℕ,
+  zero,
+  suc,
+  min,
+  nat_lt,
+  Bool,
+  true,
+  false,
+  not,
+  if◌then◌else◌,
+  List,
+  [],
+  ◌∷◌,
+  ◌++◌,
+  length,
+  map,
+  Option,
+  Some,
+  None,
+  Result,
+  Ok,
+  Err,
+  codes,
+  decimal,
+  slice_get,
+  string_bytes,
+  take,
+}
 use Rattle.std.specs.List.{list_any}
 use Rattle.std.specs.Option.{option_and_then, option_map}
 use Rattle.std.specs.Str.{bytes_eq}
@@ -12,14 +47,16 @@ use Rattle.mon_formats.specs.Changes.{instance_text}
 use Rattle.mon_host.specs.AtHost.{AtHost}
 use Rattle.mon_host.specs.declared.level.Level.{Level}
 use Rattle.mon_host.specs.declared.level.Level.TheVariants as level
-use Rattle.mon_reasons.specs.Latest.{other_engine}
+use Rattle.mon_reasons.specs.NewestDatagrams.{other_engine}
 use Rattle.mon_reasons.specs.Words.{reason_text}
-use Rattle.mon_reasons.specs.declared.latest.Datagram.{Datagram}
+use Rattle.mon_reasons.specs.declared.newest_datagrams.Datagram.{Datagram}
 use Rattle.mon_reasons.specs.declared.reason.Reason.{Reason}
 use Rattle.mon_rounds.specs.Explained.{stale_reason}
 use Rattle.mon_rounds.specs.declared.changes.Change.{Change}
 use Rattle.mon_rounds.specs.declared.changes.Trouble.{Trouble}
-use Rattle.mon_rounds.specs.declared.changes.Trouble.TheVariants.{SilentTarget, OtherEngine, LateTarget, SilentPeer, OffersOften, StaleInstance}
+use Rattle.mon_rounds.specs.declared.changes.Trouble.TheVariants.{SilentTarget, OtherEngine}
+use Rattle.mon_rounds.specs.declared.changes.Trouble.TheVariants.{LateTarget, SilentPeer}
+use Rattle.mon_rounds.specs.declared.changes.Trouble.TheVariants.{OffersOften, StaleInstance}
 use Rattle.mon_rounds.specs.declared.freshness.InstanceAge.{InstanceAge}
 use Rattle.mon_rounds.specs.declared.freshness.PeerAge.{PeerAge}
 use Rattle.mon_rounds.specs.declared.freshness.TargetAge.{TargetAge}
@@ -83,21 +120,24 @@ other_if target own None = Some []
 other_if target own (Some other) = Some (other_text target other own)
 
 -- another engine answers in place of a target's, or its own answers again
-abbrev pub engine_text : List Datagram → TargetAge → (engine : List ℕ) → (begins : Bool) → Option (List ℕ)
+abbrev pub engine_text : List Datagram → TargetAge → (engine : List ℕ) → (begins : Bool)
+    → Option (List ℕ)
 engine_text latest t engine true =
     other_if (target_text t) (encode_lower engine) (other_engine t.address engine latest)
 engine_text latest t engine false =
     Some (own_text (target_text t) (encode_lower engine))
 
 -- what is said of a target and its engine id, if both are there
-abbrev pub engine_if : List Datagram → (begins : Bool) → Option TargetAge → Option (Vec ℕ) → Option (List ℕ)
+abbrev pub engine_if : List Datagram → (begins : Bool) → Option TargetAge → Option (Vec ℕ)
+    → Option (List ℕ)
 engine_if latest begins (Some t) (Some engine) = engine_text latest t engine.items begins
 engine_if latest begins _ _ = Some []
 
 -- what is said of the engine of a target, by a change
 abbrev pub engine_at : Facts → Change → Option (List ℕ)
 engine_at facts change = engine_if facts.latest.now.datagrams.items change.begins
-    (slice_get facts.freshness.now.targets.items change.number) (slice_get facts.engines.now change.number)
+    (slice_get facts.freshness.now.targets.items change.number)
+    (slice_get facts.engines.now change.number)
 
 -- what is said of a thing, nothing if it is not there
 abbrev pub said_if : {A : Type 0} → (A → List ℕ) → Option A → Option (List ℕ)
@@ -113,7 +153,8 @@ late_text false t = target_text t ++ codes " answers in time again"
 
 -- what is said of a target that is late, by a change
 abbrev pub late_at : Facts → Change → Option (List ℕ)
-late_at facts change = said_if (late_text change.begins) (slice_get facts.freshness.now.targets.items change.number)
+late_at facts change = said_if (late_text change.begins) (slice_get
+    facts.freshness.now.targets.items change.number)
 
 -- nothing comes from a peer, or something does again
 abbrev pub peer_text : (begins : Bool) → PeerAge → List ℕ
@@ -128,8 +169,10 @@ peer_at facts change =
 
 -- a peer offers more often than once an interval, or no longer does
 abbrev pub offers_text : (begins : Bool) → (station : ℕ) → List ℕ
-offers_text true station = codes "station " ++ decimal station ++ codes " offers more often than once an interval"
-offers_text false station = codes "station " ++ decimal station ++ codes " offers once an interval again"
+offers_text true station = codes "station " ++ decimal station
+    ++ codes " offers more often than once an interval"
+offers_text false station = codes "station " ++ decimal station
+    ++ codes " offers once an interval again"
 
 -- what is said of a peer that offers often, by a change
 abbrev pub offers_at : Facts → Change → Option (List ℕ)
@@ -137,8 +180,8 @@ offers_at facts change = said_if (λ p. offers_text change.begins p.station)
     (slice_get facts.freshness.now.peers.items change.number)
 
 -- ---- stale instances
--- a change, and by what others are said in one line with it: the target of a stale instance, and why
--- it is stale
+-- a change, and by what others are said in one line with it: the target of a stale instance, and
+-- why it is stale
 pub record KeyText : Type 0 where
   pub change : Change
   pub target : Option ℕ
@@ -170,7 +213,8 @@ words_if _ begins reason = []
 -- why the instance of a change becomes stale, if it does
 abbrev pub words_of : Facts → Change → List ℕ
 words_of facts change = words_if change.trouble change.begins
-    (stale_reason facts.latest.now.datagrams.items facts.freshness.now facts.board.now change.number)
+    (stale_reason facts.latest.now.datagrams.items facts.freshness.now facts.board.now
+    change.number)
 
 -- the key of a change
 abbrev pub key_of : Facts → Change → KeyText
@@ -231,7 +275,8 @@ stale_many facts key alike = said_if (λ (t : TargetAge). many_text t key alike)
 
 -- what is said of a stale instance and those that are said with it
 abbrev pub stale_at : Facts → KeyText → (alike : ℕ) → Option (List ℕ)
-stale_at facts key alike = if nat_lt 1 alike then stale_many facts key alike else stale_one facts key
+stale_at facts key alike = if nat_lt 1 alike then stale_many facts key alike
+    else stale_one facts key
 
 -- ---- all changes
 -- what is said of a trouble that begins or ends
@@ -289,7 +334,8 @@ abbrev pub AreSomeSaid : List AtHost → Type 0
 AreSomeSaid log = (lines : List Line) × AreNoted lines log
 
 -- the lines of troubles were sent; some lines were, if memory ran out
-abbrev pub AreTroublesSaid : Facts → (round : ℕ) → List Change → List AtHost → Result Unit AllocError
+abbrev pub AreTroublesSaid : Facts → (round : ℕ) → List Change → List AtHost
+    → Result Unit AllocError
     → Type 0
 AreTroublesSaid facts round changes log (Ok done) = AreAllSaid facts round changes log
 AreTroublesSaid facts round changes log (Err fault) = AreSomeSaid log

@@ -6,8 +6,8 @@ use mon_alarms::Rule;
 use mon_board::{Board, Watch, Watched};
 use std::alloc::{AllocError, Global};
 
-/// Returns a board with the samples of another one, and of its watch: in the memory of a board before,
-/// if that one has an equal watch.
+/// Returns a board with the samples of another one, and of its watch: in the memory of a board
+/// before, if that one has an equal watch.
 pub(crate) fn copy_of(
     alloc: Global,
     board: &Board,

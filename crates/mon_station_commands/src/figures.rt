@@ -15,7 +15,9 @@ pub(crate) fn make_figures<S: Receiver + Drop, O: Outbox + Drop>(
     alloc: Global,
     live: &Live<S, O>,
 ) -> Result<Figures, AllocError>
-    ensures { IfOk result (AreFigures (state_of live.now.station.life) live.now.course live.now.freshness live.now.transport.peers.items live.now.transport.engines.items live.now.ended live.now.kept.round_at live.now.reports) }
+    ensures { IfOk result (AreFigures (state_of live.now.station.life) live.now.course
+        live.now.freshness live.now.transport.peers.items live.now.transport.engines.items
+        live.now.ended live.now.kept.round_at live.now.reports) }
 {
     let fresh = &live.freshness;
     let engines = live.transport.engines.as_slice();
@@ -72,7 +74,8 @@ fn target_figures(
     now: u64,
 ) -> Result<Vec<TargetFigures>, AllocError>
     ensures said { IfOk result (λ v. map said_in v.items ≡ map (said_of now) targets.now) }
-    ensures engines { IfOk result (λ v. map engine_in v.items ≡ engines_for (length targets.now) engines.now) }
+    ensures engines { IfOk result (λ v. map engine_in v.items
+        ≡ engines_for (length targets.now) engines.now) }
 {
     let mut figures = Vec::with_capacity(alloc, targets.len())?;
     for place in 0..targets.len() {

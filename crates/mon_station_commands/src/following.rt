@@ -41,9 +41,9 @@ pub(crate) fn date_settings<H: Host, S: Receiver + Drop, O: Outbox + Drop>(
     live.kept.settings_at = host.changed(words.settings).ok();
 }
 
-/// Looks before a round whether the settings were changed. What is new is said: that the station must
-/// be restarted to use them, or what is wrong with them. If the station follows its settings, and
-/// they can be used, it ends after this round. Returns `true` in that case.
+/// Looks before a round whether the settings were changed. What is new is said: that the station
+/// must be restarted to use them, or what is wrong with them. If the station follows its settings,
+/// and they can be used, it ends after this round. Returns `true` in that case.
 pub(crate) fn look_at_settings<H: Host, S: Receiver + Drop, O: Outbox + Drop>(
     alloc: Global,
     host: &mut H,

@@ -26,9 +26,9 @@ enum Found {
     Other,
 }
 
-/// Looks before a round whether the station's file is still at its path. If it is gone, or another file
-/// is there, that is said once, and the windows are saved to the file at the path from now on, which is
-/// made if it must be. Until that works it is tried before each round.
+/// Looks before a round whether the station's file is still at its path. If it is gone, or another
+/// file is there, that is said once, and the windows are saved to the file at the path from now on,
+/// which is made if it must be. Until that works it is tried before each round.
 pub(crate) fn keep_file<
     R: Files<File = File> + AllocGlobal,
     H: Host,
@@ -72,8 +72,8 @@ fn found_at(at: (u64, u64), own: io::Result<(u64, u64)>) -> Found
     }
 }
 
-/// Has the windows saved to the file at the path, if that is not the station's. Returns `true` if that
-/// did not work.
+/// Has the windows saved to the file at the path, if that is not the station's. Returns `true` if
+/// that did not work.
 fn keep_by<R: Files<File = File> + AllocGlobal, H: Host, S: Receiver + Drop, O: Outbox + Drop>(
     rt: &R,
     host: &mut H,
@@ -81,7 +81,8 @@ fn keep_by<R: Files<File = File> + AllocGlobal, H: Host, S: Receiver + Drop, O: 
     round: u32,
     found: Found,
 ) -> bool
-    ensures kept_by { GoesOnBy (λ log. IsKeptBy found round (string_bytes live.old.reports.paths.file)
+    ensures kept_by { GoesOnBy (λ log. IsKeptBy found round (string_bytes
+        live.old.reports.paths.file)
         live.old.kept.strayed log result) (H.log host.old) (H.log host.new) }
     ensures reports { live.new.reports ≡ live.old.reports }
     ensures kept { live.new.kept ≡ live.old.kept }
@@ -93,8 +94,8 @@ fn keep_by<R: Files<File = File> + AllocGlobal, H: Host, S: Receiver + Drop, O: 
     }
 }
 
-/// Says what became of the station's file, unless that is known, and has the windows saved to the one
-/// at its path. Returns `true` if that did not work.
+/// Says what became of the station's file, unless that is known, and has the windows saved to the
+/// one at its path. Returns `true` if that did not work.
 fn take_file<R: Files<File = File> + AllocGlobal, H: Host, S: Receiver + Drop, O: Outbox + Drop>(
     rt: &R,
     host: &mut H,
@@ -102,7 +103,8 @@ fn take_file<R: Files<File = File> + AllocGlobal, H: Host, S: Receiver + Drop, O
     round: u32,
     what: &str,
 ) -> bool
-    ensures taken { GoesOnBy (λ log. IsTaken round (string_bytes live.old.reports.paths.file) what.now
+    ensures taken { GoesOnBy (λ log. IsTaken round (string_bytes live.old.reports.paths.file)
+        what.now
         live.old.kept.strayed log result) (H.log host.old) (H.log host.new) }
     ensures reports { live.new.reports ≡ live.old.reports }
     ensures kept { live.new.kept ≡ live.old.kept }
@@ -146,8 +148,8 @@ fn move_file<R: Files<File = File> + AllocGlobal, S: Receiver + Drop, O: Outbox 
     }
 }
 
-/// Says that the windows are saved again; or why not, unless that is known. Returns `true` if they are
-/// not.
+/// Says that the windows are saved again; or why not, unless that is known. Returns `true` if they
+/// are not.
 fn tell_moved<H: Host>(
     host: &mut H,
     round: u32,

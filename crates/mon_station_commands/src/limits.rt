@@ -54,9 +54,9 @@ fn limits(alloc: Global, settings: &StationSettings, interval: u32) -> Result<St
     Ok(text)
 }
 
-/// Returns within how many milliseconds of one another the rounds of a station of these settings end,
-/// with this interval in seconds (0 for none), if it is healthy: twice the longest round, and an
-/// interval.
+/// Returns within how many milliseconds of one another the rounds of a station of these settings
+/// end, with this interval in seconds (0 for none), if it is healthy: twice the longest round, and
+/// an interval.
 pub(crate) fn longest_gap(settings: &StationSettings, interval: u32) -> u64
     ensures { result ≡ longest_gap settings.now interval }
 {
@@ -139,8 +139,8 @@ fn put_outlasting(text: &mut String, silent: u64, turn: u64) -> Result<(), Alloc
     )
 }
 
-/// Adds what to do about agents that renew their counters less often than samples are taken, if these
-/// come closer together than such agents want.
+/// Adds what to do about agents that renew their counters less often than samples are taken, if
+/// these come closer together than such agents want.
 fn put_samples(text: &mut String, interval: u32, peers: usize) -> Result<(), AllocError>
     requires { peers ≤ 15 }
     ensures { OnOk result (string_bytes text.new

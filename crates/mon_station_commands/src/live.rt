@@ -26,14 +26,14 @@ use crate::showing::show_span;
 use crate::snapshot::Snapshot;
 use crate::telling::{Alarms, tell_alarms, tell_notices, tell_raised, tell_restarts};
 use crate::troubles::{Facts, tell_troubles as say_troubles};
+use mon_config::Core;
 use mon_console::{Failure, SharedPrinting};
-use mon_core::Core;
 use mon_disk::{FileDisk, KeeperFault};
 use mon_host::{Host, Level};
 use mon_poller::Target;
 use mon_rounds::{
-    Addresses, Course, Freshness, Notice, Receiver, RoundEvent, RoundReport, Rounds, Sends,
-    SocketOutbox, Span, Spell, Troubles, other_engines, polled_targets,
+    Addresses, Freshness, Notice, Receiver, RoundEvent, RoundReport, Rounds, Sends, SocketOutbox,
+    Span, Spell, Totals, Troubles, other_engines, polled_targets,
 };
 use mon_settings::{StationSettings, greatest_tries};
 use mon_station::{Outbox, Run, Station, StationFault};
@@ -49,7 +49,7 @@ pub(crate) struct Live<S: Receiver + Drop, O: Outbox + Drop> {
     pub(crate) transport: Transport<S, O>,
     /// What the last round, or the time after it, did.
     pub(crate) run: Run,
-    pub(crate) course: Course,
+    pub(crate) course: Totals,
     pub(crate) freshness: Freshness,
     /// What was said to be wrong with targets, peers and instances.
     pub(crate) troubles: Troubles,
@@ -89,8 +89,8 @@ pub(crate) struct Kept {
     pub(crate) unprinted: Option<Failure>,
     /// Why the last round's report could not be written to the file for it, if it could not.
     pub(crate) unwritten: Option<Failure>,
-    /// `true` if the station's file was not at its path before the last round, and could not be made
-    /// there.
+    /// `true` if the station's file was not at its path before the last round, and could not be
+    /// made there.
     pub(crate) strayed: bool,
     /// When its settings were changed last, if that is known.
     pub(crate) settings_at: Option<SystemTime>,
@@ -168,9 +168,9 @@ pub(crate) struct Paths {
     pub(crate) file: String,
 }
 
-/// How a station's reports are printed, which files it writes, from how many
-/// rounds without a new sample on an instance is stale, in how many looks a change of an alarm has held
-/// before it is announced, and how many seconds lie between two rounds.
+/// How a station's reports are printed, which files it writes, from how many rounds without a new
+/// sample on an instance is stale, in how many looks a change of an alarm has held before it is
+/// announced, and how many seconds lie between two rounds.
 pub(crate) struct Reports {
     /// The station's number.
     pub(crate) station: u32,
@@ -224,7 +224,8 @@ pub(crate) fn open_transport<'a, W: Sends, S: Receiver + Drop>(
     ensures failed { SomeOr (IsNoSocket settings.now.listen) result }
     ensures number { IfOk result (λ transport. transport.number ≡ settings.now.core.station) }
     ensures peers { IfOk result (λ transport. transport.peers.items ≡ settings.now.core.peers) }
-    ensures engines { IfOk result (λ transport. length transport.engines.items ≡ length settings.now.core.targets) }
+    ensures engines { IfOk result (λ transport. length transport.engines.items
+        ≡ length settings.now.core.targets) }
 {
     let receiver = or_socket_failure(alloc, settings.listen, receiver)?;
     let outbox = SocketOutbox::new(socket, addresses_of(alloc, settings)?);
@@ -245,7 +246,8 @@ pub(crate) fn make_transport<S: Receiver + Drop, O: Outbox + Drop>(
 ) -> Result<Transport<S, O>, AllocError>
     ensures number { IfOk result (λ transport. transport.number ≡ settings.now.core.station) }
     ensures peers { IfOk result (λ transport. transport.peers.items ≡ settings.now.core.peers) }
-    ensures engines { IfOk result (λ transport. length transport.engines.items ≡ length settings.now.core.targets) }
+    ensures engines { IfOk result (λ transport. length transport.engines.items
+        ≡ length settings.now.core.targets) }
 {
     let addresses = addresses_of(alloc, settings)?;
     let rounds = Rounds::new(
@@ -377,7 +379,7 @@ fn open_station(
 #[derive(Drop)]
 struct Opened {
     station: Station<FileDisk>,
-    course: Course,
+    course: Totals,
     freshness: Freshness,
 }
 
@@ -394,7 +396,7 @@ fn watched<S: Receiver + Drop, O: Outbox + Drop>(
         ≡ announcer_of after (states_of (state_of station.life).board)) }
 {
     let (addresses, polled) = (&transport.addresses, transport.polled.as_slice());
-    let course = Course::new(alloc, station.board(), after)?;
+    let course = Totals::new(alloc, station.board(), after)?;
     let freshness = Freshness::new(alloc, addresses, polled, station.board())?;
     Ok(Opened {
         station,
@@ -435,9 +437,11 @@ fn run_timed<H: Host, S: Receiver + Drop, O: Outbox + Drop>(
     live: &mut Live<S, O>,
     span: Span,
 ) -> Result<Result<Spell, StationFault>, Failure>
-    ensures timed { GoesOnBy (λ log. IsTimedRun (is_round span) live.old.kept.round_at live.new.kept.round_at
+    ensures timed { GoesOnBy (λ log. IsTimedRun (is_round span) live.old.kept.round_at
+        live.new.kept.round_at
         log result) (H.log host.old) (H.log host.new) }
-    // The station was given the events of a whole round, or what came between two, and answered them so.
+    // The station was given the events of a whole round, or what came between two, and answered
+    // them so.
     ensures ran { IfOk result (λ ran. OnOk ran (HasRun
         (IsWhole span live.old.transport.rounds.round live.new.transport.rounds.round)
         (seen live.old.station (view_of (begun span live.old.transport.rounds.round)
@@ -488,8 +492,8 @@ fn round_after(span: Span, date: u64, before: Option<u64>) -> Option<u64>
     }
 }
 
-/// Adds what was run to what is known of the station, and prints its notices; or returns why nothing
-/// was run.
+/// Adds what was run to what is known of the station, and prints its notices; or returns why
+/// nothing was run.
 fn report_run<H: Host, S: Receiver + Drop, O: Outbox + Drop>(
     alloc: Global,
     host: &mut H,
@@ -497,7 +501,8 @@ fn report_run<H: Host, S: Receiver + Drop, O: Outbox + Drop>(
     number: u32,
     ran: Result<Spell, StationFault>,
 ) -> Result<(), Failure>
-    ensures account { GoesOnBy (λ log. IsAccountOf ran (IsOfRun live.old.transport.rounds.round.targets
+    ensures account { GoesOnBy (λ log. IsAccountOf ran (IsOfRun
+        live.old.transport.rounds.round.targets
         live.old.transport.rounds.round.events live.old.run) (announced_notes live.old.reports.printing number
         (state_of live.old.station.life).board (map (λ w. w.items) live.old.course.windows.items)
         live.old.course.announcer)
@@ -630,7 +635,8 @@ fn tell_troubles<H: Host, S: Receiver + Drop, O: Outbox + Drop>(
     number: u32,
     span: Span,
 ) -> Result<(), Failure>
-    ensures said { GoesOnBy (λ log. AreTroubles (is_round span) number log result) (H.log host.old) (H.log host.new) }
+    ensures said { GoesOnBy (λ log. AreTroubles (is_round span) number log result) (H.log host.old)
+        (H.log host.new) }
     ensures printing { live.new.reports.printing ≡ live.old.reports.printing }
     ensures paths { live.new.reports.paths ≡ live.old.reports.paths }
     ensures kept { live.new.kept ≡ live.old.kept }
@@ -687,7 +693,8 @@ fn report_troubles<H: Host, S: Receiver + Drop, O: Outbox + Drop>(
 /// Returns why the save of a report's round failed, if it did.
 fn save_fault(report: &RoundReport) -> Option<KeeperFault>
     ensures some { is_some result ≡ is_some (unsaved_in (last_of report.now.notices.items)) }
-    ensures which { IfSome result (λ fault. IfSome (unsaved_in (last_of report.now.notices.items)) (λ number. 1 ≤ number → number ≤ 6 → number_of fault ≡ number)) }
+    ensures which { IfSome result (λ fault. IfSome (unsaved_in (last_of report.now.notices.items))
+        (λ number. 1 ≤ number → number ≤ 6 → number_of fault ≡ number)) }
 {
     match report.notices.as_slice().last() {
         Some(Notice::NotSaved(number)) => Some(keeper_fault(*number)),

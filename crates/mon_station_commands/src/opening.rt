@@ -21,8 +21,8 @@ use std::fs::File;
 use std::io;
 use std::rt::Files;
 
-/// Returns the socket of the settings, which is taken before the file, so that of two processes over
-/// one file the second neither makes the file nor writes it; yet the faults of an existing
+/// Returns the socket of the settings, which is taken before the file, so that of two processes
+/// over one file the second neither makes the file nor writes it; yet the faults of an existing
 /// file are reported before the socket's.
 pub(crate) fn or_no_socket<T: Drop, H: Host>(
     alloc: Global,
@@ -30,7 +30,8 @@ pub(crate) fn or_no_socket<T: Drop, H: Host>(
     settings: &StationSettings,
     given: io::Result<T>,
 ) -> Result<T, Failure>
-    ensures { GoesOnBy (λ log. IsSocketOr settings.now given log result) (H.log host.old) (H.log host.new) }
+    ensures { GoesOnBy (λ log. IsSocketOr settings.now given log result) (H.log host.old)
+        (H.log host.new) }
 {
     match given {
         Ok(socket) => Ok(socket),
@@ -38,14 +39,16 @@ pub(crate) fn or_no_socket<T: Drop, H: Host>(
     }
 }
 
-/// Returns why there is no socket, after this error: a fault of the file of the settings, or the error.
+/// Returns why there is no socket, after this error: a fault of the file of the settings, or the
+/// error.
 fn without_socket<H: Host>(
     alloc: Global,
     host: &mut H,
     settings: &StationSettings,
     error: io::Error,
 ) -> Failure
-    ensures { GoesOnBy (λ log. IsWithout settings.now error log result) (H.log host.old) (H.log host.new) }
+    ensures { GoesOnBy (λ log. IsWithout settings.now error log result) (H.log host.old)
+        (H.log host.new) }
 {
     match look_at_file(alloc, host, settings) {
         Ok(()) => Failure::socket(alloc, settings.listen, error),
@@ -82,7 +85,8 @@ fn read_if<H: Host>(
     settings: &StationSettings,
     there: bool,
 ) -> Result<(), Failure>
-    ensures { GoesOnBy (λ log. AreSavedIf there settings.now log result) (H.log host.old) (H.log host.new) }
+    ensures { GoesOnBy (λ log. AreSavedIf there settings.now log result) (H.log host.old)
+        (H.log host.new) }
 {
     if !there {
         return Ok(());
@@ -170,7 +174,8 @@ fn in_use(alloc: Global, path: &str) -> Failure
     ensures part { (innermost_of result.fault).part ≡ codes "mon_disk" }
     ensures number { (innermost_of result.fault).number ≡ 7 }
     ensures name { (innermost_of result.fault).name ≡ codes "InUse" }
-    ensures more { HasLine (path.now ++ codes ": another process has the file open as a station's") result.more }
+    ensures more { HasLine (path.now ++ codes ": another process has the file open as a station's")
+        result.more }
     ensures whole { result.is_cut ≡ false }
 {
     let innermost = Innermost::new("mon_disk", OpenFault::IN_USE_NUMBER, OpenFault::IN_USE_NAME);

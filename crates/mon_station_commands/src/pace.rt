@@ -31,14 +31,14 @@ pub(crate) struct Pace {
 }
 
 /// How often a station goes on receiving between two rounds, at most.
-const MOST_RESTS: u32 = u32::MAX;
+const MAX_RESTS: u32 = u32::MAX;
 
 /// After how many milliseconds of receiving between two rounds what came is reported and shown.
 const TELL_AFTER: u32 = 1000;
 
-/// Returns when the rounds begin, the first one now. With a phase it waits for that by the wall clock;
-/// so does a station with peers for its share of the interval, so that they poll one after another.
-/// Until then it answers its peers.
+/// Returns when the rounds begin, the first one now. With a phase it waits for that by the wall
+/// clock; so does a station with peers for its share of the interval, so that they poll one after
+/// another. Until then it answers its peers.
 pub(crate) fn start_pace<H: Host, S: Shows<Snapshot> + Drop, O: Outbox + Drop>(
     alloc: Global,
     host: &mut H,
@@ -82,16 +82,21 @@ fn tell_first<H: Host>(host: &mut H, left: u64)
     );
 }
 
-/// Returns how many milliseconds after whole intervals of the wall clock rounds begin, if they keep to
-/// it: as the arguments say, or else by the station's number among its peers. (It has 15 at most.)
+/// Returns how many milliseconds after whole intervals of the wall clock rounds begin, if they keep
+/// to it: as the arguments say, or else by the station's number among its peers. (It has 15 at
+/// most.)
 fn phase<S: Receiver + Drop, O: Outbox + Drop>(
     transport: &Transport<S, O>,
     timing: Timing,
 ) -> Option<u64>
     ensures at_once { timing.interval ≡ 0 → result ≡ None }
-    ensures given { (phase : ℕ) → 1 ≤ timing.interval → timing.phase ≡ Some phase → result ≡ Some (phase % timing.interval * 1000) }
+    ensures given { (phase : ℕ) → 1 ≤ timing.interval → timing.phase ≡ Some phase
+        → result ≡ Some (phase % timing.interval * 1000) }
     ensures single { timing.phase ≡ None → transport.now.peers.items ≡ [] → result ≡ None }
-    ensures shared { 1 ≤ timing.interval → timing.phase ≡ None → 1 ≤ length transport.now.peers.items → length transport.now.peers.items ≤ 15 → result ≡ Some (share_of transport.now.number transport.now.peers.items (timing.interval * 1000)) }
+    ensures shared { 1 ≤ timing.interval → timing.phase ≡ None
+        → 1 ≤ length transport.now.peers.items → length transport.now.peers.items ≤ 15
+        → result ≡ Some (share_of transport.now.number transport.now.peers.items
+        (timing.interval * 1000)) }
 {
     let peers = transport.peers.as_slice();
     if timing.interval == 0 {
@@ -158,7 +163,7 @@ fn pause<H: Host, S: Shows<Snapshot> + Drop, O: Outbox + Drop>(
     ensures kept { live.new.kept ≡ live.old.kept }
 {
     let due = Duration::from_millis(pace.due);
-    for _ in 0..MOST_RESTS {
+    for _ in 0..MAX_RESTS {
         let left = left_of(due, now(alloc, host)?.duration_since(live.origin));
         if left == 0 {
             return Ok(());

@@ -29,7 +29,8 @@ pub(crate) fn print_between<H: Host, S: Receiver + Drop, O: Outbox + Drop>(
     host: &mut H,
     live: &mut Live<S, O>,
 )
-    ensures printed { GoesOnBy (λ log. IsKeptOf (IsReported (IsReportOf (state_of live.old.station.life) live.old.course
+    ensures printed { GoesOnBy (λ log. IsKeptOf (IsReported (IsReportOf
+        (state_of live.old.station.life) live.old.course
         live.old.freshness live.old.transport.peers.items live.old.transport.engines.items
         live.old.ended live.old.kept.round_at live.old.reports))
         live.old.kept.unprinted log live.new.kept.unprinted) (H.log host.old) (H.log host.new) }
@@ -63,7 +64,8 @@ fn try_print<H: Host, S: Receiver + Drop, O: Outbox + Drop>(
     host: &mut H,
     live: &mut Live<S, O>,
 ) -> Option<Failure>
-    ensures tried { GoesOnBy (λ log. IsTried (IsReported (IsReportOf (state_of live.old.station.life) live.old.course
+    ensures tried { GoesOnBy (λ log. IsTried (IsReported (IsReportOf
+        (state_of live.old.station.life) live.old.course
         live.old.freshness live.old.transport.peers.items live.old.transport.engines.items
         live.old.ended live.old.kept.round_at live.old.reports))
         log result) (H.log host.old) (H.log host.new) }
@@ -95,7 +97,8 @@ pub(crate) fn print_report<H: Host, S: Receiver + Drop, O: Outbox + Drop>(
     host: &mut H,
     live: &mut Live<S, O>,
 ) -> Result<(), Failure>
-    ensures report { GoesOnBy (λ log. IsReported (IsReportOf (state_of live.old.station.life) live.old.course
+    ensures report { GoesOnBy (λ log. IsReported (IsReportOf (state_of live.old.station.life)
+        live.old.course
         live.old.freshness live.old.transport.peers.items live.old.transport.engines.items
         live.old.ended live.old.kept.round_at live.old.reports)
         log result) (H.log host.old) (H.log host.new) }
@@ -118,7 +121,8 @@ pub(crate) fn print_last<H: Host, S: Receiver + Drop, O: Outbox + Drop>(
     host: &mut H,
     live: &mut Live<S, O>,
 ) -> Result<(), Failure>
-    ensures report { GoesOnBy (λ log. IsLastReport (moment_of (state_of live.old.station.life) live.old.course
+    ensures report { GoesOnBy (λ log. IsLastReport (moment_of (state_of live.old.station.life)
+        live.old.course
         live.old.freshness live.old.transport.peers.items live.old.transport.engines.items
         live.old.ended live.old.kept.round_at live.old.reports)
         log result) (H.log host.old) (H.log host.new) }
@@ -141,8 +145,8 @@ fn put_lines(lines: &mut Vec<u8>, board: &Board) -> Result<(), AllocError>
     }
 }
 
-/// Makes the report of a station's windows, of what was announced of its alarms, and of what it says
-/// of itself.
+/// Makes the report of a station's windows, of what was announced of its alarms, and of what it
+/// says of itself.
 fn report_text<S: Receiver + Drop, O: Outbox + Drop>(
     alloc: Global,
     live: &Live<S, O>,
@@ -168,7 +172,8 @@ pub(crate) fn write_out<H: Host, S: Receiver + Drop, O: Outbox + Drop>(
     live: &mut Live<S, O>,
     round: u32,
 )
-    ensures written { GoesOnBy (λ log. IsOut round (option_map string_bytes live.old.reports.paths.out)
+    ensures written { GoesOnBy (λ log. IsOut round (option_map string_bytes
+        live.old.reports.paths.out)
         (IsReportOf (state_of live.old.station.life) live.old.course
         live.old.freshness live.old.transport.peers.items live.old.transport.engines.items
         live.old.ended live.old.kept.round_at live.old.reports)
@@ -224,7 +229,8 @@ fn tell_change<H: Host>(
     before: &Option<Failure>,
     done: &Result<(), Failure>,
 )
-    ensures { GoesOnBy (IsChangeOut round path.now before.now done.now) (H.log host.old) (H.log host.new) }
+    ensures { GoesOnBy (IsChangeOut round path.now before.now done.now) (H.log host.old)
+        (H.log host.new) }
 {
     match done {
         Ok(()) => tell_written(host, round, path, before.is_some()),
@@ -250,7 +256,8 @@ fn tell_written<H: Host>(host: &mut H, round: u32, path: &str, failed: bool)
 
 /// Says that the file for reports is not written, and why.
 fn tell_unwritten<H: Host>(host: &mut H, round: u32, path: &str, failure: &Failure)
-    ensures { GoesOnBy (IsUnwritten false round path.now failure.now) (H.log host.old) (H.log host.new) }
+    ensures { GoesOnBy (IsUnwritten false round path.now failure.now) (H.log host.old)
+        (H.log host.new) }
 {
     host.note(
         Level::Warning,
@@ -276,7 +283,8 @@ fn write_file<H: Host, S: Receiver + Drop, O: Outbox + Drop>(
     live: &Live<S, O>,
     path: &str,
 ) -> Result<(), Failure>
-    ensures { GoesOnBy (λ log. IsFiled path.now (IsReportOf (state_of live.now.station.life) live.now.course
+    ensures { GoesOnBy (λ log. IsFiled path.now (IsReportOf (state_of live.now.station.life)
+        live.now.course
         live.now.freshness live.now.transport.peers.items live.now.transport.engines.items
         live.now.ended live.now.kept.round_at live.now.reports)
         log result) (H.log host.old) (H.log host.new) }

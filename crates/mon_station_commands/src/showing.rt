@@ -16,8 +16,8 @@ use mon_station::Outbox;
 use mon_web_receiver::Shows;
 use std::alloc::{AllocError, Global};
 
-/// Shows what is known after a round, or after the time between two in which something came. If there
-/// is no memory for that, nothing is shown until there is.
+/// Shows what is known after a round, or after the time between two in which something came. If
+/// there is no memory for that, nothing is shown until there is.
 pub(crate) fn show_span<S: Shows<Snapshot> + Drop, O: Outbox + Drop>(
     alloc: Global,
     live: &mut Live<S, O>,
@@ -25,7 +25,9 @@ pub(crate) fn show_span<S: Shows<Snapshot> + Drop, O: Outbox + Drop>(
     span: Span,
 )
     // After a round the site knows which one ended when, and shows what is known after it.
-    ensures shown { span ≡ Span.Round → IsShown (AreTextsOf (state_of live.old.station.life) live.old.course live.old.freshness live.old.transport.peers.items live.old.transport.engines.items live.old.ended live.old.kept.round_at live.old.reports)
+    ensures shown { span ≡ Span.Round → IsShown (AreTextsOf (state_of live.old.station.life)
+        live.old.course live.old.freshness live.old.transport.peers.items
+        live.old.transport.engines.items live.old.ended live.old.kept.round_at live.old.reports)
         (option_map (with_round live.old.ended number) (S.shown live.old.transport.rounds.receiver)) (S.shown live.new.transport.rounds.receiver) }
     ensures printing { live.new.reports.printing ≡ live.old.reports.printing }
     ensures paths { live.new.reports.paths ≡ live.old.reports.paths }
@@ -46,13 +48,15 @@ pub(crate) fn show_span<S: Shows<Snapshot> + Drop, O: Outbox + Drop>(
     show(alloc, live);
 }
 
-/// Shows what is known now. A text of it is made when it is first asked for, in the memory of what was
-/// shown before.
+/// Shows what is known now. A text of it is made when it is first asked for, in the memory of what
+/// was shown before.
 pub(crate) fn show<S: Shows<Snapshot> + Drop, O: Outbox + Drop>(
     alloc: Global,
     live: &mut Live<S, O>,
 )
-    ensures shown { IsShown (AreTextsOf (state_of live.old.station.life) live.old.course live.old.freshness live.old.transport.peers.items live.old.transport.engines.items live.old.ended live.old.kept.round_at live.old.reports)
+    ensures shown { IsShown (AreTextsOf (state_of live.old.station.life) live.old.course
+        live.old.freshness live.old.transport.peers.items live.old.transport.engines.items
+        live.old.ended live.old.kept.round_at live.old.reports)
         (S.shown live.old.transport.rounds.receiver) (S.shown live.new.transport.rounds.receiver) }
     ensures printing { live.new.reports.printing ≡ live.old.reports.printing }
     ensures paths { live.new.reports.paths ≡ live.old.reports.paths }
@@ -76,14 +80,17 @@ fn snapshot_of<S: Receiver + Drop, O: Outbox + Drop>(
 ) -> Result<Snapshot, AllocError>
     // Its texts are those of the board, of what was announced of its alarms and of what the station
     // says of itself, as they are now.
-    ensures { IfOk result (λ snapshot. AreTextsOf (state_of live.now.station.life) live.now.course live.now.freshness live.now.transport.peers.items live.now.transport.engines.items live.now.ended live.now.kept.round_at live.now.reports (texts_of snapshot.source)) }
+    ensures { IfOk result (λ snapshot. AreTextsOf (state_of live.now.station.life) live.now.course
+        live.now.freshness live.now.transport.peers.items live.now.transport.engines.items
+        live.now.ended live.now.kept.round_at live.now.reports (texts_of snapshot.source)) }
 {
     let (drafts, board) = memory_of(alloc, before);
     let source = source_of(alloc, live, board)?;
     Ok(Snapshot::new(source, drafts))
 }
 
-/// Returns the memory for texts, and that for windows: those of what was shown before, if anything was.
+/// Returns the memory for texts, and that for windows: those of what was shown before, if anything
+/// was.
 fn memory_of(alloc: Global, before: Option<Snapshot>) -> (Drafts, Option<Board>)
     ensures { AreBlank result.0 }
 {
@@ -102,7 +109,9 @@ fn source_of<S: Receiver + Drop, O: Outbox + Drop>(
     live: &Live<S, O>,
     memory: Option<Board>,
 ) -> Result<Source, AllocError>
-    ensures { IfOk result (λ source. AreTextsOf (state_of live.now.station.life) live.now.course live.now.freshness live.now.transport.peers.items live.now.transport.engines.items live.now.ended live.now.kept.round_at live.now.reports (texts_of source)) }
+    ensures { IfOk result (λ source. AreTextsOf (state_of live.now.station.life) live.now.course
+        live.now.freshness live.now.transport.peers.items live.now.transport.engines.items
+        live.now.ended live.now.kept.round_at live.now.reports (texts_of source)) }
 {
     let figures = make_figures(alloc, live)?;
     let states = live.course.announced(alloc)?;

@@ -1,5 +1,5 @@
-//! What a station shows over HTTP: what its texts are built from, as it was at one time, and the texts
-//! that were asked for since.
+//! What a station shows over HTTP: what its texts are built from, as it was at one time, and the
+//! texts that were asked for since.
 
 ghost use Rattle.std.specs.Prelude.{◌≡◌, IfOk, OnOk, false, true};
 ghost use Rattle.mon_station_commands.specs.Snapshot.{AreBlank, AreRight, IsRight, draft_for, report_of, texts_of};

@@ -149,8 +149,8 @@ fn reports_of(
     })
 }
 
-/// How many octets are reserved for an instance in a report of lines of text. Few lines are a quarter
-/// as long.
+/// How many octets are reserved for an instance in a report of lines of text. Few lines are a
+/// quarter as long.
 const LINE_SIZE: usize = 1024;
 
 /// Where a station serves HTTP, and by which names of hosts.
@@ -232,7 +232,8 @@ fn run_shown<R: Clock + Files<File = File> + Net + AllocGlobal, H: Host>(
     words: StationArgs<'_, '_>,
     front: Front<'_, '_>,
 ) -> Result<(), Failure>
-    ensures { GoesOnBy (λ log. IsSeen front.entry.at words.entry setup.reports setup.settings log result)
+    ensures { GoesOnBy (λ log. IsSeen front.entry.at words.entry setup.reports setup.settings log
+        result)
         (H.log host.old) (H.log host.new) }
 {
     let Shown {
@@ -314,8 +315,10 @@ fn open_web<R: Net + AllocGlobal>(
     timing: Timing,
 ) -> Result<(Web<Snapshot>, SocketAddr), Failure>
     ensures failed { SomeOr (IsNoSocket front.entry.at) result }
-    ensures names { IfOk result (λ web. map string_bytes web.0.table.site.names.items ≡ map (λ t. t.now) front.entry.hosts.now) }
-    ensures limit { IfOk result (λ web. web.0.table.site.limit ≡ longest_gap settings.now timing.interval) }
+    ensures names { IfOk result (λ web. map string_bytes web.0.table.site.names.items
+        ≡ map (λ t. t.now) front.entry.hosts.now) }
+    ensures limit { IfOk result (λ web. web.0.table.site.limit
+        ≡ longest_gap settings.now timing.interval) }
 {
     let (alloc, at) = (rt.alloc(), front.at);
     let door = or_socket_failure(alloc, at, Door::open(rt, at.socket()))?;
@@ -359,8 +362,8 @@ fn door_at(alloc: Global, text: &str) -> Result<Option<Addr>, Failure>
     }
 }
 
-/// Runs a station through its rounds, and prints its report. If a report between two rounds could not
-/// be printed, the last round's could not be written or its save failed, that is the failure.
+/// Runs a station through its rounds, and prints its report. If a report between two rounds could
+/// not be printed, the last round's could not be written or its save failed, that is the failure.
 fn run_rounds<
     R: Files<File = File> + AllocGlobal,
     H: Host,
@@ -376,15 +379,16 @@ fn run_rounds<
     ended(alloc, live)
 }
 
-/// Runs a station's rounds, and what is between them. If the station follows its settings, and these
-/// changed, the next round is the last one.
+/// Runs a station's rounds, and what is between them. If the station follows its settings, and
+/// these changed, the next round is the last one.
 fn run_all<
     R: Files<File = File> + AllocGlobal,
     H: Host,
     S: Shows<Snapshot> + Drop,
     O: Outbox + Drop,
 >(rt: &R, host: &mut H, live: &mut Live<S, O>, words: StationArgs<'_, '_>) -> Result<(), Failure>
-    ensures run { GoesOnBy (λ log. AreRun words.entry live.old.reports.printing live.old.reports.paths
+    ensures run { GoesOnBy (λ log. AreRun words.entry live.old.reports.printing
+        live.old.reports.paths
         live.old.kept log live.new.kept result) (H.log host.old) (H.log host.new) }
     ensures printing { live.new.reports.printing ≡ live.old.reports.printing }
     ensures paths { live.new.reports.paths ≡ live.old.reports.paths }
@@ -423,8 +427,8 @@ fn run_last<
     run_round(rt, host, live, rounds, true)
 }
 
-/// Runs a round, once it is seen that the station's file is at its path, and writes its report to the
-/// file for reports. At its end all is saved if `saves` says so.
+/// Runs a round, once it is seen that the station's file is at its path, and writes its report to
+/// the file for reports. At its end all is saved if `saves` says so.
 fn run_round<
     R: Files<File = File> + AllocGlobal,
     H: Host,
@@ -452,7 +456,8 @@ fn print_due<H: Host, S: Shows<Snapshot> + Drop, O: Outbox + Drop>(
     number: u32,
     every: u32,
 )
-    ensures run { GoesOnBy (λ log. IsBetween number every live.old.reports.printing live.old.kept log
+    ensures run { GoesOnBy (λ log. IsBetween number every live.old.reports.printing live.old.kept
+        log
         live.new.kept) (H.log host.old) (H.log host.new) }
     ensures printing { live.new.reports.printing ≡ live.old.reports.printing }
     ensures paths { live.new.reports.paths ≡ live.old.reports.paths }
@@ -470,7 +475,8 @@ fn ended<S: Receiver + Drop, O: Outbox + Drop>(
     ensures saved { OnOk result (live.old.kept.unsaved ≡ None) }
     ensures printed { OnOk result (live.old.kept.unprinted ≡ None) }
     ensures written { OnOk result (live.old.kept.unwritten ≡ None) }
-    ensures fault { (fault : KeeperFault) → live.old.kept.unsaved ≡ Some fault → IfErr result (λ failure. failure.fault ≡ Keeper fault) }
+    ensures fault { (fault : KeeperFault) → live.old.kept.unsaved ≡ Some fault
+        → IfErr result (λ failure. failure.fault ≡ Keeper fault) }
     ensures reports { IsEnded live.old.kept.unsaved live.old.kept.unprinted live.old.kept.unwritten
         live.old.kept.ends result }
     ensures done { live.old.kept.unsaved ≡ None → live.old.kept.unprinted ≡ None
@@ -498,7 +504,8 @@ fn ended_by(ends: bool) -> Result<(), Failure>
     Ok(())
 }
 
-/// Returns the paths of the file for each round's report, if there is one, and of the station's own.
+/// Returns the paths of the file for each round's report, if there is one, and of the station's
+/// own.
 fn paths_of(alloc: Global, out: Option<&str>, file: &str) -> Result<Paths, Failure>
     ensures { OrMemory (ArePaths (option_copied out.entry) file.now) result }
 {

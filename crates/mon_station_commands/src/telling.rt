@@ -92,8 +92,8 @@ fn tell_unpolled<H: Host>(host: &mut H, round: u32, number: u32, at: Addr, fault
     );
 }
 
-/// Prints that a response was refused, except if another engine than the target's answered, or if it
-/// came too late: these are said as changes.
+/// Prints that a response was refused, except if another engine than the target's answered, or if
+/// it came too late: these are said as changes.
 fn tell_response<H: Host>(host: &mut H, round: u32, from: Addr, fault: StationFault)
     ensures { GoesOnBy (AreNoted (response_lines fault))
         (H.log host.old) (H.log host.new) }
@@ -169,8 +169,8 @@ fn tell_unsaved<H: Host, S: Receiver + Drop, O: Outbox + Drop>(
     }
 }
 
-/// Returns how many responses to open polls came from addresses that are no target's, and the last of
-/// these.
+/// Returns how many responses to open polls came from addresses that are no target's, and the last
+/// of these.
 fn strays_in(notices: &[Notice]) -> (u32, Option<Addr>)
     ensures count { result.0 ≡ strays_in notices.now }
     ensures last { result.1 ≡ last_stray notices.now }

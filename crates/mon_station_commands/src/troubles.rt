@@ -11,7 +11,7 @@ use crate::telling::plural;
 use mon_board::Board;
 use mon_console::SharedPrinting;
 use mon_host::{Host, Level};
-use mon_reasons::Latest;
+use mon_reasons::NewestDatagrams;
 use mon_rounds::{Change, Freshness, InstanceAge, PeerAge, TargetAge, Trouble, explain_stale};
 use mon_station::StationFault;
 use std::alloc::{AllocError, Global};
@@ -22,7 +22,7 @@ pub(crate) struct Facts<'a> {
     pub(crate) freshness: &'a Freshness,
     /// The engine ids of targets, in their order.
     pub(crate) engines: &'a [Vec<u8>],
-    pub(crate) latest: &'a Latest,
+    pub(crate) latest: &'a NewestDatagrams,
     pub(crate) board: &'a Board,
     pub(crate) printing: &'a SharedPrinting,
 }
@@ -138,8 +138,8 @@ fn words_of(alloc: Global, facts: Facts<'_>, change: Change) -> Result<String, A
     }
 }
 
-/// Returns the text of the change at a place; an empty one if nothing is said of it, or if it is said
-/// with one before it.
+/// Returns the text of the change at a place; an empty one if nothing is said of it, or if it is
+/// said with one before it.
 fn text_at(
     alloc: Global,
     facts: Facts<'_>,
@@ -147,7 +147,8 @@ fn text_at(
     place: usize,
 ) -> Result<String, AllocError>
     requires { place < length keys.now }
-    ensures { IfOk result (λ text. IsText (text_at facts.entry (map key_in keys.now) place) (string_bytes text)) }
+    ensures { IfOk result (λ text. IsText (text_at facts.entry (map key_in keys.now) place)
+        (string_bytes text)) }
 {
     let key = &keys[place];
     if is_said_in(&keys[..place], key) {
@@ -163,8 +164,8 @@ fn is_said_in(keys: &[Key], key: &Key) -> bool
     keys.iter().any(|other| joins(other, key))
 }
 
-/// Returns `true` if two changes are said in one line: instances of one target that become stale for
-/// one reason, or that have new samples again.
+/// Returns `true` if two changes are said in one line: instances of one target that become stale
+/// for one reason, or that have new samples again.
 fn joins(one: &Key, other: &Key) -> bool
     ensures { result ≡ joins (key_in one.now) (key_in other.now) }
 {
@@ -192,7 +193,8 @@ fn count_alike(keys: &[Key], key: &Key) -> u32
 
 /// Returns what is said of a change, or of as many instances as become stale with it.
 fn key_text(alloc: Global, facts: Facts<'_>, key: &Key, alike: u32) -> Result<String, AllocError>
-    ensures { IfOk result (λ text. IsText (key_text facts.entry (key_in key.now) alike) (string_bytes text)) }
+    ensures { IfOk result (λ text. IsText (key_text facts.entry (key_in key.now) alike)
+        (string_bytes text)) }
 {
     let change = key.change;
     match change.trouble {
@@ -267,16 +269,17 @@ fn engine_at(alloc: Global, facts: Facts<'_>, change: Change) -> Result<String, 
     }
 }
 
-/// Says which engine answers in place of a target's, or that its own answers again. It says nothing if
-/// no other one is known.
+/// Says which engine answers in place of a target's, or that its own answers again. It says nothing
+/// if no other one is known.
 fn engine_text(
     alloc: Global,
-    latest: &Latest,
+    latest: &NewestDatagrams,
     target: &TargetAge,
     engine: &[u8],
     begins: bool,
 ) -> Result<String, AllocError>
-    ensures { IfOk result (λ text. IsText (engine_text latest.now.datagrams.items target.now engine.now begins) (string_bytes text)) }
+    ensures { IfOk result (λ text. IsText (engine_text latest.now.datagrams.items target.now
+        engine.now begins) (string_bytes text)) }
 {
     let text = target_text(alloc, target)?;
     let own = hex::encode(alloc, engine)?;
@@ -375,10 +378,11 @@ fn offers_text(alloc: Global, station: u32, begins: bool) -> Result<String, Allo
     }
 }
 
-/// Says that an instance has no new sample, and why, or that it has one again; of several of a target
-/// how many.
+/// Says that an instance has no new sample, and why, or that it has one again; of several of a
+/// target how many.
 fn stale_at(alloc: Global, facts: Facts<'_>, key: &Key, alike: u32) -> Result<String, AllocError>
-    ensures { IfOk result (λ text. IsText (stale_at facts.entry (key_in key.now) alike) (string_bytes text)) }
+    ensures { IfOk result (λ text. IsText (stale_at facts.entry (key_in key.now) alike)
+        (string_bytes text)) }
 {
     if alike > 1 {
         return stale_many(alloc, facts, key, alike);
@@ -388,7 +392,8 @@ fn stale_at(alloc: Global, facts: Facts<'_>, key: &Key, alike: u32) -> Result<St
 
 /// Says that an instance has no new sample, and why, or that it has one again.
 fn stale_one(alloc: Global, facts: Facts<'_>, key: &Key) -> Result<String, AllocError>
-    ensures { IfOk result (λ text. IsText (stale_one facts.entry (key_in key.now)) (string_bytes text)) }
+    ensures { IfOk result (λ text. IsText (stale_one facts.entry (key_in key.now))
+        (string_bytes text)) }
 {
     let watch = facts.board.watch();
     let Some(watched) = watch.instances().get(key.change.number) else {
@@ -404,9 +409,11 @@ fn stale_one(alloc: Global, facts: Facts<'_>, key: &Key) -> Result<String, Alloc
     Ok(text)
 }
 
-/// Says how many instances of a target have no new sample, and why, or that they have new ones again.
+/// Says how many instances of a target have no new sample, and why, or that they have new ones
+/// again.
 fn stale_many(alloc: Global, facts: Facts<'_>, key: &Key, alike: u32) -> Result<String, AllocError>
-    ensures { IfOk result (λ text. IsText (stale_many facts.entry (key_in key.now) alike) (string_bytes text)) }
+    ensures { IfOk result (λ text. IsText (stale_many facts.entry (key_in key.now) alike)
+        (string_bytes text)) }
 {
     match target_at(facts.freshness.targets(), key.target) {
         Some(target) => many_text(alloc, target, key, alike),

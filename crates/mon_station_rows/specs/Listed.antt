@@ -19,17 +19,20 @@ pub record Listing : Type 0 where
 -- events stay
 abbrev pub GivesNext : Listing → Result (Option OwnedEvent) SourceFault → Listing → Type 0
 GivesNext v (Ok event) w =
-    (v.calls_to_fault ≡ 1 → ⊥) × (w.calls_to_fault ≡ v.calls_to_fault - 1) × (v.events ≡ option_to_list event ++ w.events) × (event ≡ None → w.events ≡ [])
+    (v.calls_to_fault ≡ 1 → ⊥) × (w.calls_to_fault ≡ v.calls_to_fault - 1)
+    × (v.events ≡ option_to_list event ++ w.events) × (event ≡ None → w.events ≡ [])
 GivesNext v (Err fault) w = (v.calls_to_fault ≡ 1) × (w.calls_to_fault ≡ 0) × (w.events ≡ v.events)
 
 -- so does a call that is given any open polls, and any answer as the last one
-abbrev pub GivesListed : Listing → Open → Option Answer → Result (Option OwnedEvent) SourceFault → Listing → Type 0
+abbrev pub GivesListed : Listing → Open → Option Answer → Result (Option OwnedEvent) SourceFault
+    → Listing → Type 0
 GivesListed v polls last result w = GivesNext v result w
 
 -- A run over a list that leaves these events: it was given the others in their order, its answers
 -- are theirs, and the outbox was given what they send. Where it made fewer calls than it might,
 -- none is left.
-pub record RanOver (events left : List OwnedEvent) (handed_before handed_now : Option (List Outgoing)) (turns : ℕ) (run : Run) : Type 0 where
+pub record RanOver (events left : List OwnedEvent) (handed_before handed_now : Option
+    (List Outgoing)) (turns : ℕ) (run : Run) : Type 0 where
   pub done : List Turn
   pub given : events ≡ events_of done ++ left
   pub answers : run.answers.items ≡ answers_of done

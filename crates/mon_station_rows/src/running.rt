@@ -28,7 +28,11 @@ impl Listed {
     ghost use Rattle.mon_station_rows.specs.Listed.{GivesNext};
 
     fn given(&mut self) -> Result<Option<OwnedEvent>, SourceFault>
-        ensures given { GivesNext (record { events = self.old.events.items; calls_to_fault = self.old.calls_to_the_failing_one }) result
+        ensures given { GivesNext (record {
+          events = self.old.events.items;
+          calls_to_fault =
+              self.old.calls_to_the_failing_one;
+        }) result
             (record { events = self.new.events.items; calls_to_fault = self.new.calls_to_the_failing_one }) }
         ensures same { self.new.failures ≡ self.old.failures }
     {
@@ -46,7 +50,11 @@ impl Source for Listed {
 
     ghost View = { Listing };
 
-    ghost view = { λ s. record { events = s.events.items; calls_to_fault = s.calls_to_the_failing_one } };
+    ghost view = { λ s. record {
+      events = s.events.items;
+      calls_to_fault =
+          s.calls_to_the_failing_one;
+    } };
 
     ghost gives = { GivesListed };
 
@@ -176,7 +184,8 @@ fn run_listed<O: Outbox>(
     outbox: &mut O,
     turns: u64,
 ) -> Option<Run>
-    ensures { IfSome result (λ run. RanOver source.old.events.items source.new.events.items (O.handed outbox.old) (O.handed outbox.new) turns run) }
+    ensures { IfSome result (λ run. RanOver source.old.events.items source.new.events.items
+        (O.handed outbox.old) (O.handed outbox.new) turns run) }
 {
     let mut run = used(alloc)?;
     match station.run(alloc, source, outbox, turns, &mut run) {

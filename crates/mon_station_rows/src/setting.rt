@@ -47,7 +47,7 @@ const LONGEST: [&str; 2] = [
 ];
 
 /// How many numbers the longest name has.
-const MOST_PARTS: usize = 128;
+const MAX_PARTS: usize = 128;
 
 /// Makes the core of a station of one object: `1` and the like is the window's size, `long` has the
 /// longest engine id and name and a window of 64.
@@ -74,12 +74,12 @@ fn put_usual(text: &mut String, size: &str) -> Option<()> {
     put(text, AFTER)
 }
 
-/// Appends settings with the longest engine id and name. The name goes on with as many numbers as it
-/// may have, each 4294967295.
+/// Appends settings with the longest engine id and name. The name goes on with as many numbers as
+/// it may have, each 4294967295.
 fn put_longest(text: &mut String) -> Option<()> {
     put_before(text, "64", LONGEST[0])?;
     put(text, LONGEST[1])?;
-    for _ in LONGEST[1].split('.').count()..MOST_PARTS {
+    for _ in LONGEST[1].split('.').count()..MAX_PARTS {
         put(text, ".4294967295")?;
     }
     put(text, AFTER)

@@ -1,4 +1,5 @@
--- What holds where nothing is left of one of two lists, how many tables a list has, and how facts follow equations.
+-- What holds where nothing is left of one of two lists, how many tables a list has, and how facts
+-- follow equations.
 use Rattle.std.proofs.Common.{◌≡◌, ℕ, ◌<◌, Bool, true, false, IsTrue, List, [], ◌∷◌, length, sym, subst, ◌∙◌, arith}
 use Rattle.std.specs.Prelude.{◌==◌, if◌then◌else◌}
 use Rattle.std.specs.List.{AllZip, filter}

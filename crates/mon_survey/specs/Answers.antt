@@ -1,5 +1,38 @@
 -- What an agent answered of its interfaces: cells in the order of their names.
-use Rattle.std.specs.Prelude.{◌≡◌, ◌<◌, ◌*◌, ◌==◌, ℕ, Bool, true, false, int_le, nat_eq, nat_lt, unsigned_abs, List, [], ◌∷◌, ◌++◌, length, map, find, slice_index_or, slice_get, ◌-◌, AllPairs, Option, Some, None, option_map, Result, Ok, Err, pos, if◌then◌else◌}
+use Rattle.std.specs.Prelude.{
+  ◌≡◌,
+  ◌<◌,
+  ◌*◌,
+  ◌==◌,
+  ℕ,
+  Bool,
+  true,
+  false,
+  int_le,
+  nat_eq,
+  nat_lt,
+  unsigned_abs,
+  List,
+  [],
+  ◌∷◌,
+  ◌++◌,
+  length,
+  map,
+  find,
+  slice_index_or,
+  slice_get,
+  ◌-◌,
+  AllPairs,
+  Option,
+  Some,
+  None,
+  option_map,
+  Result,
+  Ok,
+  Err,
+  pos,
+  if◌then◌else◌,
+}
 use Rattle.std.specs.List.{filter}
 use Rattle.std.specs.Ordering.{int_eq}
 use Rattle.mon_ber.specs.declared.value.Value.{Value}
@@ -33,7 +66,9 @@ is_after cells key = is_after_one (slice_get cells (length cells - 1)) key
 -- the cells with one more, which has to come after them
 abbrev pub with_cell : List Cell → Column → ℕ → Value → Result (List Cell) SurveyFault
 with_cell cells column index v =
-    if is_after cells (key_of column index) then Ok (cells ++ (record { key = key_of column index; column = column; index = index; value = v }) ∷ []) else Err NotRising
+    if is_after cells (key_of column index) then Ok (cells ++
+    (record { key = key_of column index; column = column; index = index; value = v }) ∷ [])
+    else Err NotRising
 
 -- the cells with a value at this place
 abbrev pub at_spot : List Cell → Value → Spot → Result (List Cell) SurveyFault
@@ -84,10 +119,12 @@ number_in (Some (value.Gauge32 n)) = n
 number_in _ = 0
 
 -- An interface's speed in bits a second, by its ifHighSpeed, in units of 1,000,000, and its ifSpeed
--- (RFC 2863 section 6): by ifHighSpeed if that is above 0, else by ifSpeed. An ifSpeed of 4,294,967,295
--- says only that the speed is no less, so then it is unknown, as if both are 0. 0 if it is unknown.
+-- (RFC 2863 section 6): by ifHighSpeed if that is above 0, else by ifSpeed. An ifSpeed of
+-- 4,294,967,295 says only that the speed is no less, so then it is unknown, as if both are 0. 0 if
+-- it is unknown.
 abbrev pub speed_of : (millions plain : ℕ) → ℕ
-speed_of millions plain = if nat_lt 0 millions then millions * 1000000 else (if nat_lt plain 4294967295 then plain else 0)
+speed_of millions plain = if nat_lt 0 millions then millions * 1000000
+    else (if nat_lt plain 4294967295 then plain else 0)
 
 -- the number of an integer from 0 on; 0 for any other value
 abbrev pub positive_in : Option Value → ℕ
@@ -114,11 +151,13 @@ is_up cells index = is_one (value_at cells (If 8) index)
 
 -- an interface's ifName, or its ifDescr where it has none
 abbrev pub name_in : List Cell → ℕ → List ℕ
-name_in cells index = octets_or (octets_of (value_at cells (If 2) index)) (value_at cells (IfX 1) index)
+name_in cells index = octets_or (octets_of (value_at cells (If 2) index))
+    (value_at cells (IfX 1) index)
 
 -- an interface's speed in bits a second, 0 if it is unknown
 abbrev pub speed_in : List Cell → ℕ → ℕ
-speed_in cells index = speed_of (number_in (value_at cells (IfX 15) index)) (number_in (value_at cells (If 5) index))
+speed_in cells index = speed_of (number_in (value_at cells (IfX 15) index))
+    (number_in (value_at cells (If 5) index))
 
 -- an interface's ifType, 0 if it is absent
 abbrev pub type_in : List Cell → ℕ → ℕ

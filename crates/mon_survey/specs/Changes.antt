@@ -1,5 +1,6 @@
 -- What changes if settings poll an agent's interfaces as they are now.
-use Rattle.std.specs.Prelude.{◌==◌, ℕ, List, [], ◌∷◌, ◌++◌, Option, Some, None, map, codes, decimal, unwrap_or, if◌then◌else◌}
+use Rattle.std.specs.Prelude.{◌==◌, ℕ, List, [], ◌∷◌, ◌++◌, Option, Some, None, map, codes, decimal}
+use Rattle.std.specs.Prelude.{unwrap_or, if◌then◌else◌}
 use Rattle.std.specs.List.{concat, flat_map}
 use Rattle.mon_board.specs.declared.instance.Watched.{Watched}
 use Rattle.mon_survey.specs.declared.changes.Change.{Change}
@@ -23,11 +24,13 @@ change_of a index = change_to index (index_now a index)
 -- what became of the interfaces that settings poll, and then each new one
 abbrev pub changes_between : Choice → At → List Watched → List Change
 changes_between choice a ws =
-    flat_map (change_of a) (polled a.engine ws) ++ map (λ i. Added i) (indexes_after None (new_counters choice a ws))
+    flat_map (change_of a) (polled a.engine ws) ++ map (λ i. Added i)
+    (indexes_after None (new_counters choice a ws))
 
 -- ---- what is said of changes
 
--- an interface by its name, at most 64 octets of it as a comment shows them, or by its index if it has no name
+-- an interface by its name, at most 64 octets of it as a comment shows them, or by its index if it
+-- has no name
 abbrev pub called : List ℕ → ℕ → List ℕ
 called [] index = codes "index " ++ decimal index
 called (b ∷ bs) index = cleaned (b ∷ bs)
@@ -40,7 +43,8 @@ old_name a index = unwrap_or (name_before a.known index) []
 abbrev pub change_line : At → Change → List ℕ
 change_line a (Added index) = codes "+ " ++ called (name_in a.cells index) index ++ codes "\n"
 change_line a (Gone index) = codes "- " ++ called (old_name a index) index ++ codes "\n"
-change_line a (Moved index now) = concat (called (name_in a.cells now) index ∷ codes ": index " ∷ decimal index ∷ codes " is " ∷ decimal now ∷ codes " now\n" ∷ [])
+change_line a (Moved index now) = concat (called (name_in a.cells now) index ∷ codes ": index "
+    ∷ decimal index ∷ codes " is " ∷ decimal now ∷ codes " now\n" ∷ [])
 
 -- the lines of all changes
 abbrev pub change_lines : Choice → At → List Watched → List (List ℕ)

@@ -1,5 +1,6 @@
 -- Columns of the tables of interfaces (RFC 2863 section 6), and the names of their cells.
-use Rattle.std.specs.Prelude.{ℕ, ◌+◌, ◌*◌, Bool, true, false, nat_eq, List, [], ◌∷◌, ◌++◌, drop, if◌then◌else◌}
+use Rattle.std.specs.Prelude.{ℕ, ◌+◌, ◌*◌, Bool, true, false, nat_eq, List, [], ◌∷◌, ◌++◌, drop}
+use Rattle.std.specs.Prelude.{if◌then◌else◌}
 use Rattle.std.specs.List.{starts_with}
 use Rattle.mon_survey.specs.declared.column.Column.{Column}
 use Rattle.mon_survey.specs.declared.column.Column.TheVariants.{If, IfX}
@@ -19,10 +20,12 @@ abbrev pub column_name : Column → List ℕ
 column_name (If c) = if_entry ++ c ∷ []
 column_name (IfX c) = if_x_entry ++ c ∷ []
 
--- ifDescr, ifType, ifSpeed, ifOperStatus, the counters of ifTable; ifName, those of ifXTable, ifHighSpeed, ifAlias and ifCounterDiscontinuityTime
+-- ifDescr, ifType, ifSpeed, ifOperStatus, the counters of ifTable; ifName, those of ifXTable,
+-- ifHighSpeed, ifAlias and ifCounterDiscontinuityTime
 abbrev pub columns : List Column
 columns = If 2 ∷ If 3 ∷ If 5 ∷ If 8 ∷ If 10 ∷ If 11 ∷ If 13 ∷ If 14 ∷ If 16 ∷ If 17 ∷ If 19 ∷ If 20
-    ∷ IfX 1 ∷ IfX 2 ∷ IfX 3 ∷ IfX 4 ∷ IfX 5 ∷ IfX 6 ∷ IfX 7 ∷ IfX 8 ∷ IfX 9 ∷ IfX 10 ∷ IfX 11 ∷ IfX 12 ∷ IfX 13 ∷ IfX 15 ∷ IfX 18 ∷ IfX 19 ∷ []
+    ∷ IfX 1 ∷ IfX 2 ∷ IfX 3 ∷ IfX 4 ∷ IfX 5 ∷ IfX 6 ∷ IfX 7 ∷ IfX 8 ∷ IfX 9 ∷ IfX 10 ∷ IfX 11
+    ∷ IfX 12 ∷ IfX 13 ∷ IfX 15 ∷ IfX 18 ∷ IfX 19 ∷ []
 
 -- the name of a cell: its entry, its column and its index
 abbrev pub cell_name : Column → ℕ → List ℕ
@@ -46,4 +49,5 @@ spot_after extended _ = Ragged
 -- where a name lies
 unfoldable pub spot_of : List ℕ → Spot
 spot_of q =
-    if starts_with nat_eq q if_entry then spot_after false (drop 9 q) else (if starts_with nat_eq q if_x_entry then spot_after true (drop 10 q) else Elsewhere)
+    if starts_with nat_eq q if_entry then spot_after false (drop 9 q)
+    else (if starts_with nat_eq q if_x_entry then spot_after true (drop 10 q) else Elsewhere)

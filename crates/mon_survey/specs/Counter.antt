@@ -3,13 +3,27 @@ use Rattle.std.specs.Prelude.{ℕ, Bool, List, [], ◌∷◌, codes, if◌then�
 use Rattle.mon_survey.specs.declared.column.Column.{Column}
 use Rattle.mon_survey.specs.declared.column.Column.TheVariants.{If, IfX}
 use Rattle.mon_survey.specs.declared.counter.Counter.{Counter}
-use Rattle.mon_survey.specs.declared.counter.Counter.TheVariants.{InOctets, OutOctets, InPackets, OutPackets, InMulticasts, OutMulticasts, InBroadcasts, OutBroadcasts, InErrors, OutErrors, InDiscards, OutDiscards}
+use Rattle.mon_survey.specs.declared.counter.Counter.TheVariants.{
+  InOctets,
+  OutOctets,
+  InPackets,
+  OutPackets,
+  InMulticasts,
+  OutMulticasts,
+  InBroadcasts,
+  OutBroadcasts,
+  InErrors,
+  OutErrors,
+  InDiscards,
+  OutDiscards,
+}
 use Rattle.mon_survey.specs.declared.counter.Kind.{Kind}
 use Rattle.mon_survey.specs.declared.counter.Kind.TheVariants.{Octets, Packets, Errors, Discards}
 
 -- all counters, in the order in which they are polled
 abbrev pub every : List Counter
-every = InOctets ∷ OutOctets ∷ InPackets ∷ OutPackets ∷ InMulticasts ∷ OutMulticasts ∷ InBroadcasts ∷ OutBroadcasts ∷ InErrors ∷ OutErrors ∷ InDiscards ∷ OutDiscards ∷ []
+every = InOctets ∷ OutOctets ∷ InPackets ∷ OutPackets ∷ InMulticasts ∷ OutMulticasts ∷ InBroadcasts
+    ∷ OutBroadcasts ∷ InErrors ∷ OutErrors ∷ InDiscards ∷ OutDiscards ∷ []
 
 -- what a counter counts
 abbrev pub kind_of : Counter → Kind
@@ -48,9 +62,11 @@ label_of OutOctets wide = if wide then codes "ifHCOutOctets" else codes "ifOutOc
 label_of InPackets wide = if wide then codes "ifHCInUcastPkts" else codes "ifInUcastPkts"
 label_of OutPackets wide = if wide then codes "ifHCOutUcastPkts" else codes "ifOutUcastPkts"
 label_of InMulticasts wide = if wide then codes "ifHCInMulticastPkts" else codes "ifInMulticastPkts"
-label_of OutMulticasts wide = if wide then codes "ifHCOutMulticastPkts" else codes "ifOutMulticastPkts"
+label_of OutMulticasts wide = if wide then codes "ifHCOutMulticastPkts"
+    else codes "ifOutMulticastPkts"
 label_of InBroadcasts wide = if wide then codes "ifHCInBroadcastPkts" else codes "ifInBroadcastPkts"
-label_of OutBroadcasts wide = if wide then codes "ifHCOutBroadcastPkts" else codes "ifOutBroadcastPkts"
+label_of OutBroadcasts wide = if wide then codes "ifHCOutBroadcastPkts"
+    else codes "ifOutBroadcastPkts"
 label_of InErrors wide = codes "ifInErrors"
 label_of OutErrors wide = codes "ifOutErrors"
 label_of InDiscards wide = codes "ifInDiscards"

@@ -1,5 +1,8 @@
--- A text whose blocks of an agent name its interfaces as they are now. A block is a table of a list with the lines up to the next.
-use Rattle.std.specs.Prelude.{ℕ, ◌+◌, ◌-◌, ◌==◌, zero, suc, nat_eq, Bool, false, not, ◌&&◌, ◌||◌, List, [], ◌∷◌, ◌++◌, length, Option, Some, None, codes, decimal, if◌then◌else◌}
+-- A text whose blocks of an agent name its interfaces as they are now. A block is a table of a list
+-- with the lines up to the next.
+use Rattle.std.specs.Prelude.{ℕ, ◌+◌, ◌-◌, ◌==◌, zero, suc, nat_eq, Bool, false, not, ◌&&◌, ◌||◌}
+use Rattle.std.specs.Prelude.{List, [], ◌∷◌, ◌++◌, length, Option, Some, None, codes, decimal}
+use Rattle.std.specs.Prelude.{if◌then◌else◌}
 use Rattle.std.specs.List.{concat, find, flat_map, starts_with}
 use Rattle.mon_board.specs.declared.instance.Watched.{Watched}
 use Rattle.mon_oid.specs.Oid.{dotted}
@@ -18,10 +21,12 @@ abbrev pub put_first : ℕ → List (List ℕ) → List (List ℕ)
 put_first b [] = (b ∷ []) ∷ []
 put_first b (x ∷ xs) = (b ∷ x) ∷ xs
 
--- the pieces of a text, of which one ends where the test says so of an octet, that before it and what follows
+-- the pieces of a text, of which one ends where the test says so of an octet, that before it and
+-- what follows
 abbrev pub pieces : (ℕ → ℕ → List ℕ → Bool) → ℕ → List ℕ → List (List ℕ)
 pieces ends before [] = []
-pieces ends before (b ∷ bs) = if ends before b bs then (b ∷ []) ∷ pieces ends b bs else put_first b (pieces ends b bs)
+pieces ends before (b ∷ bs) = if ends before b bs then (b ∷ []) ∷ pieces ends b bs
+    else put_first b (pieces ends b bs)
 
 -- how many octets the first piece has
 abbrev pub first_piece : (ℕ → ℕ → List ℕ → Bool) → ℕ → List ℕ → ℕ
@@ -37,9 +42,11 @@ line_length (b ∷ bs) = if b == 10 then 1 else 1 + line_length bs
 abbrev pub ends_line : ℕ → ℕ → List ℕ → Bool
 ends_line before b rest = b == 10
 
--- a block ends at the end of a line if a table follows, or an empty line and then a table; that empty line is in the next block
+-- a block ends at the end of a line if a table follows, or an empty line and then a table; that
+-- empty line is in the next block
 abbrev pub ends_block : ℕ → ℕ → List ℕ → Bool
-ends_block before b rest = b == 10 && (starts_with nat_eq rest (codes "\n[") || (starts_with nat_eq rest (codes "[") && not (before == 10)))
+ends_block before b rest = b == 10 && (starts_with nat_eq rest (codes "\n[")
+    || (starts_with nat_eq rest (codes "[") && not (before == 10)))
 
 -- the lines of a text, with their line feeds
 abbrev pub lines_of : List ℕ → List (List ℕ)
@@ -58,19 +65,22 @@ quoted text = concat (codes "\"" ∷ text ∷ codes "\"" ∷ [])
 -- how a name at this place may be written, and where its interface is now
 abbrev pub spelled_at : (List ℕ → List ℕ) → At → List ℕ → Spot → List Spelled
 spelled_at shown a q (spot.Cell column index) =
-    (record { text = quoted (dotted q); index = index; place = index_now a index }) ∷ (record { text = quoted (shown q); index = index; place = index_now a index }) ∷ []
+    (record { text = quoted (dotted q); index = index; place = index_now a index })
+    ∷ (record { text = quoted (shown q); index = index; place = index_now a index }) ∷ []
 spelled_at shown a q spot.Ragged = []
 spelled_at shown a q spot.Elsewhere = []
 
 -- how the names of the agent's interfaces may be written: in numbers, or as the settings show names
 abbrev pub spelled_by : (List ℕ → List ℕ) → At → Watched → List Spelled
-spelled_by shown a w = if is_own a.engine w then spelled_at shown a w.instance.name (spot_of w.instance.name) else []
+spelled_by shown a w = if is_own a.engine w then spelled_at shown a w.instance.name
+    (spot_of w.instance.name) else []
 
 -- those of all that is watched
 abbrev pub spellings : (List ℕ → List ℕ) → At → List Watched → List Spelled
 spellings shown a ws = flat_map (spelled_by shown a) ws
 
--- what is put in place of the first octet of a text: the other part where it begins with the one, else the octet
+-- what is put in place of the first octet of a text: the other part where it begins with the one,
+-- else the octet
 abbrev pub step_text : (from to : List ℕ) → ℕ → List ℕ → List ℕ
 step_text from to first rest = if starts_with nat_eq rest from then to else first ∷ []
 
@@ -78,11 +88,13 @@ step_text from to first rest = if starts_with nat_eq rest from then to else firs
 abbrev pub step_skip : (from rest : List ℕ) → ℕ
 step_skip from rest = if starts_with nat_eq rest from then length from - 1 else 0
 
--- a text with another part in place of each that is this one; of an earlier one this many octets are still to be passed over
+-- a text with another part in place of each that is this one; of an earlier one this many octets
+-- are still to be passed over
 abbrev pub replaced : (from to : List ℕ) → ℕ → List ℕ → List ℕ
 replaced from to n [] = []
 replaced from to (suc n) (b ∷ bs) = replaced from to n bs
-replaced from to zero (b ∷ bs) = step_text from to b (b ∷ bs) ++ replaced from to (step_skip from (b ∷ bs)) bs
+replaced from to zero (b ∷ bs) = step_text from to b (b ∷ bs)
+    ++ replaced from to (step_skip from (b ∷ bs)) bs
 
 -- the end of a name with this index, before this octet
 abbrev pub index_text : ℕ → List ℕ → List ℕ
@@ -91,7 +103,8 @@ index_text index after = concat (codes "." ∷ decimal index ∷ after ∷ [])
 -- a line with another index, at the end of names in quotes and of the name in the comment
 abbrev pub renumbered : (from to : ℕ) → List ℕ → List ℕ
 renumbered from to line =
-    replaced (index_text from (codes ":")) (index_text to (codes ":")) 0 (replaced (index_text from (codes "\"")) (index_text to (codes "\"")) 0 line)
+    replaced (index_text from (codes ":")) (index_text to (codes ":")) 0
+    (replaced (index_text from (codes "\"")) (index_text to (codes "\"")) 0 line)
 
 -- a line of an interface that is now at this index, or is gone
 abbrev pub line_at : List ℕ → ℕ → Option ℕ → List ℕ
@@ -110,7 +123,8 @@ is_comment (b ∷ bs) = if b == 32 || b == 9 then is_comment bs else b == 35
 
 -- a line of the agent's blocks; a comment stays as it is
 abbrev pub edited_line : List Spelled → List ℕ → List ℕ
-edited_line names line = if is_comment line then line else line_by line (find (λ s. has_part s.text line) names)
+edited_line names line = if is_comment line then line else line_by line
+    (find (λ s. has_part s.text line) names)
 
 -- a line if it is only a comment
 abbrev pub only_comment : List ℕ → List ℕ
@@ -128,7 +142,8 @@ block_by old new = if is_emptied old new then flat_map only_comment (lines_of ol
 
 -- a block: one with this part is the agent's, and its lines change; others stay as they are
 abbrev pub edited_block : List Spelled → List ℕ → List ℕ → List ℕ
-edited_block names own block = if has_part own block then block_by block (flat_map (edited_line names) (lines_of block)) else block
+edited_block names own block = if has_part own block then block_by block
+    (flat_map (edited_line names) (lines_of block)) else block
 
 -- the whole text
 abbrev pub edited_text : List Spelled → List ℕ → List ℕ → List ℕ
@@ -136,7 +151,8 @@ edited_text names own text = flat_map (edited_block names own) (blocks_of text)
 
 -- a block, or its comments if it has this part
 abbrev pub block_without : (own block : List ℕ) → List ℕ
-block_without own block = if has_part own block then flat_map only_comment (lines_of block) else block
+block_without own block = if has_part own block then flat_map only_comment (lines_of block)
+    else block
 
 -- a text without the blocks that have this part, but with the comments in them
 abbrev pub text_without : (own text : List ℕ) → List ℕ

@@ -1,7 +1,23 @@
 -- The numbers and names of faults.
 use Rattle.std.specs.Prelude.{ℕ, List, codes}
 use Rattle.mon_survey.specs.declared.fault.SurveyFault.{SurveyFault}
-use Rattle.mon_survey.specs.declared.fault.SurveyFault.TheVariants.{OutOfMemory, NoEngine, NotRising, BadIndex, NoCounter, TooMany, BadText, Refused, Misread, SameEngine, TooManyTargets, BadLabels, TooManyInterfaces, EngineChanged, OtherEngine}
+use Rattle.mon_survey.specs.declared.fault.SurveyFault.TheVariants.{
+  OutOfMemory,
+  NoEngine,
+  NotRising,
+  BadIndex,
+  NoCounter,
+  TooMany,
+  BadText,
+  Refused,
+  Misread,
+  SameEngine,
+  TooManyTargets,
+  BadLabels,
+  TooManyInterfaces,
+  EngineChanged,
+  OtherEngine,
+}
 
 -- the number of a fault
 abbrev pub number_of : SurveyFault → ℕ

@@ -1,10 +1,14 @@
--- A file of the texts and speeds of interfaces, in TOML, which series, lines, table and page get as labels.
-use Rattle.std.specs.Prelude.{◌≡◌, ◌<◌, ◌≤◌, ℕ, ◌+◌, ◌==◌, nat_le, ℤ, pos, Bool, false, IsTrue, ◌||◌, List, [], ◌∷◌, ◌++◌, length, codes, decimal, Option, Some, None, option_and_then, if◌then◌else◌}
+-- A file of the texts and speeds of interfaces, in TOML, which series, lines, table and page get as
+-- labels.
+use Rattle.std.specs.Prelude.{◌≡◌, ◌<◌, ◌≤◌, ℕ, ◌+◌, ◌==◌, nat_le, ℤ, pos, Bool, false, IsTrue}
+use Rattle.std.specs.Prelude.{◌||◌, List, [], ◌∷◌, ◌++◌, length, codes, decimal, Option, Some, None}
+use Rattle.std.specs.Prelude.{option_and_then, if◌then◌else◌}
 use Rattle.std.specs.List.{concat, flat_map}
 use Rattle.std.specs.Str.{IsUtf8, bytes_eq}
 use Rattle.std.specs.Str.Lossy.{utf8_lossy}
 use Rattle.hex.specs.Hex.{encode_lower}
-use Rattle.toml.specs.Data.{Data, Items, as_array, as_integer, as_str, get, get_member, item, no_items}
+use Rattle.toml.specs.Data.{Data, Items, as_array, as_integer, as_str, get, get_member, item}
+use Rattle.toml.specs.Data.{no_items}
 use Rattle.toml.specs.Parse.{parse_document}
 use Rattle.mon_survey.specs.declared.answers.Cell.{Cell}
 use Rattle.mon_survey.specs.declared.choice.Choice.{Choice}
@@ -25,7 +29,8 @@ is_before (Some m) n = m == n
 -- the indexes of some counters' interfaces, each once, where this one was before
 abbrev pub indexes_after : Option ℕ → List Planned → List ℕ
 indexes_after before [] = []
-indexes_after before (p ∷ ps) = (if is_before before p.index then [] else (p.index ∷ [])) ++ indexes_after (Some p.index) ps
+indexes_after before (p ∷ ps) = (if is_before before p.index then [] else (p.index ∷ []))
+    ++ indexes_after (Some p.index) ps
 
 -- the indexes of all interfaces of which a counter is chosen
 abbrev pub indexes_of : Choice → List Cell → List ℕ
@@ -48,7 +53,8 @@ if_alias cells index = text_of (octets_of (value_at cells (IfX 18) index))
 
 -- an octet in quotes: a quote and a backslash after a backslash, a control character by its number
 abbrev pub escaped : ℕ → List ℕ
-escaped b = if b == 34 || b == 92 then 92 ∷ b ∷ [] else (if nat_le b 31 || b == 127 then codes "\\u00" ++ encode_lower (b ∷ []) else b ∷ [])
+escaped b = if b == 34 || b == 92 then 92 ∷ b ∷ [] else (if nat_le b 31 || b == 127
+    then codes "\\u00" ++ encode_lower (b ∷ []) else b ∷ [])
 
 -- the line of a key, where it has a text
 abbrev pub line_of : List ℕ → Option (List ℕ) → List ℕ
@@ -66,8 +72,10 @@ known_speed speed = if speed == 0 then None else Some (pos speed)
 -- the table of an interface of an engine, whose id is given in hex
 unfoldable pub interface_text : List ℕ → List Cell → ℕ → List ℕ
 interface_text engine cells index =
-    concat (codes "\n[[interface]]\nengine = \"" ∷ engine ∷ codes "\"\nindex = " ∷ decimal index ∷ codes "\n" ∷ [])
-    ++ line_of (codes "ifName") (if_name cells index) ++ line_of (codes "ifAlias") (if_alias cells index) ++ speed_line (speed_in cells index)
+    concat (codes "\n[[interface]]\nengine = \"" ∷ engine ∷ codes "\"\nindex = " ∷ decimal index
+    ∷ codes "\n" ∷ [])
+    ++ line_of (codes "ifName") (if_name cells index) ++ line_of (codes "ifAlias")
+    (if_alias cells index) ++ speed_line (speed_in cells index)
 
 -- the old text, or the first line of a new one
 abbrev pub begun : List ℕ → List ℕ
@@ -95,7 +103,8 @@ number_at key d = option_and_then as_integer (get key d)
 
 -- the tables of a text
 abbrev pub interfaces_in : List ℕ → Option Items
-interfaces_in text = option_and_then (λ t. items_at (get_member (codes "interface") t)) (parse_document text)
+interfaces_in text = option_and_then (λ t. items_at (get_member (codes "interface") t))
+    (parse_document text)
 
 -- a table is that of an interface
 pub record IsInterface (engine : List ℕ) (cells : List Cell) (index : ℕ) (d : Data) : Type 0 where
@@ -108,7 +117,8 @@ pub record IsInterface (engine : List ℕ) (cells : List Cell) (index : ℕ) (d 
 -- the tables are those of the interfaces of these indexes, in their order
 abbrev pub AreInterfaces : List ℕ → List Cell → List ℕ → Items → Type 0
 AreInterfaces engine cells [] no_items = Unit {0}
-AreInterfaces engine cells (i ∷ is) (item d ds) = IsInterface engine cells i d × AreInterfaces engine cells is ds
+AreInterfaces engine cells (i ∷ is) (item d ds) = IsInterface engine cells i d
+    × AreInterfaces engine cells is ds
 AreInterfaces engine cells _ _ = ⊥
 
 -- a table says the same as another one
@@ -122,7 +132,8 @@ pub record IsSameInterface (a b : Data) : Type 0 where
 -- the tables are the old ones, and then those of the interfaces
 abbrev pub Continue : List ℕ → List Cell → List ℕ → Items → Items → Type 0
 Continue engine cells indexes no_items ds = AreInterfaces engine cells indexes ds
-Continue engine cells indexes (item a olds) (item b ds) = IsSameInterface a b × Continue engine cells indexes olds ds
+Continue engine cells indexes (item a olds) (item b ds) = IsSameInterface a b
+    × Continue engine cells indexes olds ds
 Continue engine cells indexes (item a olds) no_items = ⊥
 
 -- there are new tables, which are the old ones, and then those of the interfaces
@@ -132,7 +143,8 @@ ContinueIn engine cells indexes olds (Some ds) = Continue engine cells indexes o
 
 -- a text is read as these tables, and then those of the interfaces
 abbrev pub ReadsOn : List ℕ → List Cell → List ℕ → Items → List ℕ → Type 0
-ReadsOn engine cells indexes before text = (after : Items) × (interfaces_in text ≡ Some after) × Continue engine cells indexes before after
+ReadsOn engine cells indexes before text = (after : Items) × (interfaces_in text ≡ Some after)
+    × Continue engine cells indexes before after
 
 -- ---- what may go on
 
@@ -151,8 +163,9 @@ abbrev pub count_items : Items → ℕ
 count_items no_items = 0
 count_items (item d ds) = 1 + count_items ds
 
--- The text of labels of an engine, by its id in hex: the old text octet by octet, and then the tables of the interfaces, which is read
--- as the old tables and these. None of the old tables is of the engine, and there are at most 4,096 in all.
+-- The text of labels of an engine, by its id in hex: the old text octet by octet, and then the
+-- tables of the interfaces, which is read as the old tables and these. None of the old tables is of
+-- the engine, and there are at most 4,096 in all.
 pub record IsLabels (old engine : List ℕ) (cells : List Cell) (indexes text : List ℕ) : Type 0 where
   pub is : text ≡ labels_text old engine cells indexes
   pub before : Items
@@ -163,15 +176,18 @@ pub record IsLabels (old engine : List ℕ) (cells : List Cell) (indexes text : 
 
 -- ---- why there is none
 
--- why there is no such text: memory, an old text that is no file of labels, one that has this engine, more than 4,096 interfaces in
--- all, or a text that is read otherwise
+-- why there is no such text: memory, an old text that is no file of labels, one that has this
+-- engine, more than 4,096 interfaces in all, or a text that is read otherwise
 abbrev pub IsNoLabels : List ℕ → List ℕ → List Cell → List ℕ → SurveyFault → Type 0
 IsNoLabels old engine cells indexes fault.OutOfMemory = Unit {0}
 IsNoLabels old engine cells indexes fault.BadLabels = interfaces_in old ≡ None
-IsNoLabels old engine cells indexes fault.SameEngine = (before : Items) × (interfaces_in old ≡ Some before) × IsTrue (has_engine engine before)
+IsNoLabels old engine cells indexes fault.SameEngine = (before : Items)
+    × (interfaces_in old ≡ Some before) × IsTrue (has_engine engine before)
 IsNoLabels old engine cells indexes (fault.TooManyInterfaces n) =
-    (before : Items) × (interfaces_in old ≡ Some before) × (n ≡ count_items before + length indexes) × (4096 < n)
+    (before : Items) × (interfaces_in old ≡ Some before) × (n ≡ count_items before + length indexes)
+    × (4096 < n)
 IsNoLabels old engine cells indexes fault.Misread =
     (before : Items) × (interfaces_in old ≡ Some before)
-    × ¬ (IsUtf8 (labels_text old engine cells indexes) × ReadsOn engine cells indexes before (labels_text old engine cells indexes))
+    × ¬ (IsUtf8 (labels_text old engine cells indexes) × ReadsOn engine cells indexes before
+    (labels_text old engine cells indexes))
 IsNoLabels old engine cells indexes _ = ⊥

@@ -1,5 +1,6 @@
 -- Where the interfaces are now that settings poll, and what settings say of them there.
-use Rattle.std.specs.Prelude.{ℕ, ℤ, pos, nat_eq, Bool, ◌&&◌, List, [], ◌∷◌, ◌++◌, Option, Some, None, option_map, option_and_then, is_some, slice_get, if◌then◌else◌}
+use Rattle.std.specs.Prelude.{ℕ, ℤ, pos, nat_eq, Bool, ◌&&◌, List, [], ◌∷◌, ◌++◌, Option, Some}
+use Rattle.std.specs.Prelude.{None, option_map, option_and_then, is_some, slice_get, if◌then◌else◌}
 use Rattle.std.specs.List.{find, flat_map}
 use Rattle.std.specs.Option.{option_to_list}
 use Rattle.std.specs.Str.{bytes_eq}
@@ -53,7 +54,8 @@ is_named name c = same_column c.column (IfX 1) && bytes_eq (octets_of (Some c.va
 
 -- the index of an interface of this name: this one if it is, else the first that is
 abbrev pub index_named : List Cell → List ℕ → ℕ → Option ℕ
-index_named cells name index = if has_name cells name index then Some index else option_map (λ c. c.index) (find (is_named name) cells)
+index_named cells name index = if has_name cells name index then Some index
+    else option_map (λ c. c.index) (find (is_named name) cells)
 
 -- an index, if there is an interface of it
 abbrev pub same_index : List Cell → ℕ → Option ℕ
@@ -88,7 +90,12 @@ mark_now a engine mark = option_and_then (name_now a engine) mark
 
 -- an object of this engine; none if its interface is gone
 abbrev pub object_now : At → List ℕ → Object → Option Object
-object_now a engine o = option_map (λ q. record { instance = o.instance; name = q; discontinuity = mark_now a engine o.discontinuity }) (name_now a engine o.name)
+object_now a engine o = option_map (λ q. record {
+  instance = o.instance;
+  name = q;
+  discontinuity =
+      mark_now a engine o.discontinuity;
+}) (name_now a engine o.name)
 
 -- the objects that are left
 abbrev pub objects_now : At → List ℕ → List Object → List Object
@@ -97,7 +104,14 @@ objects_now a engine os = flat_map (λ o. option_to_list (object_now a engine o)
 -- a target with these objects, if there are some
 abbrev pub with_objects : Target → List Object → Option Target
 with_objects t [] = None
-with_objects t (o ∷ os) = Some (record { address = t.address; community = t.community; engine = t.engine; tries = t.tries; objects = o ∷ os })
+with_objects t (o ∷ os) = Some (record {
+  address = t.address;
+  community = t.community;
+  engine =
+      t.engine;
+  tries = t.tries;
+  objects = o ∷ os;
+})
 
 -- a target with the objects that are left of it
 abbrev pub target_now : At → Target → Option Target
@@ -111,11 +125,19 @@ targets_now a ts = flat_map (λ t. option_to_list (target_now a t)) ts
 
 -- an instance; none if its interface is gone
 abbrev pub instance_now : At → Instance → Option Instance
-instance_now a i = option_map (λ q. record { engine = i.engine; name = q }) (name_now a i.engine i.name)
+instance_now a i = option_map (λ q. record { engine = i.engine; name = q })
+    (name_now a i.engine i.name)
 
 -- what is watched of it, by a window of the same size
 abbrev pub watched_now : At → Watched → Option Watched
-watched_now a w = option_map (λ i. record { instance = i; discontinuity = mark_now a w.instance.engine w.discontinuity; window = w.window; epoch = w.epoch }) (instance_now a w.instance)
+watched_now a w = option_map (λ i. record {
+  instance = i;
+  discontinuity = mark_now a
+      w.instance.engine w.discontinuity;
+  window = w.window;
+  epoch = w.epoch;
+})
+    (instance_now a w.instance)
 
 -- what is watched of all that is left
 abbrev pub watch_now : At → List Watched → List Watched
@@ -123,15 +145,27 @@ watch_now a ws = flat_map (λ w. option_to_list (watched_now a w)) ws
 
 -- these thresholds on an instance, if it is there
 abbrev pub ruling_on : (rising falling : ℤ) → Option Instance → Option Ruling
-ruling_on rising falling instance = option_map (λ i. record { instance = i; rising = rising; falling = falling }) instance
+ruling_on rising falling instance = option_map (λ i. record {
+  instance = i;
+  rising = rising;
+  falling
+      = falling;
+}) instance
 
 -- a rule on what was watched; none if its interface is gone
 abbrev pub ruling_now : At → List Watched → Rule → Option Ruling
-ruling_now a was r = ruling_on r.rising r.falling (option_and_then (λ w. instance_now a w.instance) (slice_get was r.instance))
+ruling_now a was r = ruling_on r.rising r.falling (option_and_then (λ w. instance_now a w.instance)
+    (slice_get was r.instance))
 
 -- the alarm on a counter of the agent, if there are thresholds
 abbrev pub ruling_at : List ℕ → Planned → Option Thresholds → Option Ruling
-ruling_at engine p at = option_map (λ t. record { instance = record { engine = engine; name = cell_name (column_of p.counter p.wide) p.index }; rising = pos t.rising; falling = pos t.falling }) at
+ruling_at engine p at = option_map (λ t. record {
+  instance = record
+      { engine = engine; name = cell_name (column_of p.counter p.wide) p.index };
+  rising = pos
+      t.rising;
+  falling = pos t.falling;
+}) at
 
 -- the alarm on a new counter
 abbrev pub ruling_of : At → ℕ → Planned → Option Ruling
@@ -140,4 +174,5 @@ ruling_of a percent p = ruling_at a.engine p (thresholds_of a.cells percent p.co
 -- the alarms that are left, and those on new counters
 abbrev pub rulings : At → ℕ → List Planned → List Watched → List Rule → List Ruling
 rulings a percent ps was rules =
-    flat_map (λ r. option_to_list (ruling_now a was r)) rules ++ flat_map (λ p. option_to_list (ruling_of a percent p)) ps
+    flat_map (λ r. option_to_list (ruling_now a was r)) rules
+    ++ flat_map (λ p. option_to_list (ruling_of a percent p)) ps

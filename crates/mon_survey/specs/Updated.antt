@@ -1,5 +1,6 @@
 -- What settings mean that are others with an agent's interfaces as they are now.
-use Rattle.std.specs.Prelude.{◌≡◌, ◌≢◌, ◌⊎◌, ℕ, ◌+◌, nat_eq, nat_le, List, [], ◌∷◌, ◌++◌, length, take, drop, Some, Result, Ok, Err, if◌then◌else◌}
+use Rattle.std.specs.Prelude.{◌≡◌, ◌≢◌, ◌⊎◌, ℕ, ◌+◌, nat_eq, nat_le, List, [], ◌∷◌, ◌++◌, length}
+use Rattle.std.specs.Prelude.{take, drop, Some, Result, Ok, Err, if◌then◌else◌}
 use Rattle.std.specs.List.{AllZip, Any, flat_map, list_any}
 use Rattle.std.specs.Option.{option_to_list}
 use Rattle.std.specs.Str.{IsUtf8}
@@ -36,13 +37,15 @@ use Rattle.mon_survey.specs.Text.{addition_of}
 
 -- a number after others, unless it is one of them
 abbrev pub with_index : List ℕ → Spot → List ℕ
-with_index indexes (spot.Cell column index) = if list_any (nat_eq index) indexes then indexes else indexes ++ index ∷ []
+with_index indexes (spot.Cell column index) = if list_any (nat_eq index) indexes then indexes
+    else indexes ++ index ∷ []
 with_index indexes spot.Ragged = indexes
 with_index indexes spot.Elsewhere = indexes
 
 -- the index of an interface of the agent that is watched, after others
 abbrev pub with_watched : List ℕ → List ℕ → Watched → List ℕ
-with_watched engine indexes w = if is_own engine w then with_index indexes (spot_of w.instance.name) else indexes
+with_watched engine indexes w = if is_own engine w then with_index indexes (spot_of w.instance.name)
+    else indexes
 
 -- the indexes of all of them, each once, after others
 abbrev pub polled_after : List ℕ → List ℕ → List Watched → List ℕ
@@ -68,12 +71,14 @@ new_counters choice a ws = flat_map (unless_there (indexes_left a ws)) (counters
 -- at most 256 instances with those that are left, and at most 64 targets
 abbrev pub few_left : TargetSize → At → Station → List Planned → Result (List Planned) SurveyFault
 few_left size a old ps =
-    if nat_le (length (watch_now a old.core.watch.instances) + length ps) 256 then few_targets size (length (targets_now a old.core.targets)) ps
+    if nat_le (length (watch_now a old.core.watch.instances) + length ps) 256
+    then few_targets size (length (targets_now a old.core.targets)) ps
     else Err (fault.TooMany (length (watch_now a old.core.watch.instances) + length ps))
 
 -- the counters, if settings poll the agent and have space for these
 abbrev pub with_space : TargetSize → At → Station → List Planned → Result (List Planned) SurveyFault
-with_space size a old ps = if list_any (polls a.engine) old.core.targets then few_left size a old ps else Err fault.OtherEngine
+with_space size a old ps = if list_any (polls a.engine) old.core.targets then few_left size a old ps
+    else Err fault.OtherEngine
 
 -- ---- what was meant
 
@@ -93,9 +98,10 @@ HasRulings instances rules [] = Unit {0}
 HasRulings instances rules (g ∷ gs) = HasRuling instances rules g × HasRulings instances rules gs
 
 -- each of these alarms is one of the rules, and there are as many rules as alarms
-pub record AreRulings (instances : List Watched) (gs : List Ruling) (rules : List Rule) : Type 0 where
-  pub each : HasRulings instances rules gs
-  pub count : length rules ≡ length gs
+pub record AreRulings (instances : List Watched) (gs : List Ruling) (rules : List Rule) : Type 0
+  where
+    pub each : HasRulings instances rules gs
+    pub count : length rules ≡ length gs
 
 -- this is watched, by a window of this size
 pub record IsWatched (instances : List Watched) (w : Watched) : Type 0 where
@@ -107,7 +113,8 @@ AreWatched instances [] = Unit {0}
 AreWatched instances (w ∷ ws) = IsWatched instances w × AreWatched instances ws
 
 -- all this is watched, and these are the alarms
-pub record KeepsWatch (instances : List Watched) (rules : List Rule) (ws : List Watched) (gs : List Ruling) : Type 0 where
+pub record KeepsWatch (instances : List Watched) (rules : List Rule) (ws : List Watched)
+    (gs : List Ruling) : Type 0 where
   pub windows : AreWatched instances ws
   pub alarms : AreRulings instances gs rules
 
@@ -116,14 +123,17 @@ pub record KeepsFront (targets : List Target) (old new : Station) : Type 0 where
   pub scalars : KeepsScalars old new
   pub kept : AllZip IsSameTarget targets (take (length targets) new.core.targets)
 
--- settings with these targets of others, then targets that poll these counters of the agent, and with this watched and these alarms
-pub record IsMadeOf (o : Options) (a : At) (ps : List Planned) (targets : List Target) (ws : List Watched) (gs : List Ruling) (old new : Station) : Type 0 where
+-- settings with these targets of others, then targets that poll these counters of the agent, and
+-- with this watched and these alarms
+pub record IsMadeOf (o : Options) (a : At) (ps : List Planned) (targets : List Target)
+    (ws : List Watched) (gs : List Ruling) (old new : Station) : Type 0 where
   pub front : KeepsFront targets old new
   pub added : AreTargets o a.engine a.cells ps (drop (length targets) new.core.targets)
   pub watch : KeepsWatch new.core.watch.instances new.core.watch.rules ws gs
 
--- The settings that were meant: the old ones with what is left of their targets, each at the index that its interface has now, with
--- windows of the same size and with its alarms; and with targets at their end that poll these counters, and the alarms on them.
+-- The settings that were meant: the old ones with what is left of their targets, each at the index
+-- that its interface has now, with windows of the same size and with its alarms; and with targets
+-- at their end that poll these counters, and the alarms on them.
 abbrev pub IsUpdated : Options → At → List Planned → Station → Station → Type 0
 IsUpdated o a ps old new =
     IsMadeOf o a ps (targets_now a old.core.targets) (watch_now a old.core.watch.instances)
@@ -136,14 +146,19 @@ abbrev pub kept_text : (List ℕ → List ℕ) → At → List Watched → List 
 kept_text shown a ws text = edited_text (spellings shown a ws) (quoted (encode_lower a.engine)) text
 
 -- that text with the targets of new interfaces at its end
-abbrev pub update_of : (List ℕ → List ℕ) → At → List Watched → List ℕ → Options → List Planned → Result (List ℕ) SurveyFault
+abbrev pub update_of : (List ℕ → List ℕ) → At → List Watched → List ℕ → Options → List Planned
+    → Result (List ℕ) SurveyFault
 update_of shown a ws text o ps = addition_of shown (kept_text shown a ws text) o a.engine a.cells ps
 
--- Settings with an agent's interfaces as they are now: the old text, of which only the agent's blocks change, and then the targets of
--- new interfaces, which is read as what was meant. A round takes this long at most, and these are the targets that were added.
-pub record IsUpdatedText (defs : List Definition) (o : Options) (a : At) (ps : List Planned) (text : List ℕ) (old : Station) (new : List ℕ) (longest : LongestRound) (targets : List Target) : Type 0 where
+-- Settings with an agent's interfaces as they are now: the old text, of which only the agent's
+-- blocks change, and then the targets of new interfaces, which is read as what was meant. A round
+-- takes this long at most, and these are the targets that were added.
+pub record IsUpdatedText (defs : List Definition) (o : Options) (a : At) (ps : List Planned)
+    (text : List ℕ) (old : Station) (new : List ℕ) (longest : LongestRound) (targets : List Target)
+    : Type 0 where
   pub room : with_space o.size a old ps ≡ Ok ps
-  pub drafted : update_of (shown_by defs (length old.modules)) a old.core.watch.instances text o ps ≡ Ok new
+  pub drafted : update_of (shown_by defs (length old.modules)) a old.core.watch.instances text o ps
+      ≡ Ok new
   pub station : Station
   pub read : Says (IsStation defs) new station
   pub meant : IsUpdated o a ps old station
@@ -152,25 +167,36 @@ pub record IsUpdatedText (defs : List Definition) (o : Options) (a : At) (ps : L
 
 -- ---- why there is none
 
--- why a text is not read as what was meant: it is refused for this reason, or it is read as something else
-abbrev pub IsUnread : List Definition → Options → At → List Planned → Station → List ℕ → SurveyFault → Type 0
+-- why a text is not read as what was meant: it is refused for this reason, or it is read as
+-- something else
+abbrev pub IsUnread : List Definition → Options → At → List Planned → Station → List ℕ → SurveyFault
+    → Type 0
 IsUnread defs o a ps old text fault.OutOfMemory = Unit {0}
-IsUnread defs o a ps old text (fault.Refused e) = IsRefusal (station_of (resolution defs)) text e × (e ≢ settings.OutOfMemory)
-IsUnread defs o a ps old text fault.Misread = (station : Station) × Says (IsStation defs) text station × ¬ (IsUpdated o a ps old station)
+IsUnread defs o a ps old text (fault.Refused e) = IsRefusal (station_of (resolution defs)) text e
+    × (e ≢ settings.OutOfMemory)
+IsUnread defs o a ps old text fault.Misread = (station : Station)
+    × Says (IsStation defs) text station × ¬ (IsUpdated o a ps old station)
 IsUnread defs o a ps old text _ = ⊥
 
--- why there is no text: memory, what is left of the old one is no text, or the options may not be put in quotes
-abbrev pub IsUndrafted : (List ℕ → List ℕ) → At → List Watched → List ℕ → Options → List Planned → SurveyFault → Type 0
+-- why there is no text: memory, what is left of the old one is no text, or the options may not be
+-- put in quotes
+abbrev pub IsUndrafted : (List ℕ → List ℕ) → At → List Watched → List ℕ → Options → List Planned
+    → SurveyFault → Type 0
 IsUndrafted shown a ws text o ps e =
-    (e ≡ fault.OutOfMemory) ⊎ (((e ≡ fault.Misread) × ¬ (IsUtf8 (kept_text shown a ws text))) ⊎ (update_of shown a ws text o ps ≡ Err e))
+    (e ≡ fault.OutOfMemory) ⊎ (((e ≡ fault.Misread) × ¬ (IsUtf8 (kept_text shown a ws text)))
+    ⊎ (update_of shown a ws text o ps ≡ Err e))
 
 -- there is a text, which is not read as what was meant, for this reason
-abbrev pub IsUnmeant : List Definition → Options → At → List Planned → List ℕ → Station → SurveyFault → Type 0
+abbrev pub IsUnmeant : List Definition → Options → At → List Planned → List ℕ → Station
+    → SurveyFault → Type 0
 IsUnmeant defs o a ps text old e = (new : List ℕ)
-    × (update_of (shown_by defs (length old.modules)) a old.core.watch.instances text o ps ≡ Ok new) × IsUnread defs o a ps old new e
+    × (update_of (shown_by defs (length old.modules)) a old.core.watch.instances text o ps ≡ Ok new)
+    × IsUnread defs o a ps old new e
 
 -- why there are no such settings
-abbrev pub IsUpdateFault : List Definition → Options → At → List Planned → List ℕ → Station → SurveyFault → Type 0
+abbrev pub IsUpdateFault : List Definition → Options → At → List Planned → List ℕ → Station
+    → SurveyFault → Type 0
 IsUpdateFault defs o a ps text old e =
     (e ≡ fault.OutOfMemory) ⊎ ((with_space o.size a old ps ≡ Err e)
-    ⊎ (IsUndrafted (shown_by defs (length old.modules)) a old.core.watch.instances text o ps e ⊎ IsUnmeant defs o a ps text old e))
+    ⊎ (IsUndrafted (shown_by defs (length old.modules)) a old.core.watch.instances text o ps e
+    ⊎ IsUnmeant defs o a ps text old e))

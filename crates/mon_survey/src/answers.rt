@@ -70,7 +70,8 @@ impl Answers {
     /// does not come after the last one; `OutOfMemory`.
     pub fn take(&mut self, name: &Oid, value: Value) -> Result<(), SurveyFault>
         ensures gives { IfOk result (λ _. taken self.old name.now value ≡ Ok self.new) }
-        ensures fault { IfErr result (λ e. (e ≡ SurveyFault.OutOfMemory) ⊎ (taken self.old name.now value ≡ Err e)) }
+        ensures fault { IfErr result (λ e. (e ≡ SurveyFault.OutOfMemory)
+            ⊎ (taken self.old name.now value ≡ Err e)) }
         ensures same { OnErr result (self.new ≡ self.old) }
     {
         match Spot::of(name) {
@@ -83,7 +84,8 @@ impl Answers {
     /// Puts a cell after the others.
     fn put(&mut self, column: Column, index: u32, value: Value) -> Result<(), SurveyFault>
         ensures gives { IfOk result (λ _. with_cell self.old column index value ≡ Ok self.new) }
-        ensures fault { IfErr result (λ e. (e ≡ SurveyFault.OutOfMemory) ⊎ (with_cell self.old column index value ≡ Err e)) }
+        ensures fault { IfErr result (λ e. (e ≡ SurveyFault.OutOfMemory)
+            ⊎ (with_cell self.old column index value ≡ Err e)) }
         ensures same { OnErr result (self.new ≡ self.old) }
     {
         let key = column.key(index);

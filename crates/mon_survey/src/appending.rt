@@ -28,7 +28,7 @@ use mon_smi::{InNumbers, Names};
 use std::alloc::Global;
 
 /// The most instances of a station.
-const MOST_INSTANCES: usize = 256;
+const MAX_INSTANCES: usize = 256;
 
 /// Settings that are there.
 #[derive(Clone, Copy)]
@@ -54,8 +54,8 @@ pub(crate) fn polls_any(engine: &[u8], targets: &[Target]) -> bool
     targets.iter().any(|target| polls(engine, target))
 }
 
-/// Requires that the settings have space for the counters, in targets of this size, and poll no agent
-/// of this engine id.
+/// Requires that the settings have space for the counters, in targets of this size, and poll no
+/// agent of this engine id.
 fn require_room(
     size: TargetSize,
     station: &StationSettings,
@@ -63,14 +63,16 @@ fn require_room(
     planned: &[Planned],
 ) -> Result<(), SurveyFault>
     requires { length planned.now ≤ 256 }
-    ensures room { OnOk result (with_room size (station_view station.now) engine.now planned.now ≡ Ok planned.now) }
-    ensures fault { IfErr result (λ e. with_room size (station_view station.now) engine.now planned.now ≡ Err e) }
+    ensures room { OnOk result (with_room size (station_view station.now) engine.now planned.now
+        ≡ Ok planned.now) }
+    ensures fault { IfErr result (λ e. with_room size (station_view station.now) engine.now
+        planned.now ≡ Err e) }
 {
     if polls_any(engine, station.core.targets()) {
         return Err(SurveyFault::SameEngine);
     }
     let instances = station.core.watch().instances().len() + planned.len();
-    if instances > MOST_INSTANCES {
+    if instances > MAX_INSTANCES {
         return Err(SurveyFault::TooMany(instances));
     }
     require_few_targets(size, station.core.targets(), planned)
@@ -84,8 +86,13 @@ fn draft_addition(
     plan: &AgentPlan<'_>,
 ) -> Result<String, SurveyFault>
     requires { plan.now.options.now.percent ≤ 100 }
-    ensures gives { IfOk result (λ text. addition_of (shown_by existing.now.names.now (length existing.now.station.now.modules.items)) existing.now.text.now plan.now.options.now plan.now.engine.now agent.now.answers.now plan.now.planned.now ≡ Ok (string_bytes text)) }
-    ensures fault { IfErr result (λ e. (e ≡ SurveyFault.OutOfMemory) ⊎ (addition_of (shown_by existing.now.names.now (length existing.now.station.now.modules.items)) existing.now.text.now plan.now.options.now plan.now.engine.now agent.now.answers.now plan.now.planned.now ≡ Err e)) }
+    ensures gives { IfOk result (λ text. addition_of (shown_by existing.now.names.now
+        (length existing.now.station.now.modules.items)) existing.now.text.now plan.now.options.now
+        plan.now.engine.now agent.now.answers.now plan.now.planned.now ≡ Ok (string_bytes text)) }
+    ensures fault { IfErr result (λ e. (e ≡ SurveyFault.OutOfMemory)
+        ⊎ (addition_of (shown_by existing.now.names.now (length
+        existing.now.station.now.modules.items)) existing.now.text.now plan.now.options.now
+        plan.now.engine.now agent.now.answers.now plan.now.planned.now ≡ Err e)) }
 {
     if existing.station.modules.is_empty() {
         let names = &InNumbers;
@@ -121,8 +128,14 @@ fn require_appended(
 ) -> Result<Reading, SurveyFault>
     requires few { length wanted.now.planned.now ≤ 256 }
     requires percent { wanted.now.options.now.percent ≤ 100 }
-    ensures gives { IfOk result (λ reading. IsAppended wanted.now.options.now wanted.now.engine.now wanted.now.answers.now wanted.now.planned.now (station_view old.now) (station_view new.now) × (reading.longest ≡ longest_of (station_view new.now)) × (reading.targets.items ≡ drop (length (station_view old.now).core.targets) (station_view new.now).core.targets)) }
-    ensures fault { IfErr result (IsUnlike (IsAppended wanted.now.options.now wanted.now.engine.now wanted.now.answers.now wanted.now.planned.now (station_view old.now) (station_view new.now))) }
+    ensures gives { IfOk result (λ reading. IsAppended wanted.now.options.now wanted.now.engine.now
+        wanted.now.answers.now wanted.now.planned.now (station_view old.now) (station_view new.now)
+        × (reading.longest ≡ longest_of (station_view new.now))
+        × (reading.targets.items ≡ drop (length (station_view old.now).core.targets)
+        (station_view new.now).core.targets)) }
+    ensures fault { IfErr result (IsUnlike (IsAppended wanted.now.options.now wanted.now.engine.now
+        wanted.now.answers.now wanted.now.planned.now (station_view old.now)
+        (station_view new.now))) }
 {
     if is_appended(alloc, wanted, old, new)? {
         let added = after(new.core.targets(), old.core.targets().len());
@@ -141,8 +154,15 @@ fn read_appended(
 ) -> Result<Reading, SurveyFault>
     requires few { length wanted.now.planned.now ≤ 256 }
     requires percent { wanted.now.options.now.percent ≤ 100 }
-    ensures gives { IfOk result (λ reading. (station : Station) × Says (IsStation existing.now.names.now) text.now station × IsAppended wanted.now.options.now wanted.now.engine.now wanted.now.answers.now wanted.now.planned.now (station_view existing.now.station.now) station × (reading.longest ≡ longest_of station) × (reading.targets.items ≡ drop (length (station_view existing.now.station.now).core.targets) station.core.targets)) }
-    ensures fault { IfErr result (IsMisread existing.now.names.now wanted.now.options.now wanted.now.engine.now wanted.now.answers.now wanted.now.planned.now (station_view existing.now.station.now) text.now) }
+    ensures gives { IfOk result (λ reading. (station : Station)
+        × Says (IsStation existing.now.names.now) text.now station
+        × IsAppended wanted.now.options.now wanted.now.engine.now wanted.now.answers.now
+        wanted.now.planned.now (station_view existing.now.station.now) station
+        × (reading.longest ≡ longest_of station) × (reading.targets.items
+        ≡ drop (length (station_view existing.now.station.now).core.targets) station.core.targets)) }
+    ensures fault { IfErr result (IsMisread existing.now.names.now wanted.now.options.now
+        wanted.now.engine.now wanted.now.answers.now wanted.now.planned.now
+        (station_view existing.now.station.now) text.now) }
 {
     match read_station(alloc, text, existing.names) {
         Ok(station) => require_appended(alloc, wanted, existing.station, &station),
@@ -151,15 +171,17 @@ fn read_appended(
     }
 }
 
-/// Returns settings with the targets of a further agent at their end, which poll its chosen counters,
-/// and the alarms on them. The old text is kept octet by octet, and the whole was read back, as what
-/// was meant: how long a round takes at most and the agent's targets follow from what was read. Of the
-/// options only the agent's address, community, tries and percentage and the size of targets are used.
+/// Returns settings with the targets of a further agent at their end, which poll its chosen
+/// counters, and the alarms on them. The old text is kept octet by octet, and the whole was read
+/// back, as what was meant: how long a round takes at most and the agent's targets follow from what
+/// was read. Of the options only the agent's address, community, tries and percentage and the size
+/// of targets are used.
 ///
 /// # Errors
-/// Those of `plan`; `SameEngine` if a target is an agent of this engine id; `TooMany` with the number
-/// of instances in all, above 256; `TooManyTargets` with that of targets in all, above 64; `BadText`;
-/// `Refused` where the text is no settings; `Misread` where it is read as others; `OutOfMemory`.
+/// Those of `plan`; `SameEngine` if a target is an agent of this engine id; `TooMany` with the
+/// number of instances in all, above 256; `TooManyTargets` with that of targets in all, above 64;
+/// `BadText`; `Refused` where the text is no settings; `Misread` where it is read as others;
+/// `OutOfMemory`.
 pub fn append(
     alloc: Global,
     existing: &Existing<'_>,
@@ -168,8 +190,13 @@ pub fn append(
     choice: &Choice<'_>,
 ) -> Result<Drafted, SurveyFault>
     requires { options.now.percent ≤ 100 }
-    ensures reads { IfOk result (λ drafted. IsAppendedText existing.now.names.now choice.now options.now existing.now.text.now (station_view existing.now.station.now) agent.now.engine.now agent.now.answers.now (string_bytes drafted.text) drafted.longest drafted.targets.items) }
-    ensures fault { IfErr result (IsAppendFault existing.now.names.now choice.now options.now existing.now.text.now (station_view existing.now.station.now) agent.now.engine.now agent.now.answers.now) }
+    ensures reads { IfOk result (λ drafted. IsAppendedText existing.now.names.now choice.now
+        options.now existing.now.text.now (station_view existing.now.station.now)
+        agent.now.engine.now agent.now.answers.now (string_bytes drafted.text) drafted.longest
+        drafted.targets.items) }
+    ensures fault { IfErr result (IsAppendFault existing.now.names.now choice.now options.now
+        existing.now.text.now (station_view existing.now.station.now) agent.now.engine.now
+        agent.now.answers.now) }
 {
     let planned = given!(plan(alloc, agent.answers, choice));
     given!(require_room(options.size, existing.station, agent.engine, &planned));

@@ -58,7 +58,8 @@ fn put_watched(
     engine: &[u8],
     watched: &Watched,
 ) -> Result<(), AllocFailed<u32>>
-    ensures { OnOk result (indexes.new.items ≡ with_watched engine.now indexes.old.items watched.now) }
+    ensures { OnOk result (indexes.new.items ≡ with_watched engine.now indexes.old.items
+        watched.now) }
 {
     if !is_own(engine, watched) {
         return Ok(());
@@ -83,7 +84,8 @@ fn polled(alloc: Global, engine: &[u8], instances: &[Watched]) -> Result<Vec<u32
 
 /// The indexes that these interfaces have now.
 fn left_at(alloc: Global, places: &Places<'_>, indexes: &[u32]) -> Result<Vec<u32>, AllocError>
-    ensures { IfOk result (λ v. v.items ≡ flat_map (λ i. option_to_list (index_now (at_of places.now) i)) indexes.now) }
+    ensures { IfOk result (λ v. v.items ≡ flat_map (λ i. option_to_list
+        (index_now (at_of places.now) i)) indexes.now) }
 {
     let mut left = Vec::new(alloc);
     for index in indexes {
@@ -151,7 +153,8 @@ fn add_change(
     places: &Places<'_>,
     index: u32,
 ) -> Result<(), AllocFailed<Change>>
-    ensures { OnOk result (changes.new.items ≡ changes.old.items ++ change_of (at_of places.now) index) }
+    ensures { OnOk result (changes.new.items ≡ changes.old.items
+        ++ change_of (at_of places.now) index) }
 {
     match places.index_now(index) {
         Some(now) => add_move(changes, index, now),
@@ -175,7 +178,8 @@ fn add_changes(
     places: &Places<'_>,
     indexes: &[u32],
 ) -> Result<(), AllocFailed<Change>>
-    ensures { OnOk result (changes.new.items ≡ changes.old.items ++ flat_map (change_of (at_of places.now)) indexes.now) }
+    ensures { OnOk result (changes.new.items ≡ changes.old.items
+        ++ flat_map (change_of (at_of places.now)) indexes.now) }
 {
     for index in indexes {
         add_change(changes, places, *index)?;
@@ -185,7 +189,8 @@ fn add_changes(
 
 /// Adds each new interface.
 fn add_new(changes: &mut Vec<Change>, indexes: &[u32]) -> Result<(), AllocFailed<Change>>
-    ensures { OnOk result (changes.new.items ≡ changes.old.items ++ map (λ i. Change.Added i) indexes.now) }
+    ensures { OnOk result (changes.new.items ≡ changes.old.items
+        ++ map (λ i. Change.Added i) indexes.now) }
 {
     for index in indexes {
         changes.push(Change::Added(*index))?;
@@ -193,16 +198,17 @@ fn add_new(changes: &mut Vec<Change>, indexes: &[u32]) -> Result<(), AllocFailed
     Ok(())
 }
 
-/// Returns what changes if settings that watch this poll the agent's interfaces as they are now: what
-/// became of those that they poll, which are gone or have another index, and then each new one, of
-/// which a counter is chosen. An `Err` means out of memory.
+/// Returns what changes if settings that watch this poll the agent's interfaces as they are now:
+/// what became of those that they poll, which are gone or have another index, and then each new
+/// one, of which a counter is chosen. An `Err` means out of memory.
 pub fn changes_between(
     alloc: Global,
     renamed: &Renamed<'_>,
     choice: &Choice<'_>,
     instances: &[Watched],
 ) -> Result<Vec<Change>, AllocError>
-    ensures { IfOk result (λ v. v.items ≡ changes_between choice.now (at_in renamed.now) instances.now) }
+    ensures { IfOk result (λ v. v.items ≡ changes_between choice.now (at_in renamed.now)
+        instances.now) }
 {
     let places = renamed.places();
     let before = polled(alloc, places.engine, instances)?;
@@ -214,8 +220,8 @@ pub fn changes_between(
     Ok(changes)
 }
 
-/// The name of an interface, at most 64 octets of it as a comment shows them, or its index if it has
-/// no name.
+/// The name of an interface, at most 64 octets of it as a comment shows them, or its index if it
+/// has no name.
 fn called(alloc: Global, name: &[u8], index: u32) -> Result<String, AllocError>
     ensures { IfOk result (λ t. string_bytes t ≡ called name.now index) }
 {
@@ -239,7 +245,8 @@ fn old_name<'a>(places: &Places<'a>, index: u32) -> &'a [u8]
 
 /// The line of an interface that is new.
 fn added_line(alloc: Global, places: &Places<'_>, index: u32) -> Result<String, AllocError>
-    ensures { IfOk result (λ t. string_bytes t ≡ change_line (at_of places.now) (Change.Added index)) }
+    ensures { IfOk result (λ t. string_bytes t ≡ change_line (at_of places.now)
+        (Change.Added index)) }
 {
     let name = called(alloc, places.answers.name(index), index)?;
     format!(in alloc; "+ {name}\n")
@@ -260,7 +267,8 @@ fn moved_line(
     index: u32,
     now: u32,
 ) -> Result<String, AllocError>
-    ensures { IfOk result (λ t. string_bytes t ≡ change_line (at_of places.now) (Change.Moved index now)) }
+    ensures { IfOk result (λ t. string_bytes t ≡ change_line (at_of places.now)
+        (Change.Moved index now)) }
 {
     let name = called(alloc, places.answers.name(now), index)?;
     format!(in alloc; "{name}: index {index} is {now} now\n")
@@ -283,7 +291,8 @@ fn lines_of(
     places: &Places<'_>,
     changes: &[Change],
 ) -> Result<Vec<String>, AllocError>
-    ensures { IfOk result (λ v. map string_bytes v.items ≡ map (change_line (at_of places.now)) changes.now) }
+    ensures { IfOk result (λ v. map string_bytes v.items ≡ map (change_line (at_of places.now))
+        changes.now) }
 {
     let mut lines = Vec::new(alloc);
     for change in changes {
@@ -292,17 +301,18 @@ fn lines_of(
     Ok(lines)
 }
 
-/// Returns the lines that say what changes if settings that watch this poll the agent's interfaces as
-/// they are now, each with its line feed: `+ NAME` for a new interface, `- NAME` for one that is gone,
-/// and `NAME: index I is J now`. Of a name at most 64 octets are shown, each outside of 20 to 7E as
-/// `?`; an interface without a name is `index I`. An `Err` means out of memory.
+/// Returns the lines that say what changes if settings that watch this poll the agent's interfaces
+/// as they are now, each with its line feed: `+ NAME` for a new interface, `- NAME` for one that is
+/// gone, and `NAME: index I is J now`. Of a name at most 64 octets are shown, each outside of 20 to
+/// 7E as `?`; an interface without a name is `index I`. An `Err` means out of memory.
 pub fn change_lines(
     alloc: Global,
     renamed: &Renamed<'_>,
     choice: &Choice<'_>,
     instances: &[Watched],
 ) -> Result<Vec<String>, AllocError>
-    ensures { IfOk result (λ v. map string_bytes v.items ≡ change_lines choice.now (at_in renamed.now) instances.now) }
+    ensures { IfOk result (λ v. map string_bytes v.items ≡ change_lines choice.now
+        (at_in renamed.now) instances.now) }
 {
     let changes = changes_between(alloc, renamed, choice, instances)?;
     lines_of(alloc, &renamed.places(), &changes)

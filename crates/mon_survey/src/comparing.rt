@@ -35,7 +35,9 @@ pub(crate) struct Wanted<'a> {
 impl<'a> Wanted<'a> {
     /// What is planned of the agent.
     pub(crate) fn agent_plan(&self) -> AgentPlan<'a>
-        ensures { (result.options.now ≡ self.now.options.now) × (result.engine.now ≡ self.now.engine.now) × (result.planned.now ≡ self.now.planned.now) }
+        ensures { (result.options.now ≡ self.now.options.now)
+            × (result.engine.now ≡ self.now.engine.now) × (result.planned.now
+            ≡ self.now.planned.now) }
     {
         AgentPlan {
             options: self.options,
@@ -150,7 +152,8 @@ fn are_agents(wanted: &Wanted<'_>, targets: &[Target]) -> bool
 
 /// Returns `true` if the targets' objects are the counters.
 fn are_polled(alloc: Global, wanted: &Wanted<'_>, targets: &[Target]) -> Result<bool, AllocError>
-    ensures { IfOk result (λ are. IsTrue are ↔ AllZip (IsCounter wanted.now.answers.now) (flat_map (λ t. t.objects) targets.now) wanted.now.planned.now) }
+    ensures { IfOk result (λ are. IsTrue are ↔ AllZip (IsCounter wanted.now.answers.now)
+        (flat_map (λ t. t.objects) targets.now) wanted.now.planned.now) }
 {
     let objects = objects_of(alloc, targets)?;
     Ok(are_counters(wanted.answers, &objects, wanted.planned))
@@ -176,7 +179,8 @@ pub(crate) fn are_targets(
     targets: &[Target],
 ) -> Result<bool, AllocError>
     requires { length wanted.now.planned.now ≤ 256 }
-    ensures { IfOk result (λ are. IsTrue are ↔ AreTargets wanted.now.options.now wanted.now.engine.now wanted.now.answers.now wanted.now.planned.now targets.now) }
+    ensures { IfOk result (λ are. IsTrue are ↔ AreTargets wanted.now.options.now
+        wanted.now.engine.now wanted.now.answers.now wanted.now.planned.now targets.now) }
 {
     let polled = are_polled(alloc, wanted, targets)?;
     let size = wanted.options.size;
@@ -223,7 +227,8 @@ fn at_cell(answers: &Answers, percent: u8, spot: Spot) -> Option<Thresholds>
 /// The thresholds of an instance, where it is the agent's.
 fn at_watched(wanted: &Wanted<'_>, watched: &Watched) -> Option<Thresholds>
     requires { wanted.now.options.now.percent ≤ 100 }
-    ensures { result ≡ at_watched wanted.now.engine.now wanted.now.answers.now wanted.now.options.now.percent watched.now }
+    ensures { result ≡ at_watched wanted.now.engine.now wanted.now.answers.now
+        wanted.now.options.now.percent watched.now }
 {
     if is_own(wanted.engine, watched) {
         at_cell(
@@ -239,7 +244,8 @@ fn at_watched(wanted: &Wanted<'_>, watched: &Watched) -> Option<Thresholds>
 /// The alarm on the instance of this number.
 fn alarm_on(wanted: &Wanted<'_>, number: usize, watched: &Watched) -> Option<Alarm>
     requires { wanted.now.options.now.percent ≤ 100 }
-    ensures { result ≡ alarm_on number (at_watched wanted.now.engine.now wanted.now.answers.now wanted.now.options.now.percent watched.now) }
+    ensures { result ≡ alarm_on number (at_watched wanted.now.engine.now wanted.now.answers.now
+        wanted.now.options.now.percent watched.now) }
 {
     match at_watched(wanted, watched) {
         Some(at) => Some(Alarm {
@@ -259,7 +265,9 @@ fn add_alarm(
     watched: &Watched,
 ) -> Result<(), AllocFailed<Alarm>>
     requires { wanted.now.options.now.percent ≤ 100 }
-    ensures { OnOk result (alarms.new.items ≡ alarms.old.items ++ option_to_list (alarm_on number (at_watched wanted.now.engine.now wanted.now.answers.now wanted.now.options.now.percent watched.now))) }
+    ensures { OnOk result (alarms.new.items ≡ alarms.old.items
+        ++ option_to_list (alarm_on number (at_watched wanted.now.engine.now wanted.now.answers.now
+        wanted.now.options.now.percent watched.now))) }
 {
     match alarm_on(wanted, number, watched) {
         Some(alarm) => alarms.push(alarm),
@@ -274,7 +282,8 @@ pub(crate) fn alarms_of(
     instances: &[Watched],
 ) -> Result<Vec<Alarm>, AllocError>
     requires { wanted.now.options.now.percent ≤ 100 }
-    ensures { IfOk result (λ v. v.items ≡ alarms_from wanted.now.engine.now wanted.now.answers.now wanted.now.options.now.percent 0 instances.now) }
+    ensures { IfOk result (λ v. v.items ≡ alarms_from wanted.now.engine.now wanted.now.answers.now
+        wanted.now.options.now.percent 0 instances.now) }
 {
     let mut alarms = Vec::new(alloc);
     for (number, watched) in instances.iter().enumerate() {
@@ -315,7 +324,9 @@ fn has_alarms(
     instances: &[Watched],
 ) -> Result<bool, AllocError>
     requires { wanted.now.options.now.percent ≤ 100 }
-    ensures { IfOk result (λ are. IsTrue are ↔ AllZip IsAlarm rules.now (alarms_from wanted.now.engine.now wanted.now.answers.now wanted.now.options.now.percent 0 instances.now)) }
+    ensures { IfOk result (λ are. IsTrue are ↔ AllZip IsAlarm rules.now
+        (alarms_from wanted.now.engine.now wanted.now.answers.now wanted.now.options.now.percent 0
+        instances.now)) }
 {
     let alarms = alarms_of(alloc, wanted, instances)?;
     Ok(are_alarms(rules, &alarms))
@@ -338,7 +349,8 @@ fn are_numbered(numbers: &[u32], peers: &[Peer]) -> bool
 
 /// Returns `true` if the addresses are those of the peers.
 fn are_placed(addresses: &[Addr], peers: &[Peer]) -> bool
-    ensures { IsTrue result ↔ AllZip (λ a p. addr_of (string_bytes p.address) ≡ Some a) addresses.now peers.now }
+    ensures { IsTrue result ↔ AllZip (λ a p. addr_of (string_bytes p.address) ≡ Some a)
+        addresses.now peers.now }
 {
     if addresses.len() != peers.len() {
         return false;
@@ -380,7 +392,8 @@ fn is_module(text: &String, file: &str) -> bool
 
 /// Returns `true` if the texts are the modules' files.
 fn are_modules(texts: &[String], modules: &[&str]) -> bool
-    ensures { IsTrue result ↔ AllZip (λ text m. text ≡ m.now) (map string_bytes texts.now) modules.now }
+    ensures { IsTrue result ↔ AllZip (λ text m. text ≡ m.now) (map string_bytes texts.now)
+        modules.now }
 {
     let [text, texts @ ..] = texts else {
         return modules.is_empty();
@@ -410,7 +423,8 @@ pub(crate) fn is_meant(
 ) -> Result<bool, AllocError>
     requires few { length wanted.now.planned.now ≤ 256 }
     requires percent { wanted.now.options.now.percent ≤ 100 }
-    ensures { IfOk result (λ is. IsTrue is ↔ IsMeant wanted.now.options.now wanted.now.engine.now wanted.now.answers.now wanted.now.planned.now (station_view station.now)) }
+    ensures { IfOk result (λ is. IsTrue is ↔ IsMeant wanted.now.options.now wanted.now.engine.now
+        wanted.now.answers.now wanted.now.planned.now (station_view station.now)) }
 {
     let options = wanted.options;
     let instances = station.core.watch().instances();

@@ -20,7 +20,8 @@ fn put_opening(
     engine: &str,
     place: usize,
 ) -> Result<(), AllocError>
-    ensures { OnOk result (string_bytes text.new ≡ string_bytes text.old ++ opening options.now engine.now place) }
+    ensures { OnOk result (string_bytes text.new ≡ string_bytes text.old
+        ++ opening options.now engine.now place) }
 {
     if place % options.size.objects() == 0 {
         put_target(text, options, engine)
@@ -38,7 +39,8 @@ fn put_closing(
     place: usize,
 ) -> Result<(), AllocError>
     requires { place < count }
-    ensures { OnOk result (string_bytes text.new ≡ string_bytes text.old ++ closing size count place) }
+    ensures { OnOk result (string_bytes text.new ≡ string_bytes text.old
+        ++ closing size count place) }
 {
     if (place + 1) % size.objects() == 0 || place + 1 == count {
         text.push_str("]\n")
@@ -65,7 +67,9 @@ fn put_placed<S: NameTexts>(
     one: Planned,
 ) -> Result<(), AllocError>
     requires { place < around.now.count }
-    ensures { OnOk result (string_bytes text.new ≡ string_bytes text.old ++ placed_text (S.shown around.now.shown.now.names.now) around.now.options.now around.now.engine.now around.now.shown.now.answers.now around.now.count place one) }
+    ensures { OnOk result (string_bytes text.new ≡ string_bytes text.old
+        ++ placed_text (S.shown around.now.shown.now.names.now) around.now.options.now
+        around.now.engine.now around.now.shown.now.answers.now around.now.count place one) }
 {
     put_opening(text, around.options, around.engine, place)?;
     put_object(text, around.shown, one)?;
@@ -79,7 +83,9 @@ fn put_objects<S: NameTexts>(
     planned: &[Planned],
 ) -> Result<(), AllocError>
     requires { length planned.now ≡ around.now.count }
-    ensures { OnOk result (string_bytes text.new ≡ string_bytes text.old ++ objects_from (S.shown around.now.shown.now.names.now) around.now.options.now around.now.engine.now around.now.shown.now.answers.now around.now.count 0 planned.now) }
+    ensures { OnOk result (string_bytes text.new ≡ string_bytes text.old
+        ++ objects_from (S.shown around.now.shown.now.names.now) around.now.options.now
+        around.now.engine.now around.now.shown.now.answers.now around.now.count 0 planned.now) }
 {
     for (place, one) in planned.iter().enumerate() {
         put_placed(text, around, place, *one)?;
@@ -89,7 +95,8 @@ fn put_objects<S: NameTexts>(
 
 /// Adds the peers.
 fn put_peers(text: &mut String, peers: &[Peer]) -> Result<(), AllocError>
-    ensures { OnOk result (string_bytes text.new ≡ string_bytes text.old ++ flat_map peer_text peers.now) }
+    ensures { OnOk result (string_bytes text.new ≡ string_bytes text.old
+        ++ flat_map peer_text peers.now) }
 {
     for peer in peers {
         put_peer(text, peer)?;
@@ -106,7 +113,9 @@ fn put_alarms<S: NameTexts>(
     planned: &[Planned],
 ) -> Result<(), AllocError>
     requires { percent ≤ 100 }
-    ensures { OnOk result (string_bytes text.new ≡ string_bytes text.old ++ flat_map (alarm_text (S.shown shown.now.names.now) shown.now.answers.now percent engine.now) planned.now) }
+    ensures { OnOk result (string_bytes text.new ≡ string_bytes text.old
+        ++ flat_map (alarm_text (S.shown shown.now.names.now) shown.now.answers.now percent
+        engine.now) planned.now) }
 {
     for one in planned {
         put_alarm(text, shown, percent, engine, *one)?;
@@ -130,7 +139,9 @@ fn put_targets<S: NameTexts>(
     engine: &str,
 ) -> Result<(), AllocError>
     requires { engine.now ≡ encode_lower plan.now.engine.now }
-    ensures { OnOk result (string_bytes text.new ≡ string_bytes text.old ++ targets_text (S.shown shown.now.names.now) plan.now.options.now plan.now.engine.now shown.now.answers.now plan.now.planned.now) }
+    ensures { OnOk result (string_bytes text.new ≡ string_bytes text.old
+        ++ targets_text (S.shown shown.now.names.now) plan.now.options.now plan.now.engine.now
+        shown.now.answers.now plan.now.planned.now) }
 {
     let around = Around {
         shown,
@@ -151,7 +162,9 @@ fn put_settings<S: NameTexts>(
 ) -> Result<(), AllocError>
     requires percent { plan.now.options.now.percent ≤ 100 }
     requires engine { engine.now ≡ encode_lower plan.now.engine.now }
-    ensures { OnOk result (string_bytes text.new ≡ string_bytes text.old ++ settings_text (S.shown shown.now.names.now) plan.now.options.now plan.now.engine.now shown.now.answers.now plan.now.planned.now) }
+    ensures { OnOk result (string_bytes text.new ≡ string_bytes text.old
+        ++ settings_text (S.shown shown.now.names.now) plan.now.options.now plan.now.engine.now
+        shown.now.answers.now plan.now.planned.now) }
 {
     put_head(text, plan.options)?;
     put_modules(text, plan.options.modules)?;
@@ -170,7 +183,9 @@ fn put_addition<S: NameTexts>(
 ) -> Result<(), AllocError>
     requires percent { plan.now.options.now.percent ≤ 100 }
     requires engine { engine.now ≡ encode_lower plan.now.engine.now }
-    ensures { OnOk result (string_bytes text.new ≡ added_text (S.shown shown.now.names.now) (string_bytes text.old) plan.now.options.now plan.now.engine.now shown.now.answers.now plan.now.planned.now) }
+    ensures { OnOk result (string_bytes text.new ≡ added_text (S.shown shown.now.names.now)
+        (string_bytes text.old) plan.now.options.now plan.now.engine.now shown.now.answers.now
+        plan.now.planned.now) }
 {
     put_targets(text, shown, plan, engine)?;
     put_alarms(text, shown, plan.options.percent, engine, plan.planned)
@@ -182,7 +197,8 @@ fn settings_of<S: NameTexts>(
     plan: &AgentPlan<'_>,
 ) -> Result<String, AllocError>
     requires { plan.now.options.now.percent ≤ 100 }
-    ensures { IfOk result (λ text. string_bytes text ≡ settings_text (S.shown shown.now.names.now) plan.now.options.now plan.now.engine.now shown.now.answers.now plan.now.planned.now) }
+    ensures { IfOk result (λ text. string_bytes text ≡ settings_text (S.shown shown.now.names.now)
+        plan.now.options.now plan.now.engine.now shown.now.answers.now plan.now.planned.now) }
 {
     let digits = hex::encode(shown.alloc, plan.engine)?;
     let mut text = String::new(shown.alloc);
@@ -197,7 +213,9 @@ fn settings_with<S: NameTexts>(
     settings: &str,
 ) -> Result<String, AllocError>
     requires { plan.now.options.now.percent ≤ 100 }
-    ensures { IfOk result (λ text. string_bytes text ≡ added_text (S.shown shown.now.names.now) settings.now plan.now.options.now plan.now.engine.now shown.now.answers.now plan.now.planned.now) }
+    ensures { IfOk result (λ text. string_bytes text ≡ added_text (S.shown shown.now.names.now)
+        settings.now plan.now.options.now plan.now.engine.now shown.now.answers.now
+        plan.now.planned.now) }
 {
     let digits = hex::encode(shown.alloc, plan.engine)?;
     let mut text = String::from_str(shown.alloc, settings)?;
@@ -215,8 +233,11 @@ pub(crate) fn draft<S: NameTexts>(
     plan: &AgentPlan<'_>,
 ) -> Result<String, SurveyFault>
     requires { plan.now.options.now.percent ≤ 100 }
-    ensures gives { IfOk result (λ text. draft_of (S.shown shown.now.names.now) plan.now.options.now plan.now.engine.now shown.now.answers.now plan.now.planned.now ≡ Ok (string_bytes text)) }
-    ensures fault { IfErr result (λ e. (e ≡ SurveyFault.OutOfMemory) ⊎ (draft_of (S.shown shown.now.names.now) plan.now.options.now plan.now.engine.now shown.now.answers.now plan.now.planned.now ≡ Err e)) }
+    ensures gives { IfOk result (λ text. draft_of (S.shown shown.now.names.now) plan.now.options.now
+        plan.now.engine.now shown.now.answers.now plan.now.planned.now ≡ Ok (string_bytes text)) }
+    ensures fault { IfErr result (λ e. (e ≡ SurveyFault.OutOfMemory)
+        ⊎ (draft_of (S.shown shown.now.names.now) plan.now.options.now plan.now.engine.now
+        shown.now.answers.now plan.now.planned.now ≡ Err e)) }
 {
     if !plan.options.are_plain() {
         return Err(SurveyFault::BadText);
@@ -237,8 +258,12 @@ pub(crate) fn addition<S: NameTexts>(
     settings: &str,
 ) -> Result<String, SurveyFault>
     requires { plan.now.options.now.percent ≤ 100 }
-    ensures gives { IfOk result (λ text. addition_of (S.shown shown.now.names.now) settings.now plan.now.options.now plan.now.engine.now shown.now.answers.now plan.now.planned.now ≡ Ok (string_bytes text)) }
-    ensures fault { IfErr result (λ e. (e ≡ SurveyFault.OutOfMemory) ⊎ (addition_of (S.shown shown.now.names.now) settings.now plan.now.options.now plan.now.engine.now shown.now.answers.now plan.now.planned.now ≡ Err e)) }
+    ensures gives { IfOk result (λ text. addition_of (S.shown shown.now.names.now) settings.now
+        plan.now.options.now plan.now.engine.now shown.now.answers.now plan.now.planned.now
+        ≡ Ok (string_bytes text)) }
+    ensures fault { IfErr result (λ e. (e ≡ SurveyFault.OutOfMemory)
+        ⊎ (addition_of (S.shown shown.now.names.now) settings.now plan.now.options.now
+        plan.now.engine.now shown.now.answers.now plan.now.planned.now ≡ Err e)) }
 {
     if !plan.options.are_plain() {
         return Err(SurveyFault::BadText);

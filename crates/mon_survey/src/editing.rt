@@ -60,7 +60,18 @@ fn add_spelled<S: NameTexts>(
     watched: &Watched,
     index: u32,
 ) -> Result<(), AllocError>
-    ensures { OnOk result (all.new.items ≡ all.old.items ++ ((record { text = quoted (dotted watched.now.instance.name); index = index; place = index_now (at_of spelling.now.places) index }) ∷ (record { text = quoted (S.shown spelling.now.names.now watched.now.instance.name); index = index; place = index_now (at_of spelling.now.places) index }) ∷ [])) }
+    ensures { OnOk result (all.new.items ≡ all.old.items ++ ((record {
+      text = quoted (dotted watched.now.instance.name);
+      index = index;
+      place = index_now
+          (at_of spelling.now.places) index;
+    }) ∷ (record {
+      text = quoted
+          (S.shown spelling.now.names.now watched.now.instance.name);
+      index = index;
+      place = index_now
+          (at_of spelling.now.places) index;
+    }) ∷ [])) }
 {
     let alloc = spelling.alloc;
     let place = spelling.places.index_now(index);
@@ -80,7 +91,8 @@ fn add_watched<S: NameTexts>(
     spelling: &Spelling<'_, S>,
     watched: &Watched,
 ) -> Result<(), AllocError>
-    ensures { OnOk result (all.new.items ≡ all.old.items ++ spelled_by (S.shown spelling.now.names.now) (at_of spelling.now.places) watched.now) }
+    ensures { OnOk result (all.new.items ≡ all.old.items ++ spelled_by
+        (S.shown spelling.now.names.now) (at_of spelling.now.places) watched.now) }
 {
     if !is_own(spelling.places.engine, watched) {
         return Ok(());
@@ -96,7 +108,8 @@ pub(crate) fn spellings<S: NameTexts>(
     spelling: &Spelling<'_, S>,
     instances: &[Watched],
 ) -> Result<Vec<Spelled>, AllocError>
-    ensures { IfOk result (λ v. v.items ≡ spellings (S.shown spelling.now.names.now) (at_of spelling.now.places) instances.now) }
+    ensures { IfOk result (λ v. v.items ≡ spellings (S.shown spelling.now.names.now)
+        (at_of spelling.now.places) instances.now) }
 {
     let mut all = Vec::new(spelling.alloc);
     for watched in instances {
@@ -187,7 +200,8 @@ struct Swap<'a> {
 /// Adds the first octet of a text, or what is put in place of a part there. Returns how many octets
 /// after it are passed over.
 fn put_step(out: &mut Vec<u8>, swap: Swap<'_>, first: u8, rest: &[u8]) -> Result<usize, AllocError>
-    ensures text { OnOk result (out.new.items ≡ out.old.items ++ step_text swap.entry.from.now swap.entry.to.now first rest.now) }
+    ensures text { OnOk result (out.new.items ≡ out.old.items
+        ++ step_text swap.entry.from.now swap.entry.to.now first rest.now) }
     ensures skip { IfOk result (λ n. n ≡ step_skip swap.entry.from.now rest.now) }
 {
     if rest.starts_with(swap.from) {
@@ -233,7 +247,8 @@ fn reindexed(
     now: u32,
     after: &str,
 ) -> Result<Vec<u8>, AllocError>
-    ensures { IfOk result (λ v. v.items ≡ replaced (index_text index after.now) (index_text now after.now) 0 text.now) }
+    ensures { IfOk result (λ v. v.items ≡ replaced (index_text index after.now)
+        (index_text now after.now) 0 text.now) }
 {
     let from = index_text(alloc, index, after)?;
     let to = index_text(alloc, now, after)?;
@@ -279,7 +294,8 @@ fn put_line_at(
     line: &[u8],
     spelled: &Spelled,
 ) -> Result<(), AllocError>
-    ensures { OnOk result (out.new.items ≡ out.old.items ++ line_at line.now spelled.now.index spelled.now.place) }
+    ensures { OnOk result (out.new.items ≡ out.old.items ++ line_at line.now spelled.now.index
+        spelled.now.place) }
 {
     match spelled.place {
         Some(now) => put_moved(alloc, out, line, spelled.index, now),
@@ -301,7 +317,8 @@ fn put_by(
     line: &[u8],
     found: Option<&Spelled>,
 ) -> Result<(), AllocError>
-    ensures { OnOk result (out.new.items ≡ out.old.items ++ line_by line.now (option_copied found.entry)) }
+    ensures { OnOk result (out.new.items ≡ out.old.items ++ line_by line.now
+        (option_copied found.entry)) }
 {
     match found {
         Some(spelled) => put_line_at(alloc, out, line, spelled),
@@ -332,7 +349,8 @@ fn put_lines(
     names: &[Spelled],
     block: &[u8],
 ) -> Result<(), AllocError>
-    ensures { OnOk result (out.new.items ≡ out.old.items ++ flat_map (edited_line names.now) (lines_of block.now)) }
+    ensures { OnOk result (out.new.items ≡ out.old.items ++ flat_map (edited_line names.now)
+        (lines_of block.now)) }
 {
     let mut rest = block;
     while !rest.is_empty() {
@@ -356,7 +374,8 @@ fn put_comment(out: &mut Vec<u8>, line: &[u8]) -> Result<(), AllocError>
 
 /// Adds the lines of a block that are only comments.
 fn put_comments(out: &mut Vec<u8>, block: &[u8]) -> Result<(), AllocError>
-    ensures { OnOk result (out.new.items ≡ out.old.items ++ flat_map only_comment (lines_of block.now)) }
+    ensures { OnOk result (out.new.items ≡ out.old.items ++ flat_map only_comment
+        (lines_of block.now)) }
 {
     let mut rest = block;
     while !rest.is_empty() {
@@ -381,7 +400,8 @@ fn put_own(
     names: &[Spelled],
     block: &[u8],
 ) -> Result<(), AllocError>
-    ensures { OnOk result (out.new.items ≡ out.old.items ++ block_by block.now (flat_map (edited_line names.now) (lines_of block.now))) }
+    ensures { OnOk result (out.new.items ≡ out.old.items ++ block_by block.now
+        (flat_map (edited_line names.now) (lines_of block.now))) }
 {
     let mut lines = Vec::new(alloc);
     put_lines(alloc, &mut lines, names, block)?;
@@ -403,7 +423,8 @@ pub(crate) struct Edits<'a> {
 impl Edits<'_> {
     /// Adds a block.
     fn put_block(&self, out: &mut Vec<u8>, block: &[u8]) -> Result<(), AllocError>
-        ensures { OnOk result (out.new.items ≡ out.old.items ++ edited_block self.now.names.now self.now.own.now block.now) }
+        ensures { OnOk result (out.new.items ≡ out.old.items
+            ++ edited_block self.now.names.now self.now.own.now block.now) }
     {
         if has_part(block, self.own) {
             put_own(self.alloc, out, self.names, block)
@@ -414,7 +435,8 @@ impl Edits<'_> {
 
     /// The text with its blocks of the agent as they are now.
     pub(crate) fn edited(&self, text: &[u8]) -> Result<Vec<u8>, AllocError>
-        ensures { IfOk result (λ v. v.items ≡ edited_text self.now.names.now self.now.own.now text.now) }
+        ensures { IfOk result (λ v. v.items ≡ edited_text self.now.names.now self.now.own.now
+            text.now) }
     {
         let mut out = Vec::new(self.alloc);
         let mut rest = text;

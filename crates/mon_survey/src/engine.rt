@@ -22,7 +22,9 @@ fn is_count(value: &Value) -> bool
 /// # Errors
 /// `NoEngine` where the first is not 5 to 32 octets or one of the others no number from 0 on.
 pub fn engine_of<'a>(id: &'a Value, boots: &Value, time: &Value) -> Result<&'a [u8], SurveyFault>
-    ensures { MatchResult result (λ engine. IsEngine id.now boots.now time.now engine.now) (λ e. (e ≡ SurveyFault.NoEngine) × ((engine : List ℕ) → ¬ (IsEngine id.now boots.now time.now engine))) }
+    ensures { MatchResult result (λ engine. IsEngine id.now boots.now time.now engine.now)
+        (λ e. (e ≡ SurveyFault.NoEngine) × ((engine : List ℕ)
+        → ¬ (IsEngine id.now boots.now time.now engine))) }
 {
     let Value::Octets(octets) = id else {
         return Err(SurveyFault::NoEngine);

@@ -8,8 +8,8 @@ use mon_settings::SettingsFault;
 use std::alloc::{AllocError, AllocFailed};
 use thiserror::Error;
 
-/// The value that was made, or a return with its fault. It is `?` where the fault is of the function's own type, and its
-/// proof takes half the time.
+/// The value that was made, or a return with its fault. It is `?` where the fault is of the
+/// function's own type, and its proof takes half the time.
 macro_rules! given {
     ($made:expr) => {
         match $made {

@@ -65,7 +65,8 @@ fn is_same_watched(one: &Watched, other: &Watched) -> bool
 
 /// Returns `true` if what is watched is the old ones, the agent's aside.
 fn are_kept_instances(engine: &[u8], old: &[Watched], new: &[Watched]) -> bool
-    ensures { IsTrue result ↔ AllZip (λ w was. w ≡ was) (filter (λ w. not (is_own engine.now w)) new.now) old.now }
+    ensures { IsTrue result ↔ AllZip (λ w was. w ≡ was) (filter (λ w. not (is_own engine.now w))
+        new.now) old.now }
 {
     let [first, rest @ ..] = new else {
         return old.is_empty();
@@ -107,7 +108,8 @@ struct Watches<'a> {
     new: &'a [Watched],
 }
 
-/// Returns `true` if the rules are on the same instance, whatever its number, with the same thresholds.
+/// Returns `true` if the rules are on the same instance, whatever its number, with the same
+/// thresholds.
 fn is_same_rule(watches: &Watches<'_>, one: Rule, other: Rule) -> bool
     ensures { IsTrue result ↔ IsSameRule watches.now.old.now watches.now.new.now one other }
 {
@@ -118,7 +120,8 @@ fn is_same_rule(watches: &Watches<'_>, one: Rule, other: Rule) -> bool
 
 /// Returns `true` if the rules are the old ones, those of the agent aside.
 fn are_kept_rules(watches: &Watches<'_>, old: &[Rule], new: &[Rule]) -> bool
-    ensures { IsTrue result ↔ KeepsRules watches.now.engine.now watches.now.old.now watches.now.new.now old.now new.now }
+    ensures { IsTrue result ↔ KeepsRules watches.now.engine.now watches.now.old.now
+        watches.now.new.now old.now new.now }
 {
     let [first, rest @ ..] = new else {
         return old.is_empty();
@@ -134,7 +137,8 @@ fn are_kept_rules(watches: &Watches<'_>, old: &[Rule], new: &[Rule]) -> bool
 
 /// Returns `true` if those of the rules that are the agent's are the alarms.
 fn are_own_alarms(watches: &Watches<'_>, rules: &[Rule], alarms: &[Alarm]) -> bool
-    ensures { IsTrue result ↔ HasAlarms watches.now.engine.now watches.now.new.now rules.now alarms.now }
+    ensures { IsTrue result ↔ HasAlarms watches.now.engine.now watches.now.new.now rules.now
+        alarms.now }
 {
     let [first, rest @ ..] = rules else {
         return alarms.is_empty();
@@ -155,7 +159,8 @@ fn is_same_text(one: &String, other: &String) -> bool
 }
 
 fn are_same_texts(old: &[String], new: &[String]) -> bool
-    ensures { IsTrue result ↔ AllZip (λ a b. a ≡ b) (map string_bytes old.now) (map string_bytes new.now) }
+    ensures { IsTrue result ↔ AllZip (λ a b. a ≡ b) (map string_bytes old.now)
+        (map string_bytes new.now) }
 {
     let [one, old @ ..] = old else {
         return new.is_empty();
@@ -234,7 +239,8 @@ pub(crate) fn after(targets: &[Target], count: usize) -> &[Target]
 fn is_kept(watches: &Watches<'_>, old: &StationSettings, new: &StationSettings) -> bool
     requires old { watches.now.old.now ≡ (station_view old.now).core.watch.instances }
     requires new { watches.now.new.now ≡ (station_view new.now).core.watch.instances }
-    ensures { IsTrue result ↔ KeepsOld watches.now.engine.now (station_view old.now) (station_view new.now) }
+    ensures { IsTrue result ↔ KeepsOld watches.now.engine.now (station_view old.now)
+        (station_view new.now) }
 {
     if !are_kept_scalars(old, new) {
         return false;
@@ -254,7 +260,9 @@ fn has_own_alarms(
     rules: &[Rule],
 ) -> Result<bool, AllocError>
     requires { wanted.now.options.now.percent ≤ 100 }
-    ensures { IfOk result (λ are. IsTrue are ↔ HasAlarms watches.now.engine.now watches.now.new.now rules.now (alarms_from wanted.now.engine.now wanted.now.answers.now wanted.now.options.now.percent 0 watches.now.new.now)) }
+    ensures { IfOk result (λ are. IsTrue are ↔ HasAlarms watches.now.engine.now watches.now.new.now
+        rules.now (alarms_from wanted.now.engine.now wanted.now.answers.now
+        wanted.now.options.now.percent 0 watches.now.new.now)) }
 {
     let alarms = alarms_of(alloc, wanted, watches.new)?;
     Ok(are_own_alarms(watches, rules, &alarms))
@@ -269,7 +277,8 @@ pub(crate) fn is_appended(
 ) -> Result<bool, AllocError>
     requires few { length wanted.now.planned.now ≤ 256 }
     requires percent { wanted.now.options.now.percent ≤ 100 }
-    ensures { IfOk result (λ is. IsTrue is ↔ IsAppended wanted.now.options.now wanted.now.engine.now wanted.now.answers.now wanted.now.planned.now (station_view old.now) (station_view new.now)) }
+    ensures { IfOk result (λ is. IsTrue is ↔ IsAppended wanted.now.options.now wanted.now.engine.now
+        wanted.now.answers.now wanted.now.planned.now (station_view old.now) (station_view new.now)) }
 {
     let watches = Watches {
         engine: wanted.engine,

@@ -18,12 +18,13 @@ use std::alloc::{AllocError, Global};
 use toml::{Table, Value};
 
 /// The most interfaces of a file.
-const MOST_INTERFACES: usize = 4096;
+const MAX_INTERFACES: usize = 4096;
 
 /// The tree of a text.
 pub(crate) fn tree(alloc: Global, text: &str) -> Result<Table, SurveyFault>
     ensures tree { IfOk result (λ t. parse_document text.now ≡ Some (table_view t)) }
-    ensures none { IfErr result (λ e. (e ≡ SurveyFault.OutOfMemory) ⊎ ((e ≡ SurveyFault.BadLabels) × (parse_document text.now ≡ None))) }
+    ensures none { IfErr result (λ e. (e ≡ SurveyFault.OutOfMemory)
+        ⊎ ((e ≡ SurveyFault.BadLabels) × (parse_document text.now ≡ None))) }
 {
     match toml::table_from_str(alloc, text) {
         Ok(table) => Ok(table),
@@ -43,14 +44,16 @@ fn find<'t>(table: &'t Table, key: &str) -> Option<&'t Value>
 
 /// The tables of interfaces in a tree; `None` where they are no list.
 pub(crate) fn interfaces(table: &Table) -> Option<&[Value]>
-    ensures { option_map (λ v. items_view v.now) result ≡ items_at (get_member (codes "interface") (table_view table.now)) }
+    ensures { option_map (λ v. items_view v.now) result ≡ items_at
+        (get_member (codes "interface") (table_view table.now)) }
 {
     items_in(find(table, "interface"))
 }
 
 /// The values of a list; none if there is no list.
 fn items_in(found: Option<&Value>) -> Option<&[Value]>
-    ensures { option_map (λ v. items_view v.now) result ≡ items_at (option_map (λ v. view v.now) found.entry) }
+    ensures { option_map (λ v. items_view v.now) result ≡ items_at
+        (option_map (λ v. view v.now) found.entry) }
 {
     match found {
         Some(value) => match value.as_array() {
@@ -109,7 +112,8 @@ fn is_text(found: Option<&str>, wanted: &Option<String>) -> bool
 
 /// Returns `true` if the table has the octets as its text at a key, or no text if there are none.
 fn has_text(alloc: Global, value: &Value, key: &str, octets: &[u8]) -> Result<bool, AllocError>
-    ensures { IfOk result (λ has. IsTrue has ↔ (text_at key.now (view value.now) ≡ text_of octets.now)) }
+    ensures { IfOk result (λ has. IsTrue has ↔ (text_at key.now (view value.now)
+        ≡ text_of octets.now)) }
 {
     let text = text_of(alloc, octets)?;
     Ok(is_text(text_at(value, key), &text))
@@ -128,7 +132,8 @@ fn known_speed(speed: u64) -> Option<i64>
 
 /// Returns `true` if the table is that of the interface.
 fn is_interface(source: &Source<'_>, index: u32, value: &Value) -> Result<bool, AllocError>
-    ensures { IfOk result (λ is. IsTrue is ↔ IsInterface source.now.engine.now source.now.answers.now index (view value.now)) }
+    ensures { IfOk result (λ is. IsTrue is ↔ IsInterface source.now.engine.now
+        source.now.answers.now index (view value.now)) }
 {
     let name = has_text(source.alloc, value, "ifName", source.name(index))?;
     let alias = has_text(source.alloc, value, "ifAlias", source.alias(index))?;
@@ -148,7 +153,8 @@ fn are_interfaces(
     indexes: &[u32],
     values: &[Value],
 ) -> Result<bool, AllocError>
-    ensures { IfOk result (λ are. IsTrue are ↔ AreInterfaces source.now.engine.now source.now.answers.now indexes.now (items_view values.now)) }
+    ensures { IfOk result (λ are. IsTrue are ↔ AreInterfaces source.now.engine.now
+        source.now.answers.now indexes.now (items_view values.now)) }
 {
     let [index, indexes @ ..] = indexes else {
         return Ok(values.is_empty());
@@ -180,7 +186,8 @@ fn continues(
     old: &[Value],
     new: &[Value],
 ) -> Result<bool, AllocError>
-    ensures { IfOk result (λ is. IsTrue is ↔ Continue source.now.engine.now source.now.answers.now indexes.now (items_view old.now) (items_view new.now)) }
+    ensures { IfOk result (λ is. IsTrue is ↔ Continue source.now.engine.now source.now.answers.now
+        indexes.now (items_view old.now) (items_view new.now)) }
 {
     let [one, old @ ..] = old else {
         return are_interfaces(source, indexes, new);
@@ -224,26 +231,29 @@ fn require_room(
     requires { interfaces_in old.now ≡ Some (items_view before.now) }
     ensures other { OnOk result (has_engine source.now.engine.now (items_view before.now) ≡ false) }
     ensures few { OnOk result (count_items (items_view before.now) + length indexes.now ≤ 4096) }
-    ensures fault { IfErr result (IsNoLabels old.now source.now.engine.now source.now.answers.now indexes.now) }
+    ensures fault { IfErr result (IsNoLabels old.now source.now.engine.now source.now.answers.now
+        indexes.now) }
 {
     if has_engine(source.engine, before) {
         return Err(SurveyFault::SameEngine);
     }
     let count = before.len() + indexes.len();
-    if count > MOST_INTERFACES {
+    if count > MAX_INTERFACES {
         return Err(SurveyFault::TooManyInterfaces(count));
     }
     Ok(())
 }
 
-/// Returns `true` if there are new tables, which are the old ones, and then those of the interfaces.
+/// Returns `true` if there are new tables, which are the old ones, and then those of the
+/// interfaces.
 fn continues_in(
     source: &Source<'_>,
     indexes: &[u32],
     old: &[Value],
     new: Option<&[Value]>,
 ) -> Result<bool, AllocError>
-    ensures { IfOk result (λ is. IsTrue is ↔ ContinueIn source.now.engine.now source.now.answers.now indexes.now (items_view old.now) (option_map (λ v. items_view v.now) new.entry)) }
+    ensures { IfOk result (λ is. IsTrue is ↔ ContinueIn source.now.engine.now source.now.answers.now
+        indexes.now (items_view old.now) (option_map (λ v. items_view v.now) new.entry)) }
 {
     match new {
         Some(new) => continues(source, indexes, old, new),
@@ -251,15 +261,16 @@ fn continues_in(
     }
 }
 
-/// Returns `true` if the text is read as these tables and those of the interfaces. An `Err` means out
-/// of memory.
+/// Returns `true` if the text is read as these tables and those of the interfaces. An `Err` means
+/// out of memory.
 fn reads_on(
     source: &Source<'_>,
     before: &[Value],
     indexes: &[u32],
     text: &str,
 ) -> Result<bool, AllocError>
-    ensures { IfOk result (λ is. IsTrue is ↔ ReadsOn source.now.engine.now source.now.answers.now indexes.now (items_view before.now) text.now) }
+    ensures { IfOk result (λ is. IsTrue is ↔ ReadsOn source.now.engine.now source.now.answers.now
+        indexes.now (items_view before.now) text.now) }
 {
     let read = match tree(source.alloc, text) {
         Ok(read) => read,
@@ -276,8 +287,10 @@ fn confirm(
     indexes: &[u32],
     text: String,
 ) -> Result<String, SurveyFault>
-    ensures gives { IfOk result (λ same. (same ≡ text) × ReadsOn source.now.engine.now source.now.answers.now indexes.now (items_view before.now) (string_bytes text)) }
-    ensures fault { IfErr result (IsUnlike (ReadsOn source.now.engine.now source.now.answers.now indexes.now (items_view before.now) (string_bytes text))) }
+    ensures gives { IfOk result (λ same. (same ≡ text) × ReadsOn source.now.engine.now
+        source.now.answers.now indexes.now (items_view before.now) (string_bytes text)) }
+    ensures fault { IfErr result (IsUnlike (ReadsOn source.now.engine.now source.now.answers.now
+        indexes.now (items_view before.now) (string_bytes text))) }
 {
     if reads_on(source, before, indexes, text.as_str())? {
         Ok(text)
@@ -294,9 +307,12 @@ fn labels_after(
     indexes: &[u32],
 ) -> Result<String, SurveyFault>
     requires { interfaces_in old.now ≡ Some (items_view before.now) }
-    ensures is { IfOk result (λ text. string_bytes text ≡ labels_text old.now source.now.engine.now source.now.answers.now indexes.now) }
-    ensures reads { IfOk result (λ text. ReadsOn source.now.engine.now source.now.answers.now indexes.now (items_view before.now) (string_bytes text)) }
-    ensures fault { IfErr result (IsNoLabels old.now source.now.engine.now source.now.answers.now indexes.now) }
+    ensures is { IfOk result (λ text. string_bytes text ≡ labels_text old.now source.now.engine.now
+        source.now.answers.now indexes.now) }
+    ensures reads { IfOk result (λ text. ReadsOn source.now.engine.now source.now.answers.now
+        indexes.now (items_view before.now) (string_bytes text)) }
+    ensures fault { IfErr result (IsNoLabels old.now source.now.engine.now source.now.answers.now
+        indexes.now) }
 {
     let octets = source.octets(old, indexes)?;
     match String::from_utf8(octets) {
@@ -311,8 +327,10 @@ pub(crate) fn labels_of(
     old: &str,
     indexes: &[u32],
 ) -> Result<String, SurveyFault>
-    ensures reads { IfOk result (λ text. IsLabels old.now source.now.engine.now source.now.answers.now indexes.now (string_bytes text)) }
-    ensures fault { IfErr result (IsNoLabels old.now source.now.engine.now source.now.answers.now indexes.now) }
+    ensures reads { IfOk result (λ text. IsLabels old.now source.now.engine.now
+        source.now.answers.now indexes.now (string_bytes text)) }
+    ensures fault { IfErr result (IsNoLabels old.now source.now.engine.now source.now.answers.now
+        indexes.now) }
 {
     let was = given!(tree(source.alloc, old));
     labels_by(source, old, interfaces(&was), indexes)
@@ -326,8 +344,10 @@ fn labels_by(
     indexes: &[u32],
 ) -> Result<String, SurveyFault>
     requires { interfaces_in old.now ≡ option_map (λ v. items_view v.now) before }
-    ensures reads { IfOk result (λ text. IsLabels old.now source.now.engine.now source.now.answers.now indexes.now (string_bytes text)) }
-    ensures fault { IfErr result (IsNoLabels old.now source.now.engine.now source.now.answers.now indexes.now) }
+    ensures reads { IfOk result (λ text. IsLabels old.now source.now.engine.now
+        source.now.answers.now indexes.now (string_bytes text)) }
+    ensures fault { IfErr result (IsNoLabels old.now source.now.engine.now source.now.answers.now
+        indexes.now) }
 {
     let Some(before) = before else {
         return Err(SurveyFault::BadLabels);
@@ -349,22 +369,24 @@ fn indexes_by(
     Ok(indexes_of(alloc, &counters)?)
 }
 
-/// Returns a file of the texts of the interfaces of which a counter is chosen: the old text octet by
-/// octet (none: a new file), and then a table of each interface with its engine id, ifIndex, ifName
-/// and ifAlias. The whole was read back, as the old tables and these.
+/// Returns a file of the texts of the interfaces of which a counter is chosen: the old text octet
+/// by octet (none: a new file), and then a table of each interface with its engine id, ifIndex,
+/// ifName and ifAlias. The whole was read back, as the old tables and these.
 ///
 /// # Errors
 /// `BadLabels` where the old text is not TOML or its `interface` no list; `SameEngine` where it has
-/// the engine; `TooManyInterfaces` with their number in all, above 4,096; `Misread` where the text is
-/// read as others; `OutOfMemory`.
+/// the engine; `TooManyInterfaces` with their number in all, above 4,096; `Misread` where the text
+/// is read as others; `OutOfMemory`.
 pub fn labels(
     alloc: Global,
     old: &str,
     agent: &Surveyed<'_>,
     choice: &Choice<'_>,
 ) -> Result<String, SurveyFault>
-    ensures reads { IfOk result (λ text. IsLabels old.now (encode_lower agent.now.engine.now) agent.now.answers.now (indexes_of choice.now agent.now.answers.now) (string_bytes text)) }
-    ensures fault { IfErr result (IsNoLabels old.now (encode_lower agent.now.engine.now) agent.now.answers.now (indexes_of choice.now agent.now.answers.now)) }
+    ensures reads { IfOk result (λ text. IsLabels old.now (encode_lower agent.now.engine.now)
+        agent.now.answers.now (indexes_of choice.now agent.now.answers.now) (string_bytes text)) }
+    ensures fault { IfErr result (IsNoLabels old.now (encode_lower agent.now.engine.now)
+        agent.now.answers.now (indexes_of choice.now agent.now.answers.now)) }
 {
     let indexes = given!(indexes_by(alloc, agent.answers, choice));
     let digits = hex::encode(alloc, agent.engine)?;

@@ -133,7 +133,8 @@ impl Places<'_> {
 
     /// The name of a cell at the index that its interface has now.
     fn cell_now(&self, alloc: Global, column: Column, index: u32) -> Result<Option<Oid>, AllocError>
-        ensures { IfOk result (λ q. q ≡ option_map (λ i. cell_name column i) (index_now (at_of self.now) index)) }
+        ensures { IfOk result (λ q. q ≡ option_map (λ i. cell_name column i)
+            (index_now (at_of self.now) index)) }
     {
         match self.index_now(index) {
             Some(now) => cell_at(alloc, column, now),
@@ -199,7 +200,8 @@ impl Places<'_> {
 
     /// The objects of a target that are left.
     fn objects_now(&self, alloc: Global, target: &Target) -> Result<Vec<Object>, AllocError>
-        ensures { IfOk result (λ v. v.items ≡ objects_now (at_of self.now) target.now.engine target.now.objects) }
+        ensures { IfOk result (λ v. v.items ≡ objects_now (at_of self.now) target.now.engine
+            target.now.objects) }
     {
         let mut all = Vec::new(alloc);
         for object in target.objects.as_slice() {

@@ -14,7 +14,7 @@ use crate::fault::{SurveyFault, given};
 use std::alloc::{AllocError, AllocFailed, Global};
 
 /// The most instances of a station.
-const MOST_INSTANCES: usize = 256;
+const MAX_INSTANCES: usize = 256;
 
 /// Returns `true` if the agent counts this by 64 bits, `false` if by 32, `None` if not at all.
 fn width_of(answers: &Answers, counter: Counter, index: u32) -> Option<bool>
@@ -54,7 +54,8 @@ fn add_counter(
     index: u32,
     counter: Counter,
 ) -> Result<(), AllocFailed<Planned>>
-    ensures { OnOk result (counters.new.items ≡ counters.old.items ++ option_to_list (planned_by choice.now answers.now index counter)) }
+    ensures { OnOk result (counters.new.items ≡ counters.old.items
+        ++ option_to_list (planned_by choice.now answers.now index counter)) }
 {
     match planned(answers, choice, index, counter) {
         Some(one) => counters.push(one),
@@ -70,7 +71,9 @@ fn add_counters(
     index: u32,
     some: &[Counter],
 ) -> Result<(), AllocFailed<Planned>>
-    ensures { OnOk result (counters.new.items ≡ counters.old.items ++ flat_map (λ counter. option_to_list (planned_by choice.now answers.now index counter)) some.now) }
+    ensures { OnOk result (counters.new.items ≡ counters.old.items
+        ++ flat_map (λ counter. option_to_list (planned_by choice.now answers.now index counter))
+        some.now) }
 {
     for counter in some {
         add_counter(counters, answers, choice, index, *counter)?;
@@ -85,7 +88,8 @@ fn add_interface(
     choice: &Choice<'_>,
     index: u32,
 ) -> Result<(), AllocFailed<Planned>>
-    ensures { OnOk result (counters.new.items ≡ counters.old.items ++ interface_counters choice.now answers.now index) }
+    ensures { OnOk result (counters.new.items ≡ counters.old.items
+        ++ interface_counters choice.now answers.now index) }
 {
     add_counters(counters, answers, choice, index, &Counter::every())
 }
@@ -97,7 +101,8 @@ fn add_cell(
     choice: &Choice<'_>,
     cell: &Cell,
 ) -> Result<(), AllocFailed<Planned>>
-    ensures { OnOk result (counters.new.items ≡ counters.old.items ++ counters_from choice.now answers.now cell.now) }
+    ensures { OnOk result (counters.new.items ≡ counters.old.items
+        ++ counters_from choice.now answers.now cell.now) }
 {
     if cell.column != Column::If(2) {
         return Ok(());
@@ -128,8 +133,8 @@ pub(crate) fn counters_of(
 fn front(counters: &[Planned]) -> &[Planned]
     ensures { result.now ≡ take 256 counters.now }
 {
-    if counters.len() > MOST_INSTANCES {
-        &counters[..MOST_INSTANCES]
+    if counters.len() > MAX_INSTANCES {
+        &counters[..MAX_INSTANCES]
     } else {
         counters
     }
@@ -155,7 +160,7 @@ fn group_of(
 {
     match group {
         Some(number) => {
-            let from = MOST_INSTANCES * number as usize;
+            let from = MAX_INSTANCES * number as usize;
             Vec::from_slice(alloc, part_of(&counters, from))
         }
         None => Ok(counters),
@@ -170,15 +175,15 @@ fn require_few(counters: &[Planned]) -> Result<(), SurveyFault>
     if counters.is_empty() {
         return Err(SurveyFault::NoCounter);
     }
-    if counters.len() > MOST_INSTANCES {
+    if counters.len() > MAX_INSTANCES {
         return Err(SurveyFault::TooMany(counters.len()));
     }
     Ok(())
 }
 
 /// Returns the counters that a station polls: of each interface with an ifDescr that is chosen, in
-/// the order of their indexes, those of the kinds that are polled and that the agent has, each by 64
-/// bits where the agent has that, else by 32; and of these the group that is chosen.
+/// the order of their indexes, those of the kinds that are polled and that the agent has, each by
+/// 64 bits where the agent has that, else by 32; and of these the group that is chosen.
 ///
 /// # Errors
 /// `NoCounter` if there is no counter; `TooMany` with their number above 256; `OutOfMemory`.
@@ -188,7 +193,8 @@ pub fn plan(
     choice: &Choice<'_>,
 ) -> Result<Vec<Planned>, SurveyFault>
     ensures gives { IfOk result (λ v. planned_of choice.now answers.now ≡ Ok v.items) }
-    ensures fault { IfErr result (λ e. (e ≡ SurveyFault.OutOfMemory) ⊎ (planned_of choice.now answers.now ≡ Err e)) }
+    ensures fault { IfErr result (λ e. (e ≡ SurveyFault.OutOfMemory)
+        ⊎ (planned_of choice.now answers.now ≡ Err e)) }
 {
     let all = given!(counters_of(alloc, answers, choice));
     let counters = group_of(alloc, choice.group, all)?;
@@ -205,8 +211,9 @@ pub struct Thresholds {
     pub falling: u64,
 }
 
-/// The thresholds at this percentage of an interface's speed; none where the speed is unknown, one of
-/// the two is 0, or they are so small that the falling threshold would not be below the rising one.
+/// The thresholds at this percentage of an interface's speed; none where the speed is unknown, one
+/// of the two is 0, or they are so small that the falling threshold would not be below the rising
+/// one.
 pub(crate) fn thresholds_at(answers: &Answers, percent: u8, index: u32) -> Option<Thresholds>
     requires { percent ≤ 100 }
     ensures value { result ≡ thresholds_at (speed_in answers.now index * percent) }
@@ -247,8 +254,8 @@ fn polls_octets(answers: &Answers, choice: &Choice<'_>, index: u32) -> bool
         || planned(answers, choice, index, Counter::OutOctets).is_some()
 }
 
-/// Returns `true` if the cell is the ifDescr of an interface that is chosen, whose octets are polled
-/// and whose speed is unknown.
+/// Returns `true` if the cell is the ifDescr of an interface that is chosen, whose octets are
+/// polled and whose speed is unknown.
 fn lacks_speed(answers: &Answers, choice: &Choice<'_>, cell: &Cell) -> bool
     ensures { result ≡ lacks_speed choice.now answers.now cell.now }
 {

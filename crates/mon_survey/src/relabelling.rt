@@ -51,7 +51,8 @@ fn add_known(
     index: Option<i64>,
     name: Option<&str>,
 ) -> Result<(), AllocError>
-    ensures { OnOk result (all.new.items ≡ all.old.items ++ known_by index (option_copied name.entry)) }
+    ensures { OnOk result (all.new.items ≡ all.old.items ++ known_by index
+        (option_copied name.entry)) }
 {
     let Some(number) = index else {
         return Ok(());
@@ -98,7 +99,8 @@ fn add_known_in(
     engine: &str,
     values: &[Value],
 ) -> Result<(), AllocError>
-    ensures { OnOk result (all.new.items ≡ all.old.items ++ known_in engine.now (items_view values.now)) }
+    ensures { OnOk result (all.new.items ≡ all.old.items ++ known_in engine.now
+        (items_view values.now)) }
 {
     let [value, values @ ..] = values else {
         return Ok(());
@@ -113,8 +115,10 @@ fn known_by(
     engine: &str,
     values: Option<&[Value]>,
 ) -> Result<Vec<Known>, SurveyFault>
-    ensures gives { IfOk result (λ v. (items : Items) × (option_map (λ v. items_view v.now) values.entry ≡ Some items) × (v.items ≡ known_in engine.now items)) }
-    ensures fault { IfErr result (λ e. (e ≡ SurveyFault.OutOfMemory) ⊎ ((e ≡ SurveyFault.BadLabels) × (option_map (λ v. items_view v.now) values.entry ≡ None))) }
+    ensures gives { IfOk result (λ v. (items : Items) × (option_map (λ v. items_view v.now)
+        values.entry ≡ Some items) × (v.items ≡ known_in engine.now items)) }
+    ensures fault { IfErr result (λ e. (e ≡ SurveyFault.OutOfMemory)
+        ⊎ ((e ≡ SurveyFault.BadLabels) × (option_map (λ v. items_view v.now) values.entry ≡ None))) }
 {
     let Some(values) = values else {
         return Err(SurveyFault::BadLabels);
@@ -124,14 +128,15 @@ fn known_by(
     Ok(all)
 }
 
-/// Returns the names that a file of labels says of the interfaces of this engine. Empty names are left
-/// out, and those with U+FFFD, which is in place of what is not UTF-8.
+/// Returns the names that a file of labels says of the interfaces of this engine. Empty names are
+/// left out, and those with U+FFFD, which is in place of what is not UTF-8.
 ///
 /// # Errors
 /// `BadLabels` where the text is not TOML or its `interface` no list; `OutOfMemory`.
 pub fn known_names(alloc: Global, text: &str, engine: &[u8]) -> Result<Vec<Known>, SurveyFault>
     ensures gives { IfOk result (λ v. AreKnownIn text.now (encode_lower engine.now) v.items) }
-    ensures fault { IfErr result (λ e. (e ≡ SurveyFault.OutOfMemory) ⊎ ((e ≡ SurveyFault.BadLabels) × (interfaces_in text.now ≡ None))) }
+    ensures fault { IfErr result (λ e. (e ≡ SurveyFault.OutOfMemory)
+        ⊎ ((e ≡ SurveyFault.BadLabels) × (interfaces_in text.now ≡ None))) }
 {
     let digits = hex::encode(alloc, engine)?;
     let read = given!(tree(alloc, text));
@@ -170,9 +175,11 @@ fn indexes_then(
     Ok(indexes)
 }
 
-/// Returns `true` if there are new tables, which are those of the old ones that are of other engines.
+/// Returns `true` if there are new tables, which are those of the old ones that are of other
+/// engines.
 fn are_rest_in(engine: &str, old: &[Value], new: Option<&[Value]>) -> bool
-    ensures { IsTrue result ↔ AreRestIn engine.now (items_view old.now) (option_map (λ v. items_view v.now) new.entry) }
+    ensures { IsTrue result ↔ AreRestIn engine.now (items_view old.now)
+        (option_map (λ v. items_view v.now) new.entry) }
 {
     match new {
         Some(new) => are_rest(engine, old, new),
@@ -199,8 +206,10 @@ fn confirm_rest(
     before: &[Value],
     text: String,
 ) -> Result<String, SurveyFault>
-    ensures gives { IfOk result (λ same. (same ≡ text) × ReadsRest engine.now (items_view before.now) (string_bytes text)) }
-    ensures fault { IfErr result (IsUnlike (ReadsRest engine.now (items_view before.now) (string_bytes text))) }
+    ensures gives { IfOk result (λ same. (same ≡ text) × ReadsRest engine.now
+        (items_view before.now) (string_bytes text)) }
+    ensures fault { IfErr result (IsUnlike (ReadsRest engine.now (items_view before.now)
+        (string_bytes text))) }
 {
     if reads_rest(alloc, engine, before, text.as_str())? {
         Ok(text)
@@ -220,7 +229,8 @@ fn rest_after(
     requires { interfaces_in old.now ≡ Some (items_view before.now) }
     ensures is { IfOk result (λ t. string_bytes t ≡ text_without (quoted engine.now) old.now) }
     ensures reads { IfOk result (λ t. ReadsRest engine.now (items_view before.now) (string_bytes t)) }
-    ensures fault { IfErr result (λ e. (e ≡ SurveyFault.OutOfMemory) ⊎ IsNoRest old.now engine.now e) }
+    ensures fault { IfErr result (λ e. (e ≡ SurveyFault.OutOfMemory)
+        ⊎ IsNoRest old.now engine.now e) }
 {
     let own = quoted(alloc, engine)?;
     let octets = text_without(alloc, own.as_slice(), old.as_bytes())?;
@@ -239,8 +249,10 @@ fn rest_by(
 ) -> Result<String, SurveyFault>
     requires { interfaces_in old.now ≡ option_map (λ v. items_view v.now) before }
     ensures is { IfOk result (λ t. string_bytes t ≡ text_without (quoted engine.now) old.now) }
-    ensures rest { IfOk result (λ t. IsRest engine.now old.now (text_without (quoted engine.now) old.now)) }
-    ensures fault { IfErr result (λ e. (e ≡ SurveyFault.OutOfMemory) ⊎ IsNoRest old.now engine.now e) }
+    ensures rest { IfOk result (λ t. IsRest engine.now old.now
+        (text_without (quoted engine.now) old.now)) }
+    ensures fault { IfErr result (λ e. (e ≡ SurveyFault.OutOfMemory)
+        ⊎ IsNoRest old.now engine.now e) }
 {
     match before {
         Some(before) => rest_after(alloc, engine, old, before),
@@ -251,8 +263,10 @@ fn rest_by(
 /// The old text without its blocks of this engine, if its tables of other engines are left.
 fn rest_of(alloc: Global, engine: &str, old: &str) -> Result<String, SurveyFault>
     ensures is { IfOk result (λ t. string_bytes t ≡ text_without (quoted engine.now) old.now) }
-    ensures rest { IfOk result (λ t. IsRest engine.now old.now (text_without (quoted engine.now) old.now)) }
-    ensures fault { IfErr result (λ e. (e ≡ SurveyFault.OutOfMemory) ⊎ IsNoRest old.now engine.now e) }
+    ensures rest { IfOk result (λ t. IsRest engine.now old.now
+        (text_without (quoted engine.now) old.now)) }
+    ensures fault { IfErr result (λ e. (e ≡ SurveyFault.OutOfMemory)
+        ⊎ IsNoRest old.now engine.now e) }
 {
     let was = given!(tree(alloc, old));
     rest_by(alloc, engine, old, interfaces(&was))
@@ -260,8 +274,10 @@ fn rest_of(alloc: Global, engine: &str, old: &str) -> Result<String, SurveyFault
 
 /// The file of these interfaces, with the old tables of other engines.
 fn relabelled(source: &Source<'_>, old: &str, indexes: &[u32]) -> Result<String, SurveyFault>
-    ensures reads { IfOk result (λ text. IsRelabelled old.now source.now.engine.now source.now.answers.now indexes.now (string_bytes text)) }
-    ensures fault { IfErr result (IsNotRelabelled old.now source.now.engine.now source.now.answers.now indexes.now) }
+    ensures reads { IfOk result (λ text. IsRelabelled old.now source.now.engine.now
+        source.now.answers.now indexes.now (string_bytes text)) }
+    ensures fault { IfErr result (IsNotRelabelled old.now source.now.engine.now
+        source.now.answers.now indexes.now) }
 {
     let rest = given!(rest_of(source.alloc, source.engine, old));
     let text = given!(labels_of(source, rest.as_str(), indexes));
@@ -269,14 +285,14 @@ fn relabelled(source: &Source<'_>, old: &str, indexes: &[u32]) -> Result<String,
 }
 
 /// Returns a file of labels with an agent's interfaces as they are now: the old text without the
-/// blocks of its engine, of which the comments stay, and then a table of each interface that settings
-/// which watch this poll after `update`. The whole was read back, as the old tables of other engines
-/// and these.
+/// blocks of its engine, of which the comments stay, and then a table of each interface that
+/// settings which watch this poll after `update`. The whole was read back, as the old tables of
+/// other engines and these.
 ///
 /// # Errors
-/// `BadLabels` where the old text is not TOML or its `interface` no list; `SameEngine` where a table
-/// of the engine is no block of its own; `TooManyInterfaces` with their number in all, above 4,096;
-/// `Misread` where the text is read as others; `OutOfMemory`.
+/// `BadLabels` where the old text is not TOML or its `interface` no list; `SameEngine` where a
+/// table of the engine is no block of its own; `TooManyInterfaces` with their number in all, above
+/// 4,096; `Misread` where the text is read as others; `OutOfMemory`.
 pub fn relabel(
     alloc: Global,
     old: &str,
@@ -284,8 +300,11 @@ pub fn relabel(
     choice: &Choice<'_>,
     instances: &[Watched],
 ) -> Result<String, SurveyFault>
-    ensures reads { IfOk result (λ text. IsRelabelled old.now (encode_lower (at_in renamed.now).engine) (at_in renamed.now).cells (indexes_then choice.now (at_in renamed.now) instances.now) (string_bytes text)) }
-    ensures fault { IfErr result (IsNotRelabelled old.now (encode_lower (at_in renamed.now).engine) (at_in renamed.now).cells (indexes_then choice.now (at_in renamed.now) instances.now)) }
+    ensures reads { IfOk result (λ text. IsRelabelled old.now
+        (encode_lower (at_in renamed.now).engine) (at_in renamed.now).cells
+        (indexes_then choice.now (at_in renamed.now) instances.now) (string_bytes text)) }
+    ensures fault { IfErr result (IsNotRelabelled old.now (encode_lower (at_in renamed.now).engine)
+        (at_in renamed.now).cells (indexes_then choice.now (at_in renamed.now) instances.now)) }
 {
     let places = renamed.places();
     let indexes = indexes_then(alloc, &places, choice, instances)?;

@@ -59,7 +59,8 @@ fn watched_at(
     was: &[Watched],
     number: u16,
 ) -> Result<Option<Instance>, AllocError>
-    ensures { IfOk result (λ i. i ≡ option_and_then (λ w. instance_now (at_of places.now) w.instance) (slice_get was.now number)) }
+    ensures { IfOk result (λ i. i ≡ option_and_then (λ w. instance_now (at_of places.now)
+        w.instance) (slice_get was.now number)) }
 {
     match was.get(usize::from(number)) {
         Some(watched) => places.instance_now(alloc, &watched.instance),
@@ -86,7 +87,11 @@ fn ruling_now(
 
 /// The instance of a counter of the agent.
 fn instance_of(alloc: Global, engine: &[u8], one: Planned) -> Result<Instance, AllocError>
-    ensures { IfOk result (λ i. i ≡ record { engine = engine.now; name = cell_name (column_of one.counter one.wide) one.index }) }
+    ensures { IfOk result (λ i. i ≡ record {
+      engine = engine.now;
+      name = cell_name
+          (column_of one.counter one.wide) one.index;
+    }) }
 {
     let engine = Octets::from_slice(alloc, engine)?;
     match one.column().cell(alloc, one.index) {
@@ -136,7 +141,8 @@ fn add_left(
     was: &[Watched],
     rules: &[Rule],
 ) -> Result<(), AllocError>
-    ensures { OnOk result (all.new.items ≡ all.old.items ++ flat_map (λ r. option_to_list (ruling_now (at_of places.now) was.now r)) rules.now) }
+    ensures { OnOk result (all.new.items ≡ all.old.items ++ flat_map
+        (λ r. option_to_list (ruling_now (at_of places.now) was.now r)) rules.now) }
 {
     for rule in rules {
         add(all, ruling_now(alloc, places, was, *rule)?)?;
@@ -153,7 +159,8 @@ fn add_new(
     planned: &[Planned],
 ) -> Result<(), AllocError>
     requires { percent ≤ 100 }
-    ensures { OnOk result (all.new.items ≡ all.old.items ++ flat_map (λ p. option_to_list (ruling_of (at_of places.now) percent p)) planned.now) }
+    ensures { OnOk result (all.new.items ≡ all.old.items ++ flat_map
+        (λ p. option_to_list (ruling_of (at_of places.now) percent p)) planned.now) }
 {
     for one in planned {
         add(all, ruling_of(alloc, places, percent, *one)?)?;
@@ -177,7 +184,8 @@ pub(crate) fn rulings(
     was: Watching<'_>,
 ) -> Result<Vec<Ruling>, AllocError>
     requires { percent ≤ 100 }
-    ensures { IfOk result (λ v. v.items ≡ rulings (at_of places.now) percent planned.now was.entry.instances.now was.entry.rules.now) }
+    ensures { IfOk result (λ v. v.items ≡ rulings (at_of places.now) percent planned.now
+        was.entry.instances.now was.entry.rules.now) }
 {
     let mut all = Vec::new(alloc);
     add_left(alloc, &mut all, places, was.instances, was.rules)?;

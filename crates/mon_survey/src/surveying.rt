@@ -37,8 +37,12 @@ fn require_meant(
 ) -> Result<Reading, SurveyFault>
     requires few { length wanted.now.planned.now ≤ 256 }
     requires percent { wanted.now.options.now.percent ≤ 100 }
-    ensures gives { IfOk result (λ reading. IsMeant wanted.now.options.now wanted.now.engine.now wanted.now.answers.now wanted.now.planned.now (station_view station.now) × (reading.longest ≡ longest_of (station_view station.now)) × (reading.targets.items ≡ (station_view station.now).core.targets)) }
-    ensures fault { IfErr result (IsUnlike (IsMeant wanted.now.options.now wanted.now.engine.now wanted.now.answers.now wanted.now.planned.now (station_view station.now))) }
+    ensures gives { IfOk result (λ reading. IsMeant wanted.now.options.now wanted.now.engine.now
+        wanted.now.answers.now wanted.now.planned.now (station_view station.now)
+        × (reading.longest ≡ longest_of (station_view station.now))
+        × (reading.targets.items ≡ (station_view station.now).core.targets)) }
+    ensures fault { IfErr result (IsUnlike (IsMeant wanted.now.options.now wanted.now.engine.now
+        wanted.now.answers.now wanted.now.planned.now (station_view station.now))) }
 {
     if is_meant(alloc, wanted, station)? {
         Ok(reading_of(alloc, station, station.core.targets())?)
@@ -56,8 +60,11 @@ fn read_back(
 ) -> Result<Reading, SurveyFault>
     requires few { length wanted.now.planned.now ≤ 256 }
     requires percent { wanted.now.options.now.percent ≤ 100 }
-    ensures gives { IfOk result (λ reading. IsReadBack names.now wanted.now.options.now wanted.now.engine.now wanted.now.answers.now wanted.now.planned.now text.now reading.longest reading.targets.items) }
-    ensures fault { IfErr result (IsNotReadBack names.now wanted.now.options.now wanted.now.engine.now wanted.now.answers.now wanted.now.planned.now text.now) }
+    ensures gives { IfOk result (λ reading. IsReadBack names.now wanted.now.options.now
+        wanted.now.engine.now wanted.now.answers.now wanted.now.planned.now text.now reading.longest
+        reading.targets.items) }
+    ensures fault { IfErr result (IsNotReadBack names.now wanted.now.options.now
+        wanted.now.engine.now wanted.now.answers.now wanted.now.planned.now text.now) }
 {
     match read_station(alloc, text, names) {
         Ok(station) => require_meant(alloc, wanted, &station),
@@ -75,8 +82,11 @@ fn confirm(
 ) -> Result<Drafted, SurveyFault>
     requires few { length wanted.now.planned.now ≤ 256 }
     requires percent { wanted.now.options.now.percent ≤ 100 }
-    ensures gives { IfOk result (λ drafted. (drafted.text ≡ text) × IsReadBack names.now wanted.now.options.now wanted.now.engine.now wanted.now.answers.now wanted.now.planned.now (string_bytes text) drafted.longest drafted.targets.items) }
-    ensures fault { IfErr result (IsNotReadBack names.now wanted.now.options.now wanted.now.engine.now wanted.now.answers.now wanted.now.planned.now (string_bytes text)) }
+    ensures gives { IfOk result (λ drafted. (drafted.text ≡ text)
+        × IsReadBack names.now wanted.now.options.now wanted.now.engine.now wanted.now.answers.now
+        wanted.now.planned.now (string_bytes text) drafted.longest drafted.targets.items) }
+    ensures fault { IfErr result (IsNotReadBack names.now wanted.now.options.now
+        wanted.now.engine.now wanted.now.answers.now wanted.now.planned.now (string_bytes text)) }
 {
     let reading = given!(read_back(alloc, names, wanted, text.as_str()));
     Ok(drafted_of(text, reading))
@@ -91,8 +101,11 @@ fn settings_by<S: NameTexts>(
     choice: &Choice<'_>,
 ) -> Result<Drafted, SurveyFault>
     requires { options.now.percent ≤ 100 }
-    ensures reads { IfOk result (λ drafted. IsSettingsText names.now (S.shown shown.now.names.now) choice.now options.now engine.now shown.now.answers.now (string_bytes drafted.text) drafted.longest drafted.targets.items) }
-    ensures fault { IfErr result (IsFault names.now (S.shown shown.now.names.now) choice.now options.now engine.now shown.now.answers.now) }
+    ensures reads { IfOk result (λ drafted. IsSettingsText names.now (S.shown shown.now.names.now)
+        choice.now options.now engine.now shown.now.answers.now (string_bytes drafted.text)
+        drafted.longest drafted.targets.items) }
+    ensures fault { IfErr result (IsFault names.now (S.shown shown.now.names.now) choice.now
+        options.now engine.now shown.now.answers.now) }
 {
     let planned = given!(plan(shown.alloc, shown.answers, choice));
     given!(require_few_targets(options.size, &[], &planned));
@@ -112,9 +125,9 @@ fn settings_by<S: NameTexts>(
 /// round takes at most and the targets follow from what was read.
 ///
 /// # Errors
-/// Those of `plan`; `TooManyTargets` with the number of targets above 64; `BadText` where an option's text has a quote, a backslash or an octet outside 20
-/// to 7E; `Refused` where the text is no settings; `Misread` where it is read as other settings;
-/// `OutOfMemory`.
+/// Those of `plan`; `TooManyTargets` with the number of targets above 64; `BadText` where an
+/// option's text has a quote, a backslash or an octet outside 20 to 7E; `Refused` where the text is
+/// no settings; `Misread` where it is read as other settings; `OutOfMemory`.
 pub fn settings(
     alloc: Global,
     names: &Names,
@@ -123,8 +136,13 @@ pub fn settings(
     choice: &Choice<'_>,
 ) -> Result<Drafted, SurveyFault>
     requires { options.now.percent ≤ 100 }
-    ensures reads { IfOk result (λ drafted. IsSettingsText names.now (shown_by names.now (length options.now.modules.now)) choice.now options.now agent.now.engine.now agent.now.answers.now (string_bytes drafted.text) drafted.longest drafted.targets.items) }
-    ensures fault { IfErr result (IsFault names.now (shown_by names.now (length options.now.modules.now)) choice.now options.now agent.now.engine.now agent.now.answers.now) }
+    ensures reads { IfOk result (λ drafted. IsSettingsText names.now
+        (shown_by names.now (length options.now.modules.now)) choice.now options.now
+        agent.now.engine.now agent.now.answers.now (string_bytes drafted.text) drafted.longest
+        drafted.targets.items) }
+    ensures fault { IfErr result (IsFault names.now (shown_by names.now
+        (length options.now.modules.now)) choice.now options.now agent.now.engine.now
+        agent.now.answers.now) }
 {
     if options.modules.is_empty() {
         let shown = Naming {

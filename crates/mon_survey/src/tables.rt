@@ -17,7 +17,8 @@ fn add_index(
     before: Option<u32>,
     index: u32,
 ) -> Result<(), AllocFailed<u32>>
-    ensures { OnOk result (indexes.new.items ≡ indexes.old.items ++ (if is_before before index then [] else (index ∷ []))) }
+    ensures { OnOk result (indexes.new.items ≡ indexes.old.items
+        ++ (if is_before before index then [] else (index ∷ []))) }
 {
     if before == Some(index) {
         return Ok(());
@@ -87,7 +88,8 @@ fn put_line(
     key: &str,
     value: &Option<String>,
 ) -> Result<(), AllocError>
-    ensures { OnOk result (text.new.items ≡ text.old.items ++ line_of key.now (option_map string_bytes value.now)) }
+    ensures { OnOk result (text.new.items ≡ text.old.items ++ line_of key.now
+        (option_map string_bytes value.now)) }
 {
     let Some(value) = value else {
         return Ok(());
@@ -119,7 +121,9 @@ fn put_speed_line(alloc: Global, text: &mut Vec<u8>, speed: u64) -> Result<(), A
 
 /// Adds the head of an interface's table.
 fn put_head(alloc: Global, text: &mut Vec<u8>, engine: &str, index: u32) -> Result<(), AllocError>
-    ensures { OnOk result (text.new.items ≡ text.old.items ++ concat (codes "\n[[interface]]\nengine = \"" ∷ engine.now ∷ codes "\"\nindex = " ∷ decimal index ∷ codes "\n" ∷ [])) }
+    ensures { OnOk result (text.new.items ≡ text.old.items ++ concat
+        (codes "\n[[interface]]\nengine = \"" ∷ engine.now ∷ codes "\"\nindex = " ∷ decimal index
+        ∷ codes "\n" ∷ [])) }
 {
     let head = format!(in alloc; "\n[[interface]]\nengine = \"{engine}\"\nindex = {index}\n")?;
     text.extend_from_slice(head.as_bytes())
@@ -158,21 +162,24 @@ impl Source<'_> {
 
     /// Adds the line of the interface's ifName, where it has one.
     fn put_name(&self, text: &mut Vec<u8>, index: u32) -> Result<(), AllocError>
-        ensures { OnOk result (text.new.items ≡ text.old.items ++ line_of (codes "ifName") (if_name self.now.answers.now index)) }
+        ensures { OnOk result (text.new.items ≡ text.old.items
+            ++ line_of (codes "ifName") (if_name self.now.answers.now index)) }
     {
         put_text(self.alloc, text, "ifName", self.name(index))
     }
 
     /// Adds the line of the interface's ifAlias, where it has one.
     fn put_alias(&self, text: &mut Vec<u8>, index: u32) -> Result<(), AllocError>
-        ensures { OnOk result (text.new.items ≡ text.old.items ++ line_of (codes "ifAlias") (if_alias self.now.answers.now index)) }
+        ensures { OnOk result (text.new.items ≡ text.old.items
+            ++ line_of (codes "ifAlias") (if_alias self.now.answers.now index)) }
     {
         put_text(self.alloc, text, "ifAlias", self.alias(index))
     }
 
     /// Adds the line of the interface's speed, if it is known.
     fn put_speed(&self, text: &mut Vec<u8>, index: u32) -> Result<(), AllocError>
-        ensures { OnOk result (text.new.items ≡ text.old.items ++ speed_line (speed_in self.now.answers.now index)) }
+        ensures { OnOk result (text.new.items ≡ text.old.items
+            ++ speed_line (speed_in self.now.answers.now index)) }
     {
         put_speed_line(self.alloc, text, self.speed(index))
     }
@@ -180,7 +187,8 @@ impl Source<'_> {
     /// Adds the table of an interface.
     #[tactic(auto, unfolding(crate::specs::Labels::interface_text))]
     fn put_interface(&self, text: &mut Vec<u8>, index: u32) -> Result<(), AllocError>
-        ensures { OnOk result (text.new.items ≡ text.old.items ++ interface_text self.now.engine.now self.now.answers.now index) }
+        ensures { OnOk result (text.new.items ≡ text.old.items
+            ++ interface_text self.now.engine.now self.now.answers.now index) }
     {
         put_head(self.alloc, text, self.engine, index)?;
         self.put_name(text, index)?;
@@ -190,7 +198,8 @@ impl Source<'_> {
 
     /// Adds the tables of interfaces.
     fn put_interfaces(&self, text: &mut Vec<u8>, indexes: &[u32]) -> Result<(), AllocError>
-        ensures { OnOk result (text.new.items ≡ text.old.items ++ flat_map (interface_text self.now.engine.now self.now.answers.now) indexes.now) }
+        ensures { OnOk result (text.new.items ≡ text.old.items
+            ++ flat_map (interface_text self.now.engine.now self.now.answers.now) indexes.now) }
     {
         for index in indexes {
             self.put_interface(text, *index)?;
@@ -200,7 +209,8 @@ impl Source<'_> {
 
     /// The octets of the text: those of the old one, and the tables of the interfaces.
     pub(crate) fn octets(&self, old: &str, indexes: &[u32]) -> Result<Vec<u8>, AllocError>
-        ensures { IfOk result (λ v. v.items ≡ labels_text old.now self.now.engine.now self.now.answers.now indexes.now) }
+        ensures { IfOk result (λ v. v.items ≡ labels_text old.now self.now.engine.now
+            self.now.answers.now indexes.now) }
     {
         let mut text = Vec::from_slice(self.alloc, begun(old).as_bytes())?;
         self.put_interfaces(&mut text, indexes)?;

@@ -34,7 +34,7 @@ use mon_smi::{InNumbers, NameTexts};
 use std::alloc::{AllocError, Global};
 
 /// The most instances of a station.
-const MOST_INSTANCES: usize = 256;
+const MAX_INSTANCES: usize = 256;
 
 /// What settings are updated by: options, an agent, and the new counters.
 #[derive(Clone, Copy)]
@@ -75,16 +75,19 @@ impl<'a> Updating<'a> {
 
     /// Requires that there are at most 256 instances and 64 targets with those that are left.
     fn require_few(&self, alloc: Global, station: &StationSettings) -> Result<(), SurveyFault>
-        ensures room { OnOk result (few_left self.now.options.now.size (at_of self.now.places) (station_view station.now) self.now.planned.now ≡ Ok self.now.planned.now) }
+        ensures room { OnOk result (few_left self.now.options.now.size (at_of self.now.places)
+            (station_view station.now) self.now.planned.now ≡ Ok self.now.planned.now) }
         ensures few { OnOk result (length self.now.planned.now ≤ 256) }
-        ensures fault { IfErr result (λ e. (e ≡ SurveyFault.OutOfMemory) ⊎ (few_left self.now.options.now.size (at_of self.now.places) (station_view station.now) self.now.planned.now ≡ Err e)) }
+        ensures fault { IfErr result (λ e. (e ≡ SurveyFault.OutOfMemory)
+            ⊎ (few_left self.now.options.now.size (at_of self.now.places) (station_view station.now)
+            self.now.planned.now ≡ Err e)) }
     {
         let targets = self.places.targets_now(alloc, station.core.targets())?;
         let left = self
             .places
             .watch_now(alloc, station.core.watch().instances())?;
         let instances = left.len() + self.planned.len();
-        if instances > MOST_INSTANCES {
+        if instances > MAX_INSTANCES {
             return Err(SurveyFault::TooMany(instances));
         }
         require_few_targets(self.options.size, &targets, self.planned)
@@ -92,9 +95,12 @@ impl<'a> Updating<'a> {
 
     /// Requires that settings poll the agent and have space for the new counters.
     fn require_space(&self, alloc: Global, station: &StationSettings) -> Result<(), SurveyFault>
-        ensures room { OnOk result (with_space self.now.options.now.size (at_of self.now.places) (station_view station.now) self.now.planned.now ≡ Ok self.now.planned.now) }
+        ensures room { OnOk result (with_space self.now.options.now.size (at_of self.now.places)
+            (station_view station.now) self.now.planned.now ≡ Ok self.now.planned.now) }
         ensures few { OnOk result (length self.now.planned.now ≤ 256) }
-        ensures fault { IfErr result (λ e. (e ≡ SurveyFault.OutOfMemory) ⊎ (with_space self.now.options.now.size (at_of self.now.places) (station_view station.now) self.now.planned.now ≡ Err e)) }
+        ensures fault { IfErr result (λ e. (e ≡ SurveyFault.OutOfMemory)
+            ⊎ (with_space self.now.options.now.size (at_of self.now.places)
+            (station_view station.now) self.now.planned.now ≡ Err e)) }
     {
         if !polls_any(self.places.engine, station.core.targets()) {
             return Err(SurveyFault::OtherEngine);
@@ -105,7 +111,9 @@ impl<'a> Updating<'a> {
     /// The alarms that are left, and those on new counters.
     fn rulings(&self, alloc: Global, old: &StationSettings) -> Result<Vec<Ruling>, AllocError>
         requires { self.now.options.now.percent ≤ 100 }
-        ensures { IfOk result (λ v. v.items ≡ rulings (at_of self.now.places) self.now.options.now.percent self.now.planned.now (station_view old.now).core.watch.instances (station_view old.now).core.watch.rules) }
+        ensures { IfOk result (λ v. v.items ≡ rulings (at_of self.now.places)
+            self.now.options.now.percent self.now.planned.now
+            (station_view old.now).core.watch.instances (station_view old.now).core.watch.rules) }
     {
         let was = Watching {
             instances: old.core.watch().instances(),
@@ -153,9 +161,13 @@ impl Drop for Left {
 /// What is left of settings, with the alarms on new counters.
 fn left_of(alloc: Global, update: &Updating<'_>, old: &StationSettings) -> Result<Left, AllocError>
     requires { update.now.options.now.percent ≤ 100 }
-    ensures targets { IfOk result (λ l. l.targets.items ≡ targets_now (at_of update.now.places) (station_view old.now).core.targets) }
-    ensures instances { IfOk result (λ l. l.instances.items ≡ watch_now (at_of update.now.places) (station_view old.now).core.watch.instances) }
-    ensures rulings { IfOk result (λ l. l.rulings.items ≡ rulings (at_of update.now.places) update.now.options.now.percent update.now.planned.now (station_view old.now).core.watch.instances (station_view old.now).core.watch.rules) }
+    ensures targets { IfOk result (λ l. l.targets.items ≡ targets_now (at_of update.now.places)
+        (station_view old.now).core.targets) }
+    ensures instances { IfOk result (λ l. l.instances.items ≡ watch_now (at_of update.now.places)
+        (station_view old.now).core.watch.instances) }
+    ensures rulings { IfOk result (λ l. l.rulings.items ≡ rulings (at_of update.now.places)
+        update.now.options.now.percent update.now.planned.now
+        (station_view old.now).core.watch.instances (station_view old.now).core.watch.rules) }
 {
     let targets = update.places.targets_now(alloc, old.core.targets())?;
     let instances = update
@@ -171,7 +183,8 @@ fn left_of(alloc: Global, update: &Updating<'_>, old: &StationSettings) -> Resul
 
 /// Returns `true` if the new settings watch what is left, and have these alarms.
 fn is_watch_kept(left: &Left, new: &StationSettings) -> bool
-    ensures { IsTrue result ↔ KeepsWatch (station_view new.now).core.watch.instances (station_view new.now).core.watch.rules left.now.instances.items left.now.rulings.items }
+    ensures { IsTrue result ↔ KeepsWatch (station_view new.now).core.watch.instances
+        (station_view new.now).core.watch.rules left.now.instances.items left.now.rulings.items }
 {
     let now = Watching {
         instances: new.core.watch().instances(),
@@ -180,8 +193,8 @@ fn is_watch_kept(left: &Left, new: &StationSettings) -> bool
     are_watched(now.instances, &left.instances) && are_rulings(now, &left.rulings)
 }
 
-/// Returns `true` if what is outside of targets and alarms is the same, and the targets that are left
-/// are at the front.
+/// Returns `true` if what is outside of targets and alarms is the same, and the targets that are
+/// left are at the front.
 fn is_front_kept(targets: &[Target], old: &StationSettings, new: &StationSettings) -> bool
     ensures { IsTrue result ↔ KeepsFront targets.now (station_view old.now) (station_view new.now) }
 {
@@ -197,7 +210,10 @@ fn is_made_of(
     new: &StationSettings,
 ) -> Result<bool, AllocError>
     requires few { length update.now.planned.now ≤ 256 }
-    ensures { IfOk result (λ is. IsTrue is ↔ IsMadeOf update.now.options.now (at_of update.now.places) update.now.planned.now left.now.targets.items left.now.instances.items left.now.rulings.items (station_view old.now) (station_view new.now)) }
+    ensures { IfOk result (λ is. IsTrue is ↔ IsMadeOf update.now.options.now
+        (at_of update.now.places) update.now.planned.now left.now.targets.items
+        left.now.instances.items left.now.rulings.items (station_view old.now)
+        (station_view new.now)) }
 {
     let added = after(new.core.targets(), left.targets.len());
     let targets = are_targets(alloc, &update.wanted(), added)?;
@@ -214,8 +230,16 @@ fn require_made_of(
     new: &StationSettings,
 ) -> Result<Reading, SurveyFault>
     requires few { length update.now.planned.now ≤ 256 }
-    ensures gives { IfOk result (λ reading. IsMadeOf update.now.options.now (at_of update.now.places) update.now.planned.now left.now.targets.items left.now.instances.items left.now.rulings.items (station_view old.now) (station_view new.now) × (reading.longest ≡ longest_of (station_view new.now)) × (reading.targets.items ≡ drop (length left.now.targets.items) (station_view new.now).core.targets)) }
-    ensures fault { IfErr result (IsUnlike (IsMadeOf update.now.options.now (at_of update.now.places) update.now.planned.now left.now.targets.items left.now.instances.items left.now.rulings.items (station_view old.now) (station_view new.now))) }
+    ensures gives { IfOk result (λ reading. IsMadeOf update.now.options.now
+        (at_of update.now.places) update.now.planned.now left.now.targets.items
+        left.now.instances.items left.now.rulings.items (station_view old.now)
+        (station_view new.now) × (reading.longest ≡ longest_of (station_view new.now))
+        × (reading.targets.items ≡ drop (length left.now.targets.items)
+        (station_view new.now).core.targets)) }
+    ensures fault { IfErr result (IsUnlike (IsMadeOf update.now.options.now
+        (at_of update.now.places) update.now.planned.now left.now.targets.items
+        left.now.instances.items left.now.rulings.items (station_view old.now)
+        (station_view new.now))) }
 {
     if is_made_of(alloc, update, left, old, new)? {
         let added = after(new.core.targets(), left.targets.len());
@@ -235,15 +259,21 @@ fn require_updated(
 ) -> Result<Reading, SurveyFault>
     requires few { length update.now.planned.now ≤ 256 }
     requires percent { update.now.options.now.percent ≤ 100 }
-    ensures gives { IfOk result (λ reading. IsUpdated update.now.options.now (at_of update.now.places) update.now.planned.now (station_view old.now) (station_view new.now) × (reading.longest ≡ longest_of (station_view new.now)) × (reading.targets.items ≡ drop (length (targets_now (at_of update.now.places) (station_view old.now).core.targets)) (station_view new.now).core.targets)) }
-    ensures fault { IfErr result (IsUnlike (IsUpdated update.now.options.now (at_of update.now.places) update.now.planned.now (station_view old.now) (station_view new.now))) }
+    ensures gives { IfOk result (λ reading. IsUpdated update.now.options.now
+        (at_of update.now.places) update.now.planned.now (station_view old.now)
+        (station_view new.now) × (reading.longest ≡ longest_of (station_view new.now))
+        × (reading.targets.items ≡ drop (length (targets_now (at_of update.now.places)
+        (station_view old.now).core.targets)) (station_view new.now).core.targets)) }
+    ensures fault { IfErr result (IsUnlike (IsUpdated update.now.options.now
+        (at_of update.now.places) update.now.planned.now (station_view old.now)
+        (station_view new.now))) }
 {
     let left = left_of(alloc, update, old)?;
     require_made_of(alloc, update, &left, old, new)
 }
 
-/// Returns what a text is read as, if it is read as the settings with the agent's interfaces as they
-/// are now.
+/// Returns what a text is read as, if it is read as the settings with the agent's interfaces as
+/// they are now.
 fn read_updated(
     alloc: Global,
     existing: &Existing<'_>,
@@ -252,8 +282,15 @@ fn read_updated(
 ) -> Result<Reading, SurveyFault>
     requires few { length update.now.planned.now ≤ 256 }
     requires percent { update.now.options.now.percent ≤ 100 }
-    ensures gives { IfOk result (λ reading. (station : Station) × Says (IsStation existing.now.names.now) text.now station × IsUpdated update.now.options.now (at_of update.now.places) update.now.planned.now (station_view existing.now.station.now) station × (reading.longest ≡ longest_of station) × (reading.targets.items ≡ drop (length (targets_now (at_of update.now.places) (station_view existing.now.station.now).core.targets)) station.core.targets)) }
-    ensures fault { IfErr result (IsUnread existing.now.names.now update.now.options.now (at_of update.now.places) update.now.planned.now (station_view existing.now.station.now) text.now) }
+    ensures gives { IfOk result (λ reading. (station : Station)
+        × Says (IsStation existing.now.names.now) text.now station
+        × IsUpdated update.now.options.now (at_of update.now.places) update.now.planned.now
+        (station_view existing.now.station.now) station × (reading.longest ≡ longest_of station)
+        × (reading.targets.items ≡ drop (length (targets_now (at_of update.now.places)
+        (station_view existing.now.station.now).core.targets)) station.core.targets)) }
+    ensures fault { IfErr result (IsUnread existing.now.names.now update.now.options.now
+        (at_of update.now.places) update.now.planned.now (station_view existing.now.station.now)
+        text.now) }
 {
     match read_station(alloc, text, existing.names) {
         Ok(station) => require_updated(alloc, update, existing.station, &station),
@@ -267,7 +304,9 @@ fn kept_octets<S: NameTexts>(
     spelling: &Spelling<'_, S>,
     existing: &Existing<'_>,
 ) -> Result<Vec<u8>, AllocError>
-    ensures { IfOk result (λ v. v.items ≡ kept_text (S.shown spelling.now.names.now) (at_of spelling.now.places) (station_view existing.now.station.now).core.watch.instances existing.now.text.now) }
+    ensures { IfOk result (λ v. v.items ≡ kept_text (S.shown spelling.now.names.now)
+        (at_of spelling.now.places) (station_view existing.now.station.now).core.watch.instances
+        existing.now.text.now) }
 {
     let alloc = spelling.alloc;
     let instances = existing.station.core.watch().instances();
@@ -290,8 +329,12 @@ fn update_by<S: NameTexts>(
     update: &Updating<'_>,
 ) -> Result<String, SurveyFault>
     requires { update.now.options.now.percent ≤ 100 }
-    ensures gives { IfOk result (λ text. update_of (S.shown names.now) (at_of update.now.places) (station_view existing.now.station.now).core.watch.instances existing.now.text.now update.now.options.now update.now.planned.now ≡ Ok (string_bytes text)) }
-    ensures fault { IfErr result (IsUndrafted (S.shown names.now) (at_of update.now.places) (station_view existing.now.station.now).core.watch.instances existing.now.text.now update.now.options.now update.now.planned.now) }
+    ensures gives { IfOk result (λ text. update_of (S.shown names.now) (at_of update.now.places)
+        (station_view existing.now.station.now).core.watch.instances existing.now.text.now
+        update.now.options.now update.now.planned.now ≡ Ok (string_bytes text)) }
+    ensures fault { IfErr result (IsUndrafted (S.shown names.now) (at_of update.now.places)
+        (station_view existing.now.station.now).core.watch.instances existing.now.text.now
+        update.now.options.now update.now.planned.now) }
 {
     let places = update.places;
     let spelling = Spelling {
@@ -319,8 +362,14 @@ fn draft_update(
     update: &Updating<'_>,
 ) -> Result<String, SurveyFault>
     requires { update.now.options.now.percent ≤ 100 }
-    ensures gives { IfOk result (λ text. update_of (shown_by existing.now.names.now (length existing.now.station.now.modules.items)) (at_of update.now.places) (station_view existing.now.station.now).core.watch.instances existing.now.text.now update.now.options.now update.now.planned.now ≡ Ok (string_bytes text)) }
-    ensures fault { IfErr result (IsUndrafted (shown_by existing.now.names.now (length existing.now.station.now.modules.items)) (at_of update.now.places) (station_view existing.now.station.now).core.watch.instances existing.now.text.now update.now.options.now update.now.planned.now) }
+    ensures gives { IfOk result (λ text. update_of (shown_by existing.now.names.now
+        (length existing.now.station.now.modules.items)) (at_of update.now.places)
+        (station_view existing.now.station.now).core.watch.instances existing.now.text.now
+        update.now.options.now update.now.planned.now ≡ Ok (string_bytes text)) }
+    ensures fault { IfErr result (IsUndrafted (shown_by existing.now.names.now
+        (length existing.now.station.now.modules.items)) (at_of update.now.places)
+        (station_view existing.now.station.now).core.watch.instances existing.now.text.now
+        update.now.options.now update.now.planned.now) }
 {
     if existing.station.modules.is_empty() {
         return update_by(alloc, &InNumbers, existing, update);
@@ -336,8 +385,13 @@ fn update_with(
     update: &Updating<'_>,
 ) -> Result<Drafted, SurveyFault>
     requires { update.now.options.now.percent ≤ 100 }
-    ensures reads { IfOk result (λ drafted. IsUpdatedText existing.now.names.now update.now.options.now (at_of update.now.places) update.now.planned.now existing.now.text.now (station_view existing.now.station.now) (string_bytes drafted.text) drafted.longest drafted.targets.items) }
-    ensures fault { IfErr result (IsUpdateFault existing.now.names.now update.now.options.now (at_of update.now.places) update.now.planned.now existing.now.text.now (station_view existing.now.station.now)) }
+    ensures reads { IfOk result (λ drafted. IsUpdatedText existing.now.names.now
+        update.now.options.now (at_of update.now.places) update.now.planned.now
+        existing.now.text.now (station_view existing.now.station.now) (string_bytes drafted.text)
+        drafted.longest drafted.targets.items) }
+    ensures fault { IfErr result (IsUpdateFault existing.now.names.now update.now.options.now
+        (at_of update.now.places) update.now.planned.now existing.now.text.now
+        (station_view existing.now.station.now)) }
 {
     given!(update.require_space(alloc, existing.station));
     let text = given!(draft_update(alloc, existing, update));
@@ -368,11 +422,11 @@ impl<'a> Renamed<'a> {
 }
 
 /// Returns settings with an agent's interfaces as they are now. An interface is the same by its
-/// ifName, if the name that it had is known, else by its index. Lines of interfaces that are gone are
-/// left out, those of others have the index of now, and targets that poll the chosen counters of new
-/// interfaces come at the end, with alarms on them, as `append` writes them. All else stays as it
-/// was, octet by octet: comments, other blocks, and what the agent's say by hand, thresholds too. The
-/// whole was read back, as what was meant.
+/// ifName, if the name that it had is known, else by its index. Lines of interfaces that are gone
+/// are left out, those of others have the index of now, and targets that poll the chosen counters
+/// of new interfaces come at the end, with alarms on them, as `append` writes them. All else stays
+/// as it was, octet by octet: comments, other blocks, and what the agent's say by hand, thresholds
+/// too. The whole was read back, as what was meant.
 ///
 /// # Errors
 /// `OtherEngine` if no target is an agent of this engine id; `TooMany` with the number of instances
@@ -386,8 +440,15 @@ pub fn update(
     choice: &Choice<'_>,
 ) -> Result<Drafted, SurveyFault>
     requires { options.now.percent ≤ 100 }
-    ensures reads { IfOk result (λ drafted. IsUpdatedText existing.now.names.now options.now (at_in renamed.now) (new_counters choice.now (at_in renamed.now) (station_view existing.now.station.now).core.watch.instances) existing.now.text.now (station_view existing.now.station.now) (string_bytes drafted.text) drafted.longest drafted.targets.items) }
-    ensures fault { IfErr result (IsUpdateFault existing.now.names.now options.now (at_in renamed.now) (new_counters choice.now (at_in renamed.now) (station_view existing.now.station.now).core.watch.instances) existing.now.text.now (station_view existing.now.station.now)) }
+    ensures reads { IfOk result (λ drafted. IsUpdatedText existing.now.names.now options.now
+        (at_in renamed.now) (new_counters choice.now (at_in renamed.now)
+        (station_view existing.now.station.now).core.watch.instances) existing.now.text.now
+        (station_view existing.now.station.now) (string_bytes drafted.text) drafted.longest
+        drafted.targets.items) }
+    ensures fault { IfErr result (IsUpdateFault existing.now.names.now options.now
+        (at_in renamed.now) (new_counters choice.now (at_in renamed.now)
+        (station_view existing.now.station.now).core.watch.instances) existing.now.text.now
+        (station_view existing.now.station.now)) }
 {
     let places = renamed.places();
     let instances = existing.station.core.watch().instances();

@@ -16,7 +16,7 @@ use mon_smi::NameTexts;
 use std::alloc::{AllocError, Global};
 
 /// The most octets of a name or an alias that a comment shows.
-const MOST_SHOWN: usize = 64;
+const MAX_SHOWN: usize = 64;
 
 /// An agent's answers, and how a text shows names.
 #[derive(Drop)]
@@ -50,8 +50,8 @@ fn put_shown(text: &mut String, octet: u8) -> Result<(), AllocError>
 fn first_of(octets: &[u8]) -> &[u8]
     ensures { result.now ≡ take 64 octets.now }
 {
-    if octets.len() > MOST_SHOWN {
-        &octets[..MOST_SHOWN]
+    if octets.len() > MAX_SHOWN {
+        &octets[..MAX_SHOWN]
     } else {
         octets
     }
@@ -73,7 +73,8 @@ fn cell_text<S: NameTexts>(
     column: Column,
     index: u32,
 ) -> Result<String, AllocError>
-    ensures { IfOk result (λ text. string_bytes text ≡ S.shown shown.now.names.now (cell_name column index)) }
+    ensures { IfOk result (λ text. string_bytes text ≡ S.shown shown.now.names.now
+        (cell_name column index)) }
 {
     match column.cell(shown.alloc, index) {
         Ok(name) => shown.names.text(shown.alloc, &name),
@@ -88,7 +89,8 @@ fn put_cell<S: NameTexts>(
     column: Column,
     index: u32,
 ) -> Result<(), AllocError>
-    ensures { OnOk result (string_bytes text.new ≡ string_bytes text.old ++ S.shown shown.now.names.now (cell_name column index)) }
+    ensures { OnOk result (string_bytes text.new ≡ string_bytes text.old
+        ++ S.shown shown.now.names.now (cell_name column index)) }
 {
     let name = cell_text(shown, column, index)?;
     text.push_str(name.as_str())
@@ -100,14 +102,16 @@ fn put_name<S: NameTexts>(
     shown: &Naming<'_, S>,
     one: Planned,
 ) -> Result<(), AllocError>
-    ensures { OnOk result (string_bytes text.new ≡ string_bytes text.old ++ S.shown shown.now.names.now (cell_name (column_of one.counter one.wide) one.index)) }
+    ensures { OnOk result (string_bytes text.new ≡ string_bytes text.old
+        ++ S.shown shown.now.names.now (cell_name (column_of one.counter one.wide) one.index)) }
 {
     put_cell(text, shown, one.column(), one.index)
 }
 
 /// Adds an interface's ifType, where the agent has it.
 fn put_type(text: &mut String, answers: &Answers, index: u32) -> Result<(), AllocError>
-    ensures { OnOk result (string_bytes text.new ≡ string_bytes text.old ++ type_text (type_in answers.now index)) }
+    ensures { OnOk result (string_bytes text.new ≡ string_bytes text.old
+        ++ type_text (type_in answers.now index)) }
 {
     let kind = answers.kind(index);
     if kind == 0 {
@@ -129,7 +133,9 @@ fn put_alias(text: &mut String, alias: &[u8]) -> Result<(), AllocError>
 
 /// Adds an interface's name and its alias, as a comment shows them.
 fn put_names(text: &mut String, answers: &Answers, index: u32) -> Result<(), AllocError>
-    ensures { OnOk result (string_bytes text.new ≡ string_bytes text.old ++ cleaned (name_in answers.now index) ++ alias_text (octets_of (value_at answers.now (Column.IfX 18) index))) }
+    ensures { OnOk result (string_bytes text.new ≡ string_bytes text.old
+        ++ cleaned (name_in answers.now index) ++ alias_text
+        (octets_of (value_at answers.now (Column.IfX 18) index))) }
 {
     put_cleaned(text, answers.name(index))?;
     put_alias(text, answers.alias(index))
@@ -139,7 +145,8 @@ fn put_names(text: &mut String, answers: &Answers, index: u32) -> Result<(), All
 /// alias, type and speed.
 #[tactic(auto, unfolding(crate::specs::Text::comment_text))]
 fn put_comment(text: &mut String, answers: &Answers, one: Planned) -> Result<(), AllocError>
-    ensures { OnOk result (string_bytes text.new ≡ string_bytes text.old ++ comment_text answers.now one) }
+    ensures { OnOk result (string_bytes text.new ≡ string_bytes text.old
+        ++ comment_text answers.now one) }
 {
     let label = one.label();
     let index = one.index;
@@ -156,7 +163,8 @@ fn put_mark<S: NameTexts>(
     shown: &Naming<'_, S>,
     index: u32,
 ) -> Result<(), AllocError>
-    ensures { OnOk result (string_bytes text.new ≡ string_bytes text.old ++ mark_text (S.shown shown.now.names.now) shown.now.answers.now index) }
+    ensures { OnOk result (string_bytes text.new ≡ string_bytes text.old
+        ++ mark_text (S.shown shown.now.names.now) shown.now.answers.now index) }
 {
     if shown.answers.is_marked(index) {
         text.push_str("\", mark = \"")?;
@@ -172,7 +180,8 @@ pub(crate) fn put_object<S: NameTexts>(
     shown: &Naming<'_, S>,
     one: Planned,
 ) -> Result<(), AllocError>
-    ensures { OnOk result (string_bytes text.new ≡ string_bytes text.old ++ object_text (S.shown shown.now.names.now) shown.now.answers.now one) }
+    ensures { OnOk result (string_bytes text.new ≡ string_bytes text.old
+        ++ object_text (S.shown shown.now.names.now) shown.now.answers.now one) }
 {
     text.push_str("    { name = \"")?;
     put_name(text, shown, one)?;
@@ -215,7 +224,8 @@ pub(crate) fn put_modules(text: &mut String, paths: &[&str]) -> Result<(), Alloc
 
 /// Adds the list of modules' files.
 fn put_list(text: &mut String, paths: &[&str]) -> Result<(), AllocError>
-    ensures { OnOk result (string_bytes text.new ≡ string_bytes text.old ++ codes "modules = [\n" ++ flat_map (λ m. module_text m.now) paths.now ++ codes "]\n") }
+    ensures { OnOk result (string_bytes text.new ≡ string_bytes text.old ++ codes "modules = [\n"
+        ++ flat_map (λ m. module_text m.now) paths.now ++ codes "]\n") }
 {
     text.push_str("modules = [\n")?;
     put_paths(text, paths)?;
@@ -224,7 +234,8 @@ fn put_list(text: &mut String, paths: &[&str]) -> Result<(), AllocError>
 
 /// Adds the lines of modules' files.
 fn put_paths(text: &mut String, paths: &[&str]) -> Result<(), AllocError>
-    ensures { OnOk result (string_bytes text.new ≡ string_bytes text.old ++ flat_map (λ m. module_text m.now) paths.now) }
+    ensures { OnOk result (string_bytes text.new ≡ string_bytes text.old
+        ++ flat_map (λ m. module_text m.now) paths.now) }
 {
     for path in paths {
         put_module(text, path)?;
@@ -239,7 +250,8 @@ pub(crate) fn put_target(
     options: &Options<'_>,
     engine: &str,
 ) -> Result<(), AllocError>
-    ensures { OnOk result (string_bytes text.new ≡ string_bytes text.old ++ target_text options.now engine.now) }
+    ensures { OnOk result (string_bytes text.new ≡ string_bytes text.old
+        ++ target_text options.now engine.now) }
 {
     let address = options.address;
     let community = options.community;
@@ -271,7 +283,8 @@ fn put_rule<S: NameTexts>(
     one: Planned,
     at: Thresholds,
 ) -> Result<(), AllocError>
-    ensures { OnOk result (string_bytes text.new ≡ string_bytes text.old ++ rule_text (S.shown shown.now.names.now) engine.now one at) }
+    ensures { OnOk result (string_bytes text.new ≡ string_bytes text.old
+        ++ rule_text (S.shown shown.now.names.now) engine.now one at) }
 {
     let rising = at.rising;
     let falling = at.falling;
@@ -289,7 +302,8 @@ pub(crate) fn put_alarm<S: NameTexts>(
     one: Planned,
 ) -> Result<(), AllocError>
     requires { percent ≤ 100 }
-    ensures { OnOk result (string_bytes text.new ≡ string_bytes text.old ++ alarm_text (S.shown shown.now.names.now) shown.now.answers.now percent engine.now one) }
+    ensures { OnOk result (string_bytes text.new ≡ string_bytes text.old
+        ++ alarm_text (S.shown shown.now.names.now) shown.now.answers.now percent engine.now one) }
 {
     match thresholds_of(shown.answers, percent, one.counter, one.index) {
         Some(at) => put_rule(text, shown, engine, one, at),

@@ -1,5 +1,7 @@
 -- What the cells of a row say.
-use Rattle.std.specs.Prelude.{ℕ, ◌+◌, ◌-◌, ◌*◌, ◌^◌, max, min, Bool, true, false, ◌&&◌, ◌||◌, List, [], ◌∷◌, ◌++◌, length, Option, Some, None, option_map, slice_get, codes, decimal, String, string_bytes, if◌then◌else◌}
+use Rattle.std.specs.Prelude.{ℕ, ◌+◌, ◌-◌, ◌*◌, ◌^◌, max, min, Bool, true, false, ◌&&◌, ◌||◌, List}
+use Rattle.std.specs.Prelude.{[], ◌∷◌, ◌++◌, length, Option, Some, None, option_map, slice_get}
+use Rattle.std.specs.Prelude.{codes, decimal, String, string_bytes, if◌then◌else◌}
 use Rattle.std.specs.Str.{bytes_eq}
 use Rattle.mon_display.specs.Interface.{column_of}
 use Rattle.mon_display.specs.Naming.{interface_text}
@@ -67,7 +69,8 @@ rate_words octets (Some q) = if octets then rate_text Bits (bits_of q) else rate
 -- the rate of an instance
 abbrev pub rate_at : Listed → ℕ → Option Entry → List ℕ
 rate_at l place None = []
-rate_at l place (Some e) = rate_words (is_octets (column_of e.name)) (fresh_rate (fresh_at l place) e.items)
+rate_at l place (Some e) = rate_words (is_octets (column_of e.name))
+    (fresh_rate (fresh_at l place) e.items)
 
 -- a rate of octets as a part of a speed, if both are known
 abbrev pub part_words : Option ℕ → Option ℕ → List ℕ
@@ -80,11 +83,13 @@ abbrev pub speed_in : Option InstanceLabels → Option ℕ
 speed_in None = None
 speed_in (Some labels) = labels.speed
 
--- the rate of an instance as a part of the speed of its interface; nothing unless it is one of octets
+-- the rate of an instance as a part of the speed of its interface; nothing unless it is one of
+-- octets
 abbrev pub part_at : Listed → ℕ → Option Entry → List ℕ
 part_at l place None = []
 part_at l place (Some e) =
-    if is_octets (column_of e.name) then part_words (speed_in (slice_get l.labels place)) (fresh_rate (fresh_at l place) e.items) else []
+    if is_octets (column_of e.name) then part_words (speed_in (slice_get l.labels place))
+    (fresh_rate (fresh_at l place) e.items) else []
 
 -- the newest value of an instance
 abbrev pub value_at : Option Entry → List ℕ
@@ -100,10 +105,12 @@ state_at l place (Some e) = state_cell (fresh_at l place) e.alarms
 abbrev pub is_either : List ℕ → List ℕ → List ℕ → Bool
 is_either word a b = bytes_eq a word || bytes_eq b word
 
--- what is said of the alarms of two instances: stale if one is, else raised if one is, else clear if one has a rule
+-- what is said of the alarms of two instances: stale if one is, else raised if one is, else clear
+-- if one has a rule
 abbrev pub joined_state : List ℕ → List ℕ → List ℕ
 joined_state a b =
-    if is_either (codes "stale") a b then codes "stale" else if is_either (codes "RAISED") a b then codes "RAISED"
+    if is_either (codes "stale") a b then codes "stale" else if is_either (codes "RAISED") a b
+    then codes "RAISED"
     else if is_either (codes "clear") a b then codes "clear" else codes "-"
 
 -- how many samples an instance has
@@ -148,9 +155,11 @@ named interface name None = joined_by (codes " ") interface name
 named [] name (Some other) = name ++ codes ", " ++ other
 named (x ∷ xs) name (Some other) = x ∷ xs
 
--- the name of a row: its interface, and the name of its instance; of two instances the interface, or both names if it has no name
+-- the name of a row: its interface, and the name of its instance; of two instances the interface,
+-- or both names if it has no name
 abbrev pub name_of : (List ℕ → List ℕ) → Listed → Row → List ℕ
-name_of shown l row = named (interface_at (slice_get l.labels row.place)) (name_at shown (slice_get l.entries row.place)) (other_name shown l row.out)
+name_of shown l row = named (interface_at (slice_get l.labels row.place))
+    (name_at shown (slice_get l.entries row.place)) (other_name shown l row.out)
 
 -- the cells of a row of one instance
 abbrev pub lone_cells : (List ℕ → List ℕ) → Listed → Row → Cells
@@ -174,8 +183,10 @@ paired_cells shown l row place = record {
   part = part_at l row.place (slice_get l.entries row.place);
   out = rate_at l place (slice_get l.entries place);
   out_part = part_at l place (slice_get l.entries place);
-  alarm = joined_state (state_at l row.place (slice_get l.entries row.place)) (state_at l place (slice_get l.entries place));
-  samples = decimal (count_at (slice_get l.entries row.place) + count_at (slice_get l.entries place));
+  alarm = joined_state (state_at l row.place (slice_get l.entries row.place))
+      (state_at l place (slice_get l.entries place));
+  samples = decimal (count_at (slice_get l.entries row.place)
+      + count_at (slice_get l.entries place));
   age = age_cell (older (slice_get l.ages row.place) (slice_get l.ages place));
   name = name_of shown l row;
 }

@@ -1,5 +1,7 @@
--- Which rows a table has: In and Out of an interface of a device are one row, each other instance is a row of its own.
-use Rattle.std.specs.Prelude.{ℕ, ◌+◌, Bool, true, false, ◌==◌, ◌&&◌, List, [], ◌∷◌, Option, Some, None, is_some, if◌then◌else◌}
+-- Which rows a table has: In and Out of an interface of a device are one row, each other instance
+-- is a row of its own.
+use Rattle.std.specs.Prelude.{ℕ, ◌+◌, Bool, true, false, ◌==◌, ◌&&◌, List, [], ◌∷◌, Option, Some}
+use Rattle.std.specs.Prelude.{None, is_some, if◌then◌else◌}
 use Rattle.std.specs.Str.{bytes_eq}
 use Rattle.mon_display.specs.Interface.{column_of, interface_of}
 use Rattle.mon_display.specs.declared.interface.Column.{Column}
@@ -25,25 +27,28 @@ same_index (Some index) (Some other) = index == other
 
 -- whether another instance is of the same interface of the same device
 abbrev pub is_beside : Entry → Entry → Bool
-is_beside e other = bytes_eq other.engine e.engine && same_index (interface_of e.name) (interface_of other.name)
+is_beside e other = bytes_eq other.engine e.engine && same_index (interface_of e.name)
+    (interface_of other.name)
 
 -- the place, from this one on, of the first octets in of an instance's interface
 abbrev pub in_from : Entry → ℕ → List Entry → Option ℕ
 in_from e n [] = None
-in_from e n (other ∷ es) = if is_beside e other && is_in (column_of other.name) then Some n else in_from e (n + 1) es
+in_from e n (other ∷ es) = if is_beside e other && is_in (column_of other.name) then Some n
+    else in_from e (n + 1) es
 
 -- the place, from this one on, of the first octets out of an instance's interface
 abbrev pub out_from : Entry → ℕ → List Entry → Option ℕ
 out_from e n [] = None
-out_from e n (other ∷ es) = if is_beside e other && is_out (column_of other.name) then Some n else out_from e (n + 1) es
+out_from e n (other ∷ es) = if is_beside e other && is_out (column_of other.name) then Some n
+    else out_from e (n + 1) es
 
 -- whether a place is this one
 abbrev pub is_at : ℕ → Option ℕ → Bool
 is_at place None = false
 is_at place (Some other) = other == place
 
--- the row that begins with the instance at a place, of the interface with these octets in and out: both if the instance is the first; none if
--- it is the second and the first is there
+-- the row that begins with the instance at a place, of the interface with these octets in and out:
+-- both if the instance is the first; none if it is the second and the first is there
 abbrev pub row_between : ℕ → Option ℕ → Option ℕ → Option Row
 row_between place into out =
     if is_at place into then Some (record { place = place; out = out })

@@ -90,7 +90,8 @@ fn paired_cells<S: NameTexts>(
     row: Row,
     out: usize,
 ) -> Result<Cells, AllocError>
-    ensures { IfOk result (λ cells. texts_of cells ≡ paired_cells (S.shown names.now) listing.now row out) }
+    ensures { IfOk result (λ cells. texts_of cells ≡ paired_cells (S.shown names.now) listing.now
+        row out) }
 {
     let place = row.place;
     let (state, other) = (
@@ -112,7 +113,8 @@ fn paired_cells<S: NameTexts>(
 
 /// Returns the newest value of the instance at a place.
 fn value_at(alloc: Global, listing: &Listing, place: usize) -> Result<String, AllocError>
-    ensures { IfOk result (λ text. string_bytes text ≡ value_at (slice_get listing.now.entries place)) }
+    ensures { IfOk result (λ text. string_bytes text ≡ value_at
+        (slice_get listing.now.entries place)) }
 {
     match listing.entry(place) {
         None => Ok(String::new(alloc)),
@@ -139,7 +141,8 @@ fn is_octets(column: Column) -> bool
 
 /// Returns the rate of the instance at a place: of octets in bits.
 fn rate_at(alloc: Global, listing: &Listing, place: usize) -> Result<String, AllocError>
-    ensures { IfOk result (λ text. string_bytes text ≡ rate_at listing.now place (slice_get listing.now.entries place)) }
+    ensures { IfOk result (λ text. string_bytes text ≡ rate_at listing.now place
+        (slice_get listing.now.entries place)) }
 {
     match listing.entry(place) {
         None => Ok(String::new(alloc)),
@@ -175,7 +178,8 @@ fn bits_of(rate: u128) -> u128
 
 /// Returns the rate of the instance at a place as a part of the speed of its interface.
 fn part_at(alloc: Global, listing: &Listing, place: usize) -> Result<String, AllocError>
-    ensures { IfOk result (λ text. string_bytes text ≡ part_at listing.now place (slice_get listing.now.entries place)) }
+    ensures { IfOk result (λ text. string_bytes text ≡ part_at listing.now place
+        (slice_get listing.now.entries place)) }
 {
     match listing.entry(place) {
         None => Ok(String::new(alloc)),
@@ -218,7 +222,8 @@ pub(crate) fn state_at(
     listing: &Listing,
     place: usize,
 ) -> Result<&'static str, AllocError>
-    ensures { IfOk result (λ text. text.now ≡ state_at listing.now place (slice_get listing.now.entries place)) }
+    ensures { IfOk result (λ text. text.now ≡ state_at listing.now place
+        (slice_get listing.now.entries place)) }
 {
     match listing.entry(place) {
         None => Ok("-"),
@@ -262,7 +267,8 @@ fn count_at(listing: &Listing, place: usize) -> u128
 
 /// Returns how many samples two instances have.
 fn count_both(listing: &Listing, place: usize, out: usize) -> u128
-    ensures { result ≡ count_at (slice_get listing.now.entries place) + count_at (slice_get listing.now.entries out) }
+    ensures { result ≡ count_at (slice_get listing.now.entries place)
+        + count_at (slice_get listing.now.entries out) }
 {
     count_at(listing, place) + count_at(listing, out)
 }
@@ -315,7 +321,8 @@ fn paired_name(
     name: &str,
     other: &str,
 ) -> Result<String, AllocError>
-    ensures { IfOk result (λ text. string_bytes text ≡ named (string_bytes interface) name.now (Some other.now)) }
+    ensures { IfOk result (λ text. string_bytes text ≡ named (string_bytes interface) name.now
+        (Some other.now)) }
 {
     if !interface.is_empty() {
         return Ok(interface);
@@ -345,7 +352,8 @@ fn name_at<S: NameTexts>(
     listing: &Listing,
     place: usize,
 ) -> Result<String, AllocError>
-    ensures { IfOk result (λ text. string_bytes text ≡ name_at (S.shown names.now) (slice_get listing.now.entries place)) }
+    ensures { IfOk result (λ text. string_bytes text ≡ name_at (S.shown names.now)
+        (slice_get listing.now.entries place)) }
 {
     match listing.entry(place) {
         None => Ok(String::new(alloc)),
@@ -355,7 +363,8 @@ fn name_at<S: NameTexts>(
 
 /// Returns the interface by its labels.
 fn interface_at(alloc: Global, labels: Option<&InstanceLabels>) -> Result<String, AllocError>
-    ensures { IfOk result (λ text. string_bytes text ≡ interface_at (option_map (λ l. l.now) labels.entry)) }
+    ensures { IfOk result (λ text. string_bytes text ≡ interface_at
+        (option_map (λ l. l.now) labels.entry)) }
 {
     match labels {
         None => Ok(String::new(alloc)),

@@ -9,7 +9,8 @@ use std::alloc::AllocError;
 
 /// Adds a line for each target that is down.
 pub(crate) fn put_down(text: &mut String, targets: &[TargetFigures]) -> Result<(), AllocError>
-    ensures { OnOk result (string_bytes text.new ≡ string_bytes text.old ++ flat_map down_if targets.now) }
+    ensures { OnOk result (string_bytes text.new ≡ string_bytes text.old
+        ++ flat_map down_if targets.now) }
 {
     for target in targets {
         put_down_if(text, target)?;
@@ -68,7 +69,8 @@ fn put_reason(text: &mut String, reason: &Option<String>) -> Result<(), AllocErr
 
 /// Adds a reason.
 fn put_reason_text(text: &mut String, reason: &str) -> Result<(), AllocError>
-    ensures { OnOk result (string_bytes text.new ≡ string_bytes text.old ++ (codes ": " ++ reason.now)) }
+    ensures { OnOk result (string_bytes text.new ≡ string_bytes text.old
+        ++ (codes ": " ++ reason.now)) }
 {
     text.push_str(": ")?;
     text.push_str(reason)

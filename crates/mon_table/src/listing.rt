@@ -21,20 +21,32 @@ impl<'a, 'e> Model for Listing<'a, 'e> {
 
     ghost Value = { Listed };
 
-    ghost view = { λ l. record { entries = l.entries.now; labels = l.labels.now; ages = l.ages.now; limit = l.limit } };
+    ghost view = { λ l. record {
+      entries = l.entries.now;
+      labels = l.labels.now;
+      ages = l.ages.now;
+      limit = l.limit;
+    } };
 }
 
 impl<'a, 'e> Listing<'a, 'e> {
     ghost use Rattle.mon_table.specs.Cells.{Listed};
 
-    /// Returns the instances with these labels and ages, of which those of this age and above are stale.
+    /// Returns the instances with these labels and ages, of which those of this age and above are
+    /// stale.
     pub(crate) fn new(
         entries: &'a [Entry<'e>],
         labels: &'a [InstanceLabels],
         ages: &'a [u32],
         limit: u32,
     ) -> Self
-        ensures { let l : Listed = record { entries = entries.now; labels = labels.now; ages = ages.now; limit = limit } in result ≡ l }
+        ensures { let l : Listed = record {
+          entries = entries.now;
+          labels = labels.now;
+          ages =
+              ages.now;
+          limit = limit;
+        } in result ≡ l }
     {
         Listing {
             entries,

@@ -51,7 +51,8 @@ pub(crate) fn widths_of<S: NameTexts>(
     listing: &Listing,
     rows: &[Row],
 ) -> Result<Widths, AllocError>
-    ensures { IfOk result (λ w. w ≡ widths_of (map (cells_of (S.shown names.now) listing.now) rows.now)) }
+    ensures { IfOk result (λ w. w ≡ widths_of (map (cells_of (S.shown names.now) listing.now)
+        rows.now)) }
 {
     let mut widths = Widths {
         value: 0,
@@ -104,7 +105,8 @@ fn titled(title: usize, width: usize) -> usize
 
 /// Adds the line of titles.
 pub(crate) fn put_title(alloc: Global, text: &mut String, shape: Shape) -> Result<(), AllocError>
-    ensures { OnOk result (string_bytes text.new ≡ string_bytes text.old ++ title_line shape.widths shape.is_aged) }
+    ensures { OnOk result (string_bytes text.new ≡ string_bytes text.old
+        ++ title_line shape.widths shape.is_aged) }
 {
     put_titles(alloc, text, shape)?;
     text.push_str("NAME\n")
@@ -113,7 +115,8 @@ pub(crate) fn put_title(alloc: Global, text: &mut String, shape: Shape) -> Resul
 /// Adds the titles before the names'.
 #[tactic(auto, unfolding(crate::specs::Table::title_cells))]
 fn put_titles(alloc: Global, text: &mut String, shape: Shape) -> Result<(), AllocError>
-    ensures { OnOk result (string_bytes text.new ≡ string_bytes text.old ++ title_cells shape.widths shape.is_aged) }
+    ensures { OnOk result (string_bytes text.new ≡ string_bytes text.old
+        ++ title_cells shape.widths shape.is_aged) }
 {
     put_figure_titles(alloc, text, shape.widths)?;
     put_left(alloc, text, 6, "ALARM")?;
@@ -198,7 +201,8 @@ fn put_device(
 
 /// Adds a device before its engine id, if it is known.
 fn put_before_engine(text: &mut String, device: &str) -> Result<(), AllocError>
-    ensures { OnOk result (string_bytes text.new ≡ string_bytes text.old ++ before_engine device.now) }
+    ensures { OnOk result (string_bytes text.new ≡ string_bytes text.old
+        ++ before_engine device.now) }
 {
     if device.is_empty() {
         return Ok(());
@@ -209,7 +213,8 @@ fn put_before_engine(text: &mut String, device: &str) -> Result<(), AllocError>
 
 /// Returns the address and the label of an instance's device.
 fn device_of(alloc: Global, labels: Option<&InstanceLabels>) -> Result<String, AllocError>
-    ensures { IfOk result (λ text. string_bytes text ≡ device_of (option_map (λ l. l.now) labels.entry)) }
+    ensures { IfOk result (λ text. string_bytes text ≡ device_of
+        (option_map (λ l. l.now) labels.entry)) }
 {
     match labels {
         None => Ok(String::new(alloc)),
@@ -219,7 +224,8 @@ fn device_of(alloc: Global, labels: Option<&InstanceLabels>) -> Result<String, A
 
 /// Adds the line of a row.
 fn put_row(alloc: Global, text: &mut String, cells: &Cells, shape: Shape) -> Result<(), AllocError>
-    ensures { OnOk result (string_bytes text.new ≡ string_bytes text.old ++ row_line shape.widths shape.is_aged (texts_of cells.now)) }
+    ensures { OnOk result (string_bytes text.new ≡ string_bytes text.old
+        ++ row_line shape.widths shape.is_aged (texts_of cells.now)) }
 {
     put_cells(alloc, text, cells, shape)?;
     text.push_str(&cells.name)?;
@@ -234,7 +240,8 @@ fn put_cells(
     cells: &Cells,
     shape: Shape,
 ) -> Result<(), AllocError>
-    ensures { OnOk result (string_bytes text.new ≡ string_bytes text.old ++ row_cells shape.widths shape.is_aged (texts_of cells.now)) }
+    ensures { OnOk result (string_bytes text.new ≡ string_bytes text.old
+        ++ row_cells shape.widths shape.is_aged (texts_of cells.now)) }
 {
     put_figures(alloc, text, cells, shape.widths)?;
     put_left(alloc, text, 6, cells.alarm)?;
@@ -277,7 +284,8 @@ fn put_right_if(
     width: usize,
     cell: &str,
 ) -> Result<(), AllocError>
-    ensures { OnOk result (string_bytes text.new ≡ string_bytes text.old ++ to_right_if width cell.now) }
+    ensures { OnOk result (string_bytes text.new ≡ string_bytes text.old
+        ++ to_right_if width cell.now) }
 {
     if width == 0 {
         return Ok(());

@@ -33,7 +33,8 @@ pub fn table_report<S: NameTexts>(
     entries: &[Entry],
     extras: Extras<'_>,
 ) -> Result<Vec<u8>, AllocError>
-    ensures { IfOk result (λ text. text.items ≡ table_report (S.shown names.now) extras.entry.presentation.now.sort
+    ensures { IfOk result (λ text. text.items ≡ table_report (S.shown names.now)
+        extras.entry.presentation.now.sort
         entries.now extras.entry.labels.now (option_map (λ f. f.now) extras.entry.station)) }
 {
     let mut octets = buffer;
@@ -89,7 +90,8 @@ fn put_table<S: NameTexts>(
     listing: &Listing,
     manner: Manner,
 ) -> Result<(), AllocError>
-    ensures { OnOk result (string_bytes text.new ≡ string_bytes text.old ++ table_text (S.shown names.now) manner.sort manner.is_aged listing.now) }
+    ensures { OnOk result (string_bytes text.new ≡ string_bytes text.old
+        ++ table_text (S.shown names.now) manner.sort manner.is_aged listing.now) }
 {
     let rows = rows_in(alloc, listing, manner.sort)?;
     let rows = rows.as_slice();
@@ -107,7 +109,8 @@ fn put_table<S: NameTexts>(
 /// Adds the last line: how many instances and samples there are.
 #[tactic(auto, unfolding(crate::specs::Table::count_line))]
 fn put_count(text: &mut String, instances: usize, samples: u128) -> Result<(), AllocError>
-    ensures { OnOk result (string_bytes text.new ≡ string_bytes text.old ++ count_line instances samples) }
+    ensures { OnOk result (string_bytes text.new ≡ string_bytes text.old
+        ++ count_line instances samples) }
 {
     writeln!(text, "{instances} instances, {samples} samples")
 }

@@ -45,8 +45,8 @@ fn row_at(entries: &[Entry], place: usize, entry: &Entry) -> Option<Row>
     row_between(place, into, out)
 }
 
-/// Returns the row that begins with the instance at a place, of the interface with these octets in and
-/// out.
+/// Returns the row that begins with the instance at a place, of the interface with these octets in
+/// and out.
 fn row_between(place: usize, into: Option<usize>, out: Option<usize>) -> Option<Row>
     ensures { result ≡ row_between place into out }
 {

@@ -1,5 +1,6 @@
 -- Addresses of UDP over IPv4, and how they are written.
-use Rattle.std.specs.Prelude.{◌≡◌, ℕ, Bool, ◌&&◌, ◌==◌, List, ◌++◌, Option, Some, None, codes, decimal, option_map}
+use Rattle.std.specs.Prelude.{◌≡◌, ℕ, Bool, ◌&&◌, ◌==◌, List, ◌++◌, Option, Some, None, codes}
+use Rattle.std.specs.Prelude.{decimal, option_map}
 use Rattle.std.specs.Net.Addr.{ipv4_octets}
 use Rattle.std.specs.Net.Grammar.{IsDotted, IsPortText}
 use Rattle.std.specs.Net.Reader.{read_socket_v4, whole_value}
@@ -12,13 +13,16 @@ use Rattle.mon_udp.specs.declared.addr.Addr.{Addr}
 
 -- four decimal numbers with dots between them, a colon, and the port
 abbrev pub IsAddrText : List ℕ → Addr → Type 0
-IsAddrText text a = (ip port : List ℕ) × (text ≡ ip ++ port) × IsDotted ip a.octets × IsPortText port a.port
+IsAddrText text a = (ip port : List ℕ) × (text ≡ ip ++ port) × IsDotted ip a.octets
+    × IsPortText port a.port
 
 -- the address that a text writes
 abbrev pub addr_of : List ℕ → Option Addr
-addr_of text = option_map (λ p. record { octets = p.0; port = p.1 }) (whole_value (read_socket_v4 text))
+addr_of text = option_map (λ p. record { octets = p.0; port = p.1 })
+    (whole_value (read_socket_v4 text))
 
--- how an address is printed: its octets as decimal numbers with dots between them, a colon, the port
+-- how an address is printed: its octets as decimal numbers with dots between them, a colon, the
+-- port
 abbrev pub addr_text : Addr → List ℕ
 addr_text a = ipv4_text a.octets ++ codes ":" ++ decimal a.port
 

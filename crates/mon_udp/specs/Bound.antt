@@ -9,11 +9,13 @@ use Rattle.mon_udp.specs.Addr.{addr_in}
 -- port where the port 0 was asked for
 abbrev pub does_for : Addr → Option Addr → Bool
 does_for asked None = false
-does_for asked (Some at) = bytes_eq at.octets asked.octets && (asked.port == 0 || at.port == asked.port)
+does_for asked (Some at) = bytes_eq at.octets asked.octets &&
+    (asked.port == 0 || at.port == asked.port)
 
 -- the system was asked to bind a socket to this address, and said that it is at one that does
-pub record IsBound (Bound : Addr → Type 0) (Stands : SocketAddr → Type 0) (asked : Addr) : Type 0 where
-  pub bound : Bound asked
-  pub there : SocketAddr
-  pub stands : Stands there
-  pub same : does_for asked (addr_in there) ≡ true
+pub record IsBound (Bound : Addr → Type 0) (Stands : SocketAddr → Type 0) (asked : Addr) : Type 0
+  where
+    pub bound : Bound asked
+    pub there : SocketAddr
+    pub stands : Stands there
+    pub same : does_for asked (addr_in there) ≡ true

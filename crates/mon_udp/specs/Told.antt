@@ -8,7 +8,8 @@ extended None more = None
 extended (Some all) more = Some (all ++ more)
 
 -- More is reported, of which this holds.
-pub record GoesOnBy {A : Type 0} (Holds : List A → Type 0) (before after : Option (List A)) : Type 0 where
-  pub more : List A
-  pub holds : Holds more
-  pub told : after ≡ extended before more
+pub record GoesOnBy {A : Type 0} (Holds : List A → Type 0) (before after : Option (List A)) : Type 0
+  where
+    pub more : List A
+    pub holds : Holds more
+    pub told : after ≡ extended before more

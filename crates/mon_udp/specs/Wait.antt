@@ -5,14 +5,15 @@ use Rattle.std.specs.declared.net.socket_addr.SocketAddr.{SocketAddr}
 use Rattle.std.specs.declared.time.Instant.{Instant}
 use Rattle.mon_udp.specs.declared.timer.Timer.{Timer}
 
--- What is left of a wait at a time, all in nanoseconds: it is over when it was quiet for its length,
--- and at the latest four times its length after it began.
+-- What is left of a wait at a time, all in nanoseconds: it is over when it was quiet for its
+-- length, and at the latest four times its length after it began.
 abbrev pub left_of : (length began quiet now : ℕ) → ℕ
 left_of length began quiet now = min (length - (now - quiet)) (4 * length - (now - began))
 
 -- what is left of a timer's wait at a time, in nanoseconds
 abbrev pub left_at : Timer → Instant → ℕ
-left_at t now = left_of (t.milliseconds * 1_000_000) (instant_nanos t.began) (instant_nanos t.quiet) (instant_nanos now)
+left_at t now = left_of (t.milliseconds * 1_000_000) (instant_nanos t.began) (instant_nanos t.quiet)
+    (instant_nanos now)
 
 -- a wait of this many milliseconds that begins at this time
 abbrev pub begun : ℕ → Instant → Timer
@@ -44,6 +45,7 @@ pub record IsOn (Told : Instant → Type 0) (t : Timer) : Type 0 where
 
 -- what a reception in a wait gives: a datagram that was received while the wait was on, or nothing
 -- if it is over
-abbrev pub IsReception : (Told : Instant → Type 0) (Quiet : ℕ → Type 0) (Received : ℕ → SocketAddr → Type 0) → Timer → Option (ℕ × SocketAddr) → Type 0
+abbrev pub IsReception : (Told : Instant → Type 0) (Quiet : ℕ → Type 0)
+    (Received : ℕ → SocketAddr → Type 0) → Timer → Option (ℕ × SocketAddr) → Type 0
 IsReception Told Quiet Received t None = IsOver Told Quiet t
 IsReception Told Quiet Received t (Some r) = IsOn Told t × Received r.0 r.1

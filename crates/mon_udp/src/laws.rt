@@ -20,7 +20,10 @@ pub fn addresses()
 /// A wait is over four times its length after it began, however often and at whatever times it was
 /// renewed; and when it was quiet for its length. Until then something of it is left.
 pub fn waits_end()
-    ensures whole { (length began quiet now : ℕ) → began + 4 * length ≤ now → left_of length began quiet now ≡ 0 }
-    ensures quiet { (length began quiet now : ℕ) → quiet + length ≤ now → left_of length began quiet now ≡ 0 }
-    ensures on { (length began quiet now : ℕ) → began ≤ now → quiet ≤ now → now < quiet + length → now < began + 4 * length → 0 < left_of length began quiet now }
+    ensures whole { (length began quiet now : ℕ) → began + 4 * length ≤ now
+        → left_of length began quiet now ≡ 0 }
+    ensures quiet { (length began quiet now : ℕ) → quiet + length ≤ now
+        → left_of length began quiet now ≡ 0 }
+    ensures on { (length began quiet now : ℕ) → began ≤ now → quiet ≤ now → now < quiet + length
+        → now < began + 4 * length → 0 < left_of length began quiet now }
 {}

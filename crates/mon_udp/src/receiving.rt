@@ -39,14 +39,16 @@ pub trait Receives {
         time: Duration,
         buffer: &mut [u8],
     ) -> io::Result<Option<(usize, SocketAddr)>>
-        ensures received { IfOk result (λ received_one. IfSome received_one (λ r. received self.now buffer.new r.0 r.1)) }
+        ensures received { IfOk result (λ received_one. IfSome received_one
+            (λ r. received self.now buffer.new r.0 r.1)) }
         ensures quiet { result ≡ Ok None → quiet self.now (as_nanos time) }
         ensures length { length buffer.new ≡ length buffer.old }
-        ensures within { IfOk result (λ received_one. IfSome received_one (λ r. r.0 ≤ length buffer.new)) };
+        ensures within { IfOk result (λ received_one. IfSome received_one
+            (λ r. r.0 ≤ length buffer.new)) };
 }
 
-/// Waits for a datagram without end, and puts it into the buffer. Returns how many of its octets are
-/// there, and where it came from.
+/// Waits for a datagram without end, and puts it into the buffer. Returns how many of its octets
+/// are there, and where it came from.
 ///
 /// # Errors
 /// That of the system; a reception that a signal interrupts is tried 255 times.

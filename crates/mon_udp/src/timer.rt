@@ -44,8 +44,8 @@ impl Timer {
         self.quiet
     }
 
-    /// Returns what is left of the wait now: it is over when it was quiet for its length, and at the
-    /// latest four times its length after it began.
+    /// Returns what is left of the wait now: it is over when it was quiet for its length, and at
+    /// the latest four times its length after it began.
     pub fn left(self, now: Instant) -> Duration
         ensures { as_nanos result ≡ left_at self now }
     {

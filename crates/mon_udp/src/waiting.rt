@@ -35,7 +35,8 @@ impl<'a, R: Ticks> Waiting<'a, R> {
     /// That of the system, if the clock fails. Then the last wait goes on.
     pub fn begin(&mut self, milliseconds: u32) -> io::Result<()>
         // It begins at the time that the clock tells in this call.
-        ensures begins { OnOk result (Begins (R.told self.old.rt.now self.old.timer.quiet) milliseconds self.new.timer) }
+        ensures begins { OnOk result (Begins (R.told self.old.rt.now self.old.timer.quiet)
+            milliseconds self.new.timer) }
         ensures same { OnErr result (self.new.timer ≡ self.old.timer) }
         ensures rt { self.new.rt ≡ self.old.rt }
     {
@@ -51,7 +52,8 @@ impl<'a, R: Ticks> Waiting<'a, R> {
     /// That of the system, if the clock fails. Then nothing begins anew.
     pub fn renew(&mut self) -> io::Result<()>
         // It is quiet since the time that the clock tells in this call.
-        ensures renews { OnOk result (Renews (R.told self.old.rt.now self.old.timer.quiet) self.old.timer self.new.timer) }
+        ensures renews { OnOk result (Renews (R.told self.old.rt.now self.old.timer.quiet)
+            self.old.timer self.new.timer) }
         ensures same { OnErr result (self.new.timer ≡ self.old.timer) }
         ensures rt { self.new.rt ≡ self.old.rt }
     {
@@ -70,7 +72,8 @@ impl<'a, R: Ticks> Waiting<'a, R> {
         socket: &S,
         buffer: &mut [u8],
     ) -> io::Result<Option<(usize, SocketAddr)>>
-        ensures gives { IfOk result (IsReception (R.told self.now.rt.now self.now.timer.quiet) (S.quiet socket.now) (S.received socket.now buffer.new) self.now.timer) }
+        ensures gives { IfOk result (IsReception (R.told self.now.rt.now self.now.timer.quiet)
+            (S.quiet socket.now) (S.received socket.now buffer.new) self.now.timer) }
         ensures length { length buffer.new ≡ length buffer.old }
         ensures within { IfOk result (λ received. IfSome received (λ r. r.0 ≤ length buffer.new)) }
     {

@@ -1,8 +1,9 @@
--- Whether a name is in a view is decided: each condition on a family is, and the families are a list.
+-- Whether a name is in a view is decided: each condition on a family is, and the families are a
+-- list.
 use Rattle.std.proofs.Common.{◌≡◌, ℕ, zero, suc, ◌<◌, ◌≤◌, ◌/◌, ◌%◌, ◌-◌, Bool, true, false, true≢false, List, [], ◌∷◌, length, slice_index, Contains, IsTrue, bit_and, ◌^◌, ◌⊎◌, inl, inr, refl, sym, subst, arith}
 use Rattle.std.specs.Ordering.{is_le}
 use Rattle.std.proofs.lemmas.Bool.Decides.{leb_tells, eqb_tells}
-use Rattle.mon_vacm.specs.declared.family.Family.{Family}
+use Rattle.mon_vacm.specs.declared.family.ViewTreeFamily.{ViewTreeFamily}
 use Rattle.mon_vacm.specs.View.{MustAgree, IsMatch, Applies, IsInView, subtree_cmp}
 
 -- it holds, or it doesn't
@@ -111,7 +112,7 @@ some P each (x ∷ xs) = elim (each x) [
 must_agree : (mask : List ℕ) (i : ℕ) → OrNot (MustAgree mask i)
 must_agree mask i = implied (at_most (suc (i / 8)) (length mask)) (negated (same_number (bit_and (slice_index mask (i / 8)) (2 ^ (7 - i % 8))) 0))
 
-is_match : (f : Family) (name : List ℕ) → OrNot (IsMatch f name)
+is_match : (f : ViewTreeFamily) (name : List ℕ) → OrNot (IsMatch f name)
 is_match f name = like
     (λ h. record { long = h.0; agrees = h.1 })
     (λ m. (m.long, m.agrees))
@@ -119,35 +120,35 @@ is_match f name = like
     (below (λ i. MustAgree f.mask i → slice_index name i ≡ slice_index f.subtree i)
     (λ i. implied (must_agree f.mask i) (same_number (slice_index name i) (slice_index f.subtree i))) (length f.subtree)))
 
-applies : (view name : List ℕ) (f : Family) → OrNot (Applies view name f)
+applies : (view name : List ℕ) (f : ViewTreeFamily) → OrNot (Applies view name f)
 applies view name f = like
     (λ h. record { of_view = h.0; matches = h.1 })
     (λ a. (a.of_view, a.matches))
     (both (same_list f.view_name view) (is_match f name))
 
-module _ (families : List Family) (view name : List ℕ) where
+module _ (families : List ViewTreeFamily) (view name : List ℕ) where
   -- no family that applies is above it
-  abbrev IsGreatest : Family → Type 0
-  IsGreatest f = (other : Family) → Contains families other → Applies view name other → IsTrue (is_le (subtree_cmp other.subtree f.subtree))
+  abbrev IsGreatest : ViewTreeFamily → Type 0
+  IsGreatest f = (other : ViewTreeFamily) → Contains families other → Applies view name other → IsTrue (is_le (subtree_cmp other.subtree f.subtree))
 
-  is_greatest : (f : Family) → OrNot (IsGreatest f)
+  is_greatest : (f : ViewTreeFamily) → OrNot (IsGreatest f)
   is_greatest f = every (λ other. Applies view name other → IsTrue (is_le (subtree_cmp other.subtree f.subtree)))
       (λ other. implied (applies view name other) (so (is_le (subtree_cmp other.subtree f.subtree)))) families
 
   -- it decides, if it is listed, and is an included one
-  abbrev IsWanted : Family → Type 0
+  abbrev IsWanted : ViewTreeFamily → Type 0
   IsWanted f = Applies view name f × (IsGreatest f × IsTrue f.included)
 
   pub decided : OrNot (IsInView families view name)
   decided = like there_is there_was
       (some IsWanted (λ f. both (applies view name f) (both (is_greatest f) (so f.included))) families)
     where
-      there_is : ((f : Family) × Contains families f × IsWanted f) → IsInView families view name
+      there_is : ((f : ViewTreeFamily) × Contains families f × IsWanted f) → IsInView families view name
       there_is (f, listed, wanted) = record {
         family = f;
         decides = record { listed = listed; applies = wanted.0; greatest = wanted.1.0 };
         included = wanted.1.1;
       }
 
-      there_was : IsInView families view name → (f : Family) × Contains families f × IsWanted f
+      there_was : IsInView families view name → (f : ViewTreeFamily) × Contains families f × IsWanted f
       there_was seen = (seen.family, seen.decides.listed, (seen.decides.applies, (seen.decides.greatest, seen.included)))

@@ -1,7 +1,8 @@
 -- The faults of tables.
 use Rattle.std.specs.Prelude.{ℕ, List, codes}
 use Rattle.mon_vacm.specs.declared.fault.PolicyFault.{PolicyFault}
-use Rattle.mon_vacm.specs.declared.fault.PolicyFault.TheVariants.{DuplicateCommunity, UnknownView, DuplicateFamily}
+use Rattle.mon_vacm.specs.declared.fault.PolicyFault.TheVariants.{DuplicateCommunity, UnknownView}
+use Rattle.mon_vacm.specs.declared.fault.PolicyFault.TheVariants.{DuplicateFamily}
 
 -- the number by which a printed line names a fault
 abbrev pub number_of : PolicyFault → ℕ

@@ -2,19 +2,19 @@
 use Rattle.std.specs.Prelude.{◌≡◌, ◌≢◌, ℕ, List, All, Any, AllPairs, IfSome}
 use Rattle.mon_vacm.specs.declared.access_entry.AccessEntry.{AccessEntry}
 use Rattle.mon_vacm.specs.declared.community.Community.{Community}
-use Rattle.mon_vacm.specs.declared.family.Family.{Family}
+use Rattle.mon_vacm.specs.declared.family.ViewTreeFamily.{ViewTreeFamily}
 use Rattle.mon_vacm.specs.declared.group.Group.{Group}
 use Rattle.mon_vacm.specs.declared.tables.Tables.{Tables}
 
 -- the entries of each table, in order
-pub record Lists : Type 0 where
+pub record PolicyTables : Type 0 where
   pub communities : List Community
   pub groups : List Group
   pub accesses : List AccessEntry
-  pub families : List Family
+  pub families : List ViewTreeFamily
 
 -- the tables as lists
-abbrev pub lists_of : Tables → Lists
+abbrev pub lists_of : Tables → PolicyTables
 lists_of t = record {
   communities = t.communities.items;
   groups = t.groups.items;
@@ -27,20 +27,21 @@ abbrev pub AreCommunitiesDistinct : List Community → Type 0
 AreCommunitiesDistinct communities = AllPairs (λ a b. a.name ≢ b.name) communities
 
 -- some family is of the view
-abbrev pub HasView : List Family → List ℕ → Type 0
+abbrev pub HasView : List ViewTreeFamily → List ℕ → Type 0
 HasView families view = Any (λ f. f.view_name ≡ view) families
 
 -- the views that an entry names have families
-pub record NamesViews (families : List Family) (entry : AccessEntry) : Type 0 where
+pub record NamesViews (families : List ViewTreeFamily) (entry : AccessEntry) : Type 0 where
   pub read : IfSome entry.read_view (HasView families)
   pub write : IfSome entry.write_view (HasView families)
 
 -- no view has a subtree twice
-abbrev pub AreFamiliesDistinct : List Family → Type 0
-AreFamiliesDistinct families = AllPairs (λ f g. ¬ ((f.view_name ≡ g.view_name) × (f.subtree ≡ g.subtree))) families
+abbrev pub AreFamiliesDistinct : List ViewTreeFamily → Type 0
+AreFamiliesDistinct families = AllPairs (λ f g. ¬ ((f.view_name ≡ g.view_name)
+    × (f.subtree ≡ g.subtree))) families
 
 -- tables with none of the three faults
-pub record IsPolicy (tables : Lists) : Type 0 where
+pub record IsPolicy (tables : PolicyTables) : Type 0 where
   pub communities : AreCommunitiesDistinct tables.communities
   pub views : All (NamesViews tables.families) tables.accesses
   pub families : AreFamiliesDistinct tables.families

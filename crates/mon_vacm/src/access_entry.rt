@@ -7,7 +7,7 @@ use crate::access::Access;
 use crate::denied::Denied;
 use crate::model::SecurityModel;
 use crate::names::is_named;
-use crate::need::Need;
+use crate::view_type::ViewType;
 use mon_ber::Octets;
 
 /// The views that a group has under a security model (vacmAccessTable, RFC 3415 section 4).
@@ -35,18 +35,19 @@ impl Drop for AccessEntry {
 impl AccessEntry {
     /// Returns `true` if the entry is of this group and model.
     pub(crate) fn is_of(&self, group: &[u8], model: SecurityModel) -> bool
-        ensures { result ≡ (bytes_eq self.now.group_name group.now && is_model self.now.security_model model) }
+        ensures { result ≡ (bytes_eq self.now.group_name group.now
+            && is_model self.now.security_model model) }
     {
         is_named(&self.group_name, group) && self.security_model == model
     }
 
     /// The view that the entry names for a need, or `NoSuchView`.
-    pub(crate) fn view_for(&self, need: Need) -> Result<Access<'_>, Denied>
+    pub(crate) fn view_for(&self, need: ViewType) -> Result<Access<'_>, Denied>
         ensures { granted result ≡ view_for self.now need }
     {
         let view = match need {
-            Need::Read => &self.read_view,
-            Need::Write => &self.write_view,
+            ViewType::Read => &self.read_view,
+            ViewType::Write => &self.write_view,
         };
         match view {
             Some(view) => Ok(Access {

@@ -1,6 +1,7 @@
 use crate::denied::Denied;
 
-/// What a policy says of a community, a need and a name (the results of isAccessAllowed, RFC 3415 section 3.2).
+/// What a policy says of a community, a need and a name (the results of isAccessAllowed, RFC 3415
+/// section 3.2).
 #[derive(Clone, Copy)]
 pub enum Decision {
     /// The community has a view for the need, and the name is in it.

@@ -6,21 +6,22 @@ use mon_ber::Octets;
 use mon_oid::Oid;
 use std::cmp::Ordering;
 
-/// Names that a view includes or excludes: those at or below a subtree, where a mask may let sub-identifiers differ
-/// (vacmViewTreeFamilyTable, RFC 3415 section 4).
-pub struct Family {
+/// Names that a view includes or excludes: those at or below a subtree, where a mask may let
+/// sub-identifiers differ (vacmViewTreeFamilyTable, RFC 3415 section 4).
+pub struct ViewTreeFamily {
     pub view_name: Octets,
     pub subtree: Oid,
-    /// Bit i, counted from the highest of the first octet, is 0 where sub-identifier i may differ; after the end all are 1.
+    /// Bit i, counted from the highest of the first octet, is 0 where sub-identifier i may differ;
+    /// after the end all are 1.
     pub mask: Octets,
     /// `true` if the names are in the view, where this family decides.
     pub included: bool,
 }
 
 // By hand: where one is let go, a proof has one call and not a drop of each field.
-impl Drop for Family {
+impl Drop for ViewTreeFamily {
     fn drop(self) {
-        let Family {
+        let ViewTreeFamily {
             view_name: _,
             subtree: _,
             mask: _,
@@ -29,7 +30,7 @@ impl Drop for Family {
     }
 }
 
-impl Family {
+impl ViewTreeFamily {
     /// Returns `true` if the family is of the view and the name matches it.
     pub(crate) fn applies(&self, view: &[u8], name: &Oid) -> bool
         ensures { IsTrue result ↔ Applies view.now name.now self.now }
@@ -57,14 +58,15 @@ impl Family {
 
     /// Returns `true` if the family is of the view and has the subtree.
     pub(crate) fn is_of(&self, view: &[u8], subtree: &Oid) -> bool
-        ensures { IsTrue result ↔ ((self.now.view_name ≡ view.now) × (self.now.subtree ≡ subtree.now)) }
+        ensures { IsTrue result ↔ ((self.now.view_name ≡ view.now)
+            × (self.now.subtree ≡ subtree.now)) }
     {
         is_named(&self.view_name, view) && self.subtree == *subtree
     }
 
     /// Which of two families decides where both apply: the greater.
     #[tactic(auto, unfolding(crate::specs::View::subtree_cmp))]
-    pub(crate) fn compare(&self, other: &Family) -> Ordering
+    pub(crate) fn compare(&self, other: &ViewTreeFamily) -> Ordering
         ensures { result ≡ subtree_cmp self.now.subtree other.now.subtree }
     {
         let own = self.subtree.parts().len();

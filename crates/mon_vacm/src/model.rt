@@ -1,4 +1,5 @@
-/// The security model that an access entry is for, by its number (SnmpSecurityModel, RFC 3411 section 5).
+/// The security model that an access entry is for, by its number (SnmpSecurityModel, RFC 3411
+/// section 5).
 #[derive(Clone, Copy, Debug, PartialEq, Eq)]
 pub enum SecurityModel {
     /// Every model.

@@ -1,5 +1,5 @@
 ghost use Rattle.std.specs.Prelude.{◌≡◌, ◌↔◌, ◌≢◌, ◌++◌, ◌∷◌, [], List, All, IsTrue, IsOk, IfOk};
-ghost use Rattle.mon_vacm.specs.declared.family.Family.{Family as AnyFamily};
+ghost use Rattle.mon_vacm.specs.declared.family.ViewTreeFamily.{ViewTreeFamily as AnyFamily};
 ghost use Rattle.mon_vacm.specs.Access.{access_of};
 ghost use Rattle.mon_vacm.specs.Borrowed.{granted, view_of};
 ghost use Rattle.mon_vacm.specs.Decision.{IsRight};
@@ -10,17 +10,17 @@ ghost use Rattle.mon_vacm.specs.View.{IsInView, IsBest};
 use crate::access::Access;
 use crate::decision::Decision;
 use crate::denied::Denied;
-use crate::family::Family;
+use crate::family::ViewTreeFamily;
 use crate::fault::PolicyFault;
 use crate::names::is_named;
-use crate::need::Need;
 use crate::runs::runs_of;
 use crate::tables::Tables;
+use crate::view_type::ViewType;
 use mon_oid::Oid;
 use std::marker::Model;
 
-/// Tables that give no community and no subtree of a view twice, and name no view that has no family.
-/// Contracts see the tables as lists.
+/// Tables that give no community and no subtree of a view twice, and name no view that has no
+/// family. Contracts see the tables as lists.
 pub struct Policy {
     tables: Tables,
     /// How many families each run of neighbours of one view has.
@@ -36,18 +36,20 @@ impl Drop for Policy {
 
 impl Model for Policy {
     ghost use Rattle.mon_vacm.specs.Runs.{AreRuns};
-    ghost use Rattle.mon_vacm.specs.Tables.{Lists, IsPolicy, lists_of};
+    ghost use Rattle.mon_vacm.specs.Tables.{PolicyTables, IsPolicy, lists_of};
 
-    ghost Value = { Lists };
+    ghost Value = { PolicyTables };
 
     ghost view = { λ p. lists_of p.tables };
 
-    ghost invariant = { λ p. IsPolicy (lists_of p.tables) × AreRuns p.runs.items p.tables.families.items };
+    ghost invariant = { λ p. IsPolicy (lists_of p.tables) × AreRuns p.runs.items
+        p.tables.families.items };
 }
 
 impl Policy {
-    /// The policy of these tables, or the first of their faults: `DuplicateCommunity` where a community is given twice,
-    /// `UnknownView` where an access entry names a view without a family, `DuplicateFamily` where a view has a subtree twice.
+    /// The policy of these tables, or the first of their faults: `DuplicateCommunity` where a
+    /// community is given twice, `UnknownView` where an access entry names a view without a family,
+    /// `DuplicateFamily` where a view has a subtree twice.
     pub fn new(tables: Tables) -> Result<Self, PolicyFault>
         ensures kept { IfOk result (λ policy. (policy ≡ lists_of tables) × IsPolicy policy) }
         ensures accepted { IsPolicy (lists_of tables) → IsOk result }
@@ -76,9 +78,10 @@ impl Policy {
         Ok(Policy { tables, runs })
     }
 
-    /// The view that a community is granted for a need: by its security name, that name's first group, and the group's first
-    /// access entry with model 2, else with any model (RFC 3415 section 3.2).
-    pub fn access(&self, community: &[u8], need: Need) -> Result<Access<'_>, Denied>
+    /// The view that a community is granted for a need: by its security name, that name's first
+    /// group, and the group's first access entry with model 2, else with any model (RFC 3415
+    /// section 3.2).
+    pub fn access(&self, community: &[u8], need: ViewType) -> Result<Access<'_>, Denied>
         ensures { granted result ≡ access_of self.now community.now need }
     {
         let security = self.tables.security_of(community)?;
@@ -100,7 +103,7 @@ impl Policy {
     }
 
     /// Returns `true` if a community may do what it needs with a name: `access`, and then `sees`.
-    pub fn judge(&self, community: &[u8], need: Need, name: &Oid) -> Decision
+    pub fn judge(&self, community: &[u8], need: ViewType, name: &Oid) -> Decision
         ensures { IsRight self.now community.now need name.now result }
     {
         match self.access(community, need) {
@@ -110,7 +113,8 @@ impl Policy {
     }
 
     fn judge_name(&self, access: Access<'_>, name: &Oid) -> Decision
-        ensures allowed { (result ≡ Decision.Allowed) ↔ IsInView self.now.families (view_of access.entry) name.now }
+        ensures allowed { (result ≡ Decision.Allowed) ↔ IsInView self.now.families
+            (view_of access.entry) name.now }
         ensures others { result ≢ Decision.Allowed → result ≡ Decision.NotInView }
     {
         if self.sees(access, name) {
@@ -123,15 +127,15 @@ impl Policy {
 
 /// The family that decides on a name in a view.
 fn deciding<'a>(
-    families: &'a [Family],
+    families: &'a [ViewTreeFamily],
     runs: &[usize],
     view: &[u8],
     name: &Oid,
-) -> Option<&'a Family>
+) -> Option<&'a ViewTreeFamily>
     requires { AreRuns runs.now families.now }
     ensures { IsBest families.now view.now name.now result }
 {
-    let mut best: Option<&Family> = None;
+    let mut best: Option<&ViewTreeFamily> = None;
     let mut rest = families;
     for run in runs {
         let (own, others) = rest.split_at(*run);
@@ -143,11 +147,11 @@ fn deciding<'a>(
 
 /// The family that decides, when these of one view are looked at too.
 fn strongest_of_view<'a>(
-    best: Option<&'a Family>,
-    own: &'a [Family],
+    best: Option<&'a ViewTreeFamily>,
+    own: &'a [ViewTreeFamily],
     view: &[u8],
     name: &Oid,
-) -> Option<&'a Family>
+) -> Option<&'a ViewTreeFamily>
     requires { AreOfOneView own.now }
     ensures { (families : List AnyFamily) → IsBest families view.now name.now best.entry
         → IsBest (families ++ own.now) view.now name.now result }
@@ -163,11 +167,11 @@ fn strongest_of_view<'a>(
 
 /// The family that decides, when these are looked at too.
 fn strongest<'a>(
-    best: Option<&'a Family>,
-    families: &'a [Family],
+    best: Option<&'a ViewTreeFamily>,
+    families: &'a [ViewTreeFamily],
     view: &[u8],
     name: &Oid,
-) -> Option<&'a Family>
+) -> Option<&'a ViewTreeFamily>
     ensures { (others : List AnyFamily) → IsBest others view.now name.now best.entry
         → IsBest (others ++ families.now) view.now name.now result }
 {
@@ -180,11 +184,11 @@ fn strongest<'a>(
 
 /// The family that decides, when one more is looked at.
 fn stronger<'a>(
-    best: Option<&'a Family>,
-    family: &'a Family,
+    best: Option<&'a ViewTreeFamily>,
+    family: &'a ViewTreeFamily,
     view: &[u8],
     name: &Oid,
-) -> Option<&'a Family>
+) -> Option<&'a ViewTreeFamily>
     ensures { (families : List AnyFamily) → IsBest families view.now name.now best.entry
         → IsBest (families ++ family.now ∷ []) view.now name.now result }
 {

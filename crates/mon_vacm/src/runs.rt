@@ -3,13 +3,13 @@
 ghost use Rattle.std.specs.Prelude.{◌≡◌, ◌<◌, ◌≤◌, length, take};
 ghost use Rattle.mon_vacm.specs.Runs.{AreOfOneView, AreRuns};
 
-use crate::family::Family;
+use crate::family::ViewTreeFamily;
 use crate::names::is_named;
 use std::alloc::Global;
 
-/// How many families each run of neighbours of one view has, from the first on. If memory runs out the
-/// last runs are missing.
-pub(crate) fn runs_of(alloc: Global, families: &[Family]) -> Vec<usize>
+/// How many families each run of neighbours of one view has, from the first on. If memory runs out
+/// the last runs are missing.
+pub(crate) fn runs_of(alloc: Global, families: &[ViewTreeFamily]) -> Vec<usize>
     ensures { AreRuns result.items families.now }
 {
     let mut runs = Vec::new(alloc);
@@ -25,7 +25,7 @@ pub(crate) fn runs_of(alloc: Global, families: &[Family]) -> Vec<usize>
 }
 
 /// How many families, from the first on, are of its view.
-fn run_len(families: &[Family]) -> usize
+fn run_len(families: &[ViewTreeFamily]) -> usize
     requires { 0 < length families.now }
     ensures some { 0 < result }
     ensures within { result ≤ length families.now }

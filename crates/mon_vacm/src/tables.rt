@@ -8,7 +8,7 @@ ghost use Rattle.mon_vacm.specs.Tables.{AreCommunitiesDistinct, AreFamiliesDisti
 use crate::access_entry::AccessEntry;
 use crate::community::Community;
 use crate::denied::Denied;
-use crate::family::Family;
+use crate::family::ViewTreeFamily;
 use crate::group::Group;
 use crate::model::SecurityModel;
 use crate::names::is_named;
@@ -20,7 +20,7 @@ pub struct Tables {
     pub communities: Vec<Community>,
     pub groups: Vec<Group>,
     pub accesses: Vec<AccessEntry>,
-    pub families: Vec<Family>,
+    pub families: Vec<ViewTreeFamily>,
 }
 
 // By hand: where one is let go, a proof has one call and not a drop of each field.
@@ -68,7 +68,8 @@ impl Tables {
     }
 
     fn community(&self, community: &[u8]) -> Option<&Community>
-        ensures { option_copied result ≡ find (λ c. bytes_eq c.name community.now) self.now.communities.items }
+        ensures { option_copied result ≡ find (λ c. bytes_eq c.name community.now)
+            self.now.communities.items }
     {
         self.communities
             .iter()
@@ -76,7 +77,8 @@ impl Tables {
     }
 
     fn group(&self, security: &[u8]) -> Option<&Group>
-        ensures { option_copied result ≡ find (λ g. bytes_eq g.security_name security.now) self.now.groups.items }
+        ensures { option_copied result ≡ find (λ g. bytes_eq g.security_name security.now)
+            self.now.groups.items }
     {
         self.groups
             .iter()
@@ -135,26 +137,27 @@ fn has_community(communities: &[Community], community: &[u8]) -> bool
     communities.iter().any(|c| is_named(&c.name, community))
 }
 
-fn has_family(families: &[Family], view: &[u8], subtree: &Oid) -> bool
-    ensures { IsTrue result ↔ Any (λ f. (f.view_name ≡ view.now) × (f.subtree ≡ subtree.now)) families.now }
+fn has_family(families: &[ViewTreeFamily], view: &[u8], subtree: &Oid) -> bool
+    ensures { IsTrue result ↔ Any (λ f. (f.view_name ≡ view.now) × (f.subtree ≡ subtree.now))
+        families.now }
 {
     families.iter().any(|f| f.is_of(view, subtree))
 }
 
-fn has_view(families: &[Family], view: &[u8]) -> bool
+fn has_view(families: &[ViewTreeFamily], view: &[u8]) -> bool
     ensures { IsTrue result ↔ HasView families.now view.now }
 {
     families.iter().any(|f| is_named(&f.view_name, view))
 }
 
-fn names_views(families: &[Family], entry: &AccessEntry) -> bool
+fn names_views(families: &[ViewTreeFamily], entry: &AccessEntry) -> bool
     ensures { IsTrue result ↔ NamesViews families.now entry.now }
 {
     is_known(families, &entry.read_view) && is_known(families, &entry.write_view)
 }
 
 /// Returns `true` if a view, if there is one, has a family.
-fn is_known(families: &[Family], view: &Option<Octets>) -> bool
+fn is_known(families: &[ViewTreeFamily], view: &Option<Octets>) -> bool
     ensures { IsTrue result ↔ IfSome view.now (HasView families.now) }
 {
     match view {

@@ -1,4 +1,5 @@
--- The client that waits longest, of those that may be closed for a newcomer: found from the first place on.
+-- The client that waits longest, of those that may be closed for a newcomer: found from the first
+-- place on.
 use Rattle.std.proofs.Common.{◌≡◌, ◌≤◌, ℕ, List, Option, Some, None, true, false, length, sym, subst}
 use Rattle.std.specs.Prelude.{slice_get}
 use Rattle.std.specs.List.{AllWithin}

@@ -1,6 +1,7 @@
 -- What a client's turn does: what its stream was asked, what its connection then holds, and what
 -- the turn comes to.
-use Rattle.std.specs.Prelude.{◌≡◌, ◌≢◌, ℕ, zero, suc, Bool, true, false, List, [], ◌∷◌, Result, Ok, Err}
+use Rattle.std.specs.Prelude.{◌≡◌, ◌≢◌, ℕ, zero, suc, Bool, true, false, List, [], ◌∷◌, Result, Ok}
+use Rattle.std.specs.Prelude.{Err}
 use Rattle.std.specs.IoError.{error_kind}
 use Rattle.std.specs.declared.io.Error.{Error}
 use Rattle.std.specs.declared.io.ErrorKind.{ErrorKind}
@@ -44,8 +45,8 @@ after_ending (Ok done) = Begins Closing
 after_ending (Err error) = Ends
 
 -- What follows where the stream took what it was offered. If more is pending, that is sent in a
--- further turn. Else a further request is waited for; or of a connection that closes, the stream was
--- asked to end what it sends.
+-- further turn. Else a further request is waited for; or of a connection that closes, the stream
+-- was asked to end what it sends.
 abbrev pub IsAfterSending : {S : Type 0} → (Ended : End S) → (unsent : List ℕ) → (closing : Bool)
     → (between new : S) → Turn → Type 0
 IsAfterSending Ended (octet ∷ unsent) closing between new turn =

@@ -1,7 +1,8 @@
 -- What is answered on a connection, by what a site shows.
 use Rattle.std.specs.Prelude.{◌≡◌, ◌⊎◌, Bool, true, false}
 use Rattle.mon_http.specs.declared.request.Verdict.{Verdict}
-use Rattle.mon_http.specs.Conversation.{Conversation, Moment as Replies, with_text, len_of, keeps, said}
+use Rattle.mon_http.specs.Conversation.{Conversation, Moment as Replies, with_text, len_of, keeps}
+use Rattle.mon_http.specs.Conversation.{said}
 use Rattle.mon_http.specs.Request.{IsJudged, IsQuiet}
 use Rattle.mon_web.specs.declared.response.Moment.{Moment}
 use Rattle.mon_web.specs.Site.{View, out_of_memory, reply_for}
@@ -18,8 +19,8 @@ poor_replies at = record { date = at.date; reply = λ route. out_of_memory }
 abbrev pub after : Replies → Verdict → Conversation → Conversation
 after replies verdict c = with_text (len_of verdict) (keeps verdict) (said replies verdict) c
 
--- Nothing is answered, and more octets are needed; or what was judged is answered by what the site shows, or
--- that there is no memory for that. These are the steps of mon_http's histories.
+-- Nothing is answered, and more octets are needed; or what was judged is answered by what the site
+-- shows, or that there is no memory for that. These are the steps of mon_http's histories.
 abbrev pub IsResponse : View → Moment → Conversation → Bool → Conversation → Type 0
 IsResponse view at old false new = IsQuiet old.unread × (new ≡ old)
 IsResponse view at old true new = (verdict : Verdict) × IsJudged view.names old.unread verdict

@@ -1,5 +1,6 @@
 -- The places for connections: who is late, and whose place a newcomer gets.
-use Rattle.std.specs.Prelude.{◌≡◌, ℕ, ◌+◌, ◌-◌, ◌≤◌, ◌⊎◌, Bool, true, false, List, Option, Some, None, All, length, slice_get, slice_set, ◌==◌, nat_le, if◌then◌else◌}
+use Rattle.std.specs.Prelude.{◌≡◌, ℕ, ◌+◌, ◌-◌, ◌≤◌, ◌⊎◌, Bool, true, false, List, Option, Some}
+use Rattle.std.specs.Prelude.{None, All, length, slice_get, slice_set, ◌==◌, nat_le, if◌then◌else◌}
 use Rattle.std.specs.List.{list_all, position}
 use Rattle.mon_web.specs.declared.seat.Seat.{Seat}
 use Rattle.mon_web.specs.declared.seat.Stage.{Stage}
@@ -40,14 +41,17 @@ yields Asking now since = is_spent now since
 yields Closing now since = is_spent now since
 yields _ now since = false
 
--- a client may be closed for a newcomer: nothing can be done for it at once, and it is in such a stage
+-- a client may be closed for a newcomer: nothing can be done for it at once, and it is in such a
+-- stage
 abbrev pub may_yield : ℕ → Seat → Bool
 may_yield now seat = if seat.is_ready then false else yields seat.stage now seat.since
 
--- the place is that of a client that waits longest, of those that may be closed for a newcomer; or there is none
+-- the place is that of a client that waits longest, of those that may be closed for a newcomer; or
+-- there is none
 abbrev pub IsOldest : ℕ → List Seat → Option ℕ → Type 0
 IsOldest now seats None = All (λ seat. may_yield now seat ≡ false) seats
-IsOldest now seats (Some place) = (seat : Seat) × (slice_get seats place ≡ Some seat) × (may_yield now seat ≡ true)
+IsOldest now seats (Some place) = (seat : Seat) × (slice_get seats place ≡ Some seat)
+    × (may_yield now seat ≡ true)
     × All (λ other. may_yield now other ≡ true → seat.since ≤ other.since) seats
 
 -- a newcomer gets this place: it is the first that is free; or none is, and it is the oldest's
@@ -119,10 +123,11 @@ NoneLate now seats = All (λ seat. ¬ (IsLate now seat)) seats
 -- there are as many places, and those that are not `gone` are as they were
 pub record KeepsOthers (gone : Seat → Type 0) (old new : List Seat) : Type 0 where
   pub many : length new ≡ length old
-  pub kept : (place : ℕ) (seat : Seat) → slice_get old place ≡ Some seat → ¬ (gone seat) → slice_get new place ≡ Some seat
+  pub kept : (place : ℕ) (seat : Seat) → slice_get old place ≡ Some seat → ¬ (gone seat)
+      → slice_get new place ≡ Some seat
 
--- How long a wait lasts at most, in nanoseconds: 100 milliseconds while a newcomer waits for a place,
--- one second while there are clients, and else as long as it may.
+-- How long a wait lasts at most, in nanoseconds: 100 milliseconds while a newcomer waits for a
+-- place, one second while there are clients, and else as long as it may.
 abbrev pub longest_wait : Bool → List Seat → Option ℕ
 longest_wait has_newcomer seats =
     if has_newcomer then Some 100_000_000

@@ -1,9 +1,13 @@
 -- What a station shows over HTTP, and what it answers to a request.
-use Rattle.std.specs.Prelude.{ℕ, ◌-◌, ◌/◌, Bool, false, IfSome, List, map, string_bytes, Option, Some, None, codes, nat_le, option_map, if◌then◌else◌}
+use Rattle.std.specs.Prelude.{ℕ, ◌-◌, ◌/◌, Bool, false, IfSome, List, map, string_bytes, Option}
+use Rattle.std.specs.Prelude.{Some, None, codes, nat_le, option_map, if◌then◌else◌}
 use Rattle.mon_http.specs.declared.response.Status.TheVariants.{Success, ServiceUnavailable}
-use Rattle.mon_http.specs.declared.response.Media.TheVariants.{Prometheus, OpenMetrics as OpenMetricsText, Json, Html, Plain}
+use Rattle.mon_http.specs.declared.response.Media.TheVariants.{Prometheus}
+use Rattle.mon_http.specs.declared.response.Media.TheVariants.{OpenMetrics as OpenMetricsText, Json}
+use Rattle.mon_http.specs.declared.response.Media.TheVariants.{Html, Plain}
 use Rattle.mon_http.specs.declared.route.Route.{Route}
-use Rattle.mon_http.specs.declared.route.Route.TheVariants.{Metrics, OpenMetrics, Report, Page, Health}
+use Rattle.mon_http.specs.declared.route.Route.TheVariants.{Metrics, OpenMetrics, Report, Page}
+use Rattle.mon_http.specs.declared.route.Route.TheVariants.{Health}
 use Rattle.mon_http.specs.Response.{Reply, healthy_reply, unhealthy_reply}
 use Rattle.mon_http.specs.declared.answer.LastRound.{LastRound}
 use Rattle.mon_web.specs.Texts.{Texts}
@@ -12,8 +16,9 @@ use Rattle.mon_web.specs.declared.content.Text.TheVariants as texts
 use Rattle.mon_web.specs.declared.site.Ended.{Ended}
 use Rattle.mon_web.specs.declared.site.Site.{Site}
 
--- what a site answers by: the names of hosts that it serves, besides localhost and addresses; what its
--- texts say, if it has any; the end of the last round, and how long after it the station is healthy
+-- what a site answers by: the names of hosts that it serves, besides localhost and addresses; what
+-- its texts say, if it has any; the end of the last round, and how long after it the station is
+-- healthy
 pub record View : Type 0 where
   pub names : List (List ℕ)
   pub texts : Option Texts
@@ -52,7 +57,11 @@ last_round now ended = record { number = ended.round; seconds = (now - ended.at)
 
 -- 503, since there is no memory for what was asked for
 abbrev pub out_of_memory : Reply
-out_of_memory = record { status = ServiceUnavailable; media = Plain; body = codes "out of memory\n" }
+out_of_memory = record {
+  status = ServiceUnavailable;
+  media = Plain;
+  body = codes "out of memory\n";
+}
 
 -- 200 if rounds end in time, else 503; and which round ended last, if any did
 abbrev pub health_reply : Option Ended → ℕ → ℕ → Reply

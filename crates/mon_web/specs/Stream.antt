@@ -11,7 +11,8 @@ part_of unsent = take 65536 unsent
 abbrev pub read_into : Conversation → List ℕ → List ℕ
 read_into c buffer = take (8192 - length c.unread) buffer
 
--- After the stream took n octets, just these are not pending any more. After an error all still are.
+-- After the stream took n octets, just these are not pending any more. After an error all still
+-- are.
 abbrev pub IsSent : Result ℕ Error → Conversation → Conversation → Type 0
 IsSent (Ok n) old new = (n ≤ length (part_of old.unsent)) × (new ≡ with_sent n old)
 IsSent (Err error) old new = new ≡ old

@@ -136,8 +136,8 @@ impl<C: Content> Table<C> {
         }
     }
 
-    /// Does one thing for one client, or lets a newcomer in. Returns `false` if there was nothing to
-    /// do.
+    /// Does one thing for one client, or lets a newcomer in. Returns `false` if there was nothing
+    /// to do.
     pub(crate) fn turn(&mut self, registry: &Registry, at: Moment) -> bool
         ensures { view_of C.says self.new.site ≡ view_of C.says self.old.site }
     {
@@ -151,7 +151,8 @@ impl<C: Content> Table<C> {
         false
     }
 
-    /// Does one thing for the client of a place, or at the door. Returns `false` if nothing was done.
+    /// Does one thing for the client of a place, or at the door. Returns `false` if nothing was
+    /// done.
     fn give_turn(&mut self, registry: &Registry, place: usize, at: Moment) -> bool
         ensures site { view_of C.says self.new.site ≡ view_of C.says self.old.site }
         ensures door { place ≡ 32
@@ -277,7 +278,8 @@ impl<C: Content> Table<C> {
     /// Returns how long a wait may last until it is looked again who is late or gives place to a
     /// newcomer.
     pub(crate) fn longest_wait(&self) -> Option<Duration>
-        ensures { option_map as_nanos result ≡ longest_wait self.now.has_newcomer self.now.seats.items }
+        ensures { option_map as_nanos result ≡ longest_wait self.now.has_newcomer
+            self.now.seats.items }
     {
         if self.is_ready(DOOR) {
             Some(Duration::from_millis(SPARED_MS))

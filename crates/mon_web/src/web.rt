@@ -51,7 +51,8 @@ impl<C: Content> Web<C> {
         &self.table.site
     }
 
-    /// Replaces what the texts that are shown are built from; by nothing if there was no memory for it.
+    /// Replaces what the texts that are shown are built from; by nothing if there was no memory for
+    /// it.
     pub fn show(&mut self, content: Option<C>)
         ensures { view_of C.says self.new.table.site
             ≡ with_texts (option_map C.says content) (view_of C.says self.old.table.site) }
@@ -88,8 +89,8 @@ impl<C: Content> Web<C> {
             .register(source, Token(OTHER), Interest::READABLE)
     }
 
-    /// Closes who is late; then does one thing for one client, or if there is nothing to do waits for
-    /// what comes, for `left` at most.
+    /// Closes who is late; then does one thing for one client, or if there is nothing to do waits
+    /// for what comes, for `left` at most.
     ///
     /// # Errors
     /// That of the system, if it cannot be waited.

@@ -25,7 +25,7 @@ use std::time::{Duration, Instant};
 const TRIES: u32 = u32::MAX;
 
 /// How many datagrams are received at most before HTTP has a turn.
-const MOST_UNSERVED: u32 = 64;
+const MAX_UNSERVED: u32 = 64;
 
 /// What an attempt to receive came to.
 #[derive(Clone, Copy)]
@@ -55,8 +55,8 @@ pub struct WebReceiver<'a, R: Dates, T: Ticks, S: Looks, W: Serves> {
 }
 
 impl<'a, C: Content, R: Dates + AllocGlobal, T: Ticks> WebReceiver<'a, R, T, PolledSocket, Web<C>> {
-    /// Returns a receiver by this socket, in no wait yet. Waits are reckoned by `ticks`; the times of
-    /// the site are since `origin`.
+    /// Returns a receiver by this socket, in no wait yet. Waits are reckoned by `ticks`; the times
+    /// of the site are since `origin`.
     ///
     /// # Errors
     /// `OutOfMemory` if there is no memory for a datagram, else the system's fault.
@@ -94,7 +94,8 @@ impl<'a, C: Content, R: Dates + AllocGlobal, T: Ticks> WebReceiver<'a, R, T, Pol
 impl<R: Dates, T: Ticks, S: Looks, W: Serves> WebReceiver<'_, R, T, S, W> {
     /// Begins a wait, begins its quiet anew, or goes on with it.
     fn begin(&mut self, wait: Wait) -> io::Result<()>
-        ensures wait { OnOk result (IsTimed (T.told self.old.ticks.now self.old.timer.quiet) wait self.old.timer self.new.timer) }
+        ensures wait { OnOk result (IsTimed (T.told self.old.ticks.now self.old.timer.quiet) wait
+            self.old.timer self.new.timer) }
         ensures by { (self.new.ticks ≡ self.old.ticks) × (self.new.socket ≡ self.old.socket)
             × (self.new.rt ≡ self.old.rt) }
         ensures room { self.new.buffer ≡ self.old.buffer }
@@ -113,7 +114,8 @@ impl<R: Dates, T: Ticks, S: Looks, W: Serves> WebReceiver<'_, R, T, S, W> {
 
     /// Receives something in the rest of the wait.
     fn receive_rest(&mut self) -> Result<Arrival, ReceiverFault>
-        ensures got { IfOk result (IsGot (T.told self.old.ticks.now self.old.timer.quiet) no_silence (S.found self.old.socket.now) self.new.buffer.items self.old.timer) }
+        ensures got { IfOk result (IsGot (T.told self.old.ticks.now self.old.timer.quiet) no_silence
+            (S.found self.old.socket.now) self.new.buffer.items self.old.timer) }
         ensures turns { IfOk result (HadTurns
             (IsTurnIn (T.told self.old.ticks.now self.old.timer.quiet) (R.dated self.old.rt.now)
             W.served self.old.origin self.old.timer)
@@ -138,8 +140,10 @@ impl<R: Dates, T: Ticks, S: Looks, W: Serves> WebReceiver<'_, R, T, S, W> {
 
     /// Receives something in this wait.
     fn receive_in(&mut self, wait: Wait) -> Result<Arrival, ReceiverFault>
-        ensures wait { OnOk result (IsTimed (T.told self.old.ticks.now self.old.timer.quiet) wait self.old.timer self.new.timer) }
-        ensures got { IfOk result (IsGot (T.told self.old.ticks.now self.new.timer.quiet) no_silence (S.found self.old.socket.now) self.new.buffer.items self.new.timer) }
+        ensures wait { OnOk result (IsTimed (T.told self.old.ticks.now self.old.timer.quiet) wait
+            self.old.timer self.new.timer) }
+        ensures got { IfOk result (IsGot (T.told self.old.ticks.now self.new.timer.quiet) no_silence
+            (S.found self.old.socket.now) self.new.buffer.items self.new.timer) }
         ensures turns { IfOk result (HadTurns
             (IsTurnIn (T.told self.old.ticks.now self.new.timer.quiet) (R.dated self.old.rt.now)
             W.served self.old.origin self.new.timer)
@@ -187,7 +191,8 @@ impl<R: Dates, T: Ticks, S: Looks, W: Serves> WebReceiver<'_, R, T, S, W> {
 
     /// Looks for a datagram, if HTTP is not due.
     fn look(&mut self) -> io::Result<Option<(usize, SocketAddr)>>
-        ensures found { IfOk result (λ found. IfSome found (λ r. S.found self.old.socket.now self.new.buffer.items r.0 r.1)) }
+        ensures found { IfOk result (λ found. IfSome found (λ r. S.found self.old.socket.now
+            self.new.buffer.items r.0 r.1)) }
         ensures turns { IfOk result (λ found. IfSome found (λ _.
             (self.old.unserved < 64) × (self.new.unserved ≡ self.old.unserved + 1))) }
         ensures none { IfOk result (λ found. IfNone found (self.new.unserved ≡ self.old.unserved)) }
@@ -200,7 +205,7 @@ impl<R: Dates, T: Ticks, S: Looks, W: Serves> WebReceiver<'_, R, T, S, W> {
         ensures web { self.new.web ≡ self.old.web }
         ensures origin { self.new.origin ≡ self.old.origin }
     {
-        if self.unserved >= MOST_UNSERVED {
+        if self.unserved >= MAX_UNSERVED {
             return Ok(None);
         }
         let found = self.socket.look(self.buffer.as_mut_slice())?;
@@ -222,7 +227,7 @@ impl<R: Dates, T: Ticks, S: Looks, W: Serves> WebReceiver<'_, R, T, S, W> {
         ensures site { W.site self.new.web ≡ W.site self.old.web }
         ensures origin { self.new.origin ≡ self.old.origin }
     {
-        let wait = if self.unserved < MOST_UNSERVED {
+        let wait = if self.unserved < MAX_UNSERVED {
             left
         } else {
             Duration::ZERO
@@ -256,9 +261,11 @@ impl<R: Dates, T: Ticks, S: Looks, W: Serves> Receiver for WebReceiver<'_, R, T,
     fn receive(&mut self, wait: Wait) -> Result<Arrival, ReceiverFault>
         ensures failures { self.new.failures ≡ failed_after result self.old.failures }
         // The wait begins, or is quiet since, the time that the clock tells in this call.
-        ensures wait { OnOk result (IsTimed (T.told self.old.ticks.now self.old.timer.quiet) wait self.old.timer self.new.timer) }
+        ensures wait { OnOk result (IsTimed (T.told self.old.ticks.now self.old.timer.quiet) wait
+            self.old.timer self.new.timer) }
         // A datagram is the system's; there is none only if the wait is over by the clock.
-        ensures got { IfOk result (IsGot (T.told self.old.ticks.now self.new.timer.quiet) no_silence (S.found self.old.socket.now) self.new.buffer.items self.new.timer) }
+        ensures got { IfOk result (IsGot (T.told self.old.ticks.now self.new.timer.quiet) no_silence
+            (S.found self.old.socket.now) self.new.buffer.items self.new.timer) }
         // HTTP has its turns, and one at the latest after each 64 datagrams.
         ensures turns { IfOk result (HadTurns
             (IsTurnIn (T.told self.old.ticks.now self.new.timer.quiet) (R.dated self.old.rt.now)

@@ -17,7 +17,8 @@ pub trait Serves {
     ghost site: { Self → View };
 
     // It had a turn at this moment, in which it could wait this many nanoseconds: what it was
-    // before, and after. Code that is generic over what serves has this from a call alone, made once.
+    // before, and after. Code that is generic over what serves has this from a call alone, made
+    // once.
     ghost served: { Self → At → ℕ → Self → Type 0 };
 
     /// Does one thing for one client at this moment, or waits for what comes, for `left` at most.

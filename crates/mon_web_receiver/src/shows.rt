@@ -23,7 +23,8 @@ pub trait Shows<C: Content>: Receiver {
             ≡ option_map (with_texts (option_map C.says content)) (shown self.old) }
         ensures failures { Self.failures self.new ≡ Self.failures self.old };
 
-    /// Takes away what it shows, so that its buffers serve again. Until it is shown there is nothing.
+    /// Takes away what it shows, so that its buffers serve again. Until it is shown there is
+    /// nothing.
     fn take_content(&mut self) -> Option<C>
         ensures taken { option_map C.says result
             ≡ option_and_then (λ view. view.texts) (shown self.old) }

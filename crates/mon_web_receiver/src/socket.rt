@@ -48,7 +48,8 @@ pub trait Looks {
     /// # Errors
     /// That of the system.
     fn look(&self, buffer: &mut [u8]) -> io::Result<Option<(usize, SocketAddr)>>
-        ensures found { IfOk result (λ datagram. IfSome datagram (λ r. found self.now buffer.new r.0 r.1)) }
+        ensures found { IfOk result (λ datagram. IfSome datagram
+            (λ r. found self.now buffer.new r.0 r.1)) }
         ensures none { IfOk result (λ datagram. IfNone datagram (was_empty self.now)) }
         ensures length { length buffer.new ≡ length buffer.old };
 }

@@ -1,5 +1,5 @@
--- Where the keys of a boots number are among rising keys, if a greater key is of the same boots number or a
--- later one.
+-- Where the keys of a boots number are among rising keys, if a greater key is of the same boots
+-- number or a later one.
 use Rattle.std.proofs.Common.{◌≡◌, ℕ, zero, suc, ◌+◌, ◌-◌, ◌/◌, ◌^◌, ◌≤◌, ◌<◌, cond, inl, inr, List, [], ◌∷◌, ◌++◌, length, take, drop, get_or, refl, sym, ap, ◌∙◌, subst, arith, true, false, length-append, length-drop}
 use Rattle.std.specs.Prelude.{nat_eq}
 use Rattle.std.specs.declared.cmp.Ordering.{Ordering}
@@ -202,8 +202,8 @@ module _ {K : Type 0} {R : K → K → Ordering} (o : IsTotalOrder R) (same : Is
     | inr ne ↦ mono _ _ (Less-from_sorted R xs i j d s (let other = ne in omega arith) within)
   ]
 
-  -- what comes before it is of its boots number or an earlier one, and what comes after it of its boots number or
-  -- a later one
+  -- what comes before it is of its boots number or an earlier one, and what comes after it of its
+  -- boots number or a later one
   earlier : (k : ℕ) (d : K) → k < at → boots (get_or xs k d) ≤ boots x
   earlier k d before =
       let less = Less-from_sorted R (insert xs at x) k at d (sorted-placed o same x xs at s p) before (omega (arith, length-insert xs at x p.within, at_within)) in

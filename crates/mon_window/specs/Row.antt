@@ -9,4 +9,5 @@ pub record Row : Type 0 where
 
 -- a row as a pair
 abbrev pub row_code : Coded Row
-row_code = code_by (List ℕ × ℕ) (coded× (coded_list coded_ℕ) coded_ℕ) (λ r. (r.items, r.room)) (λ p. record { items = p.0; room = p.1 }) (λ _. refl)
+row_code = code_by (List ℕ × ℕ) (coded× (coded_list coded_ℕ) coded_ℕ) (λ r. (r.items, r.room))
+    (λ p. record { items = p.0; room = p.1 }) (λ _. refl)

@@ -21,8 +21,9 @@ pub enum Plan {
     TooOld,
 }
 
-/// Which of the items leaves as the sample joins them at its place, if one has to: the oldest of its boots number where
-/// `epoch` of that are there, else the oldest of all where `size` are there. At `at` it is the sample itself.
+/// Which of the items leaves as the sample joins them at its place, if one has to: the oldest of
+/// its boots number where `epoch` of that are there, else the oldest of all where `size` are there.
+/// At `at` it is the sample itself.
 pub(crate) fn leaving(
     items: &[Sample],
     size: usize,
@@ -47,8 +48,8 @@ pub(crate) fn leaving(
     if items.len() >= size { Some(0) } else { None }
 }
 
-/// Where the samples of the sample's boots number begin, if `epoch` of them are there. They are searched for only where the
-/// sample's place is not at their end.
+/// Where the samples of the sample's boots number begin, if `epoch` of them are there. They are
+/// searched for only where the sample's place is not at their end.
 fn full_epoch(
     items: &[Sample],
     size: usize,

@@ -6,9 +6,9 @@ use mon_sample::Sample;
 use std::alloc::{AllocError, Global};
 use std::marker::Model;
 
-/// Samples in a row. As the first one leaves, the row begins one further on in its memory; only where
-/// no place is left behind the last one are all moved to the front. Contracts see the samples, and for
-/// how many there is memory.
+/// Samples in a row. As the first one leaves, the row begins one further on in its memory; only
+/// where no place is left behind the last one are all moved to the front. Contracts see the
+/// samples, and for how many there is memory.
 #[derive(Drop)]
 pub(crate) struct Row {
     all: Vec<Sample>,

@@ -20,7 +20,7 @@ use Rattle.mon_exchange.specs.Claim.{IsClaim, claim_octets}
 use Rattle.mon_poller.specs.declared.poller.TimedOut.{TimedOut}
 use Rattle.mon_poller.specs.declared.poller.TimedOut.TheVariants.{Again, GivenUp, NotOpen}
 use Rattle.mon_poller.specs.Verdict.{timeout_verdict}
-use Rattle.mon_core.specs.StationCore.{Core}
+use Rattle.mon_config.specs.StationCore.{Core}
 use Rattle.mon_station.specs.declared.event.Told.{Told}
 use Rattle.mon_station.specs.declared.fault.StationFault.{StationFault}
 use Rattle.mon_station.specs.declared.fault.StationFault.TheVariants as station
@@ -98,7 +98,8 @@ pub finds_running : (lives : List (Entry × State)) (s : State) (outcomes : List
 finds_running lives s outcomes were c (inl as_old) = inl (finds_as lives c as_old.0 as_old.2 (were as_old.0 as_old.1))
 finds_running lives s outcomes were c (inr here) = inr here
 
--- files in which this state is found, also those in which the keeper's last save is, if that is this state
+-- files in which this state is found, also those in which the keeper's last save is, if that is
+-- this state
 pub saved_or_last : (outcomes : List ℕ → Type 0) (last : Option (List ℕ)) (s : State) → Leaves outcomes (FindsState s) → IsSavedAs s last → Leaves (OrLast outcomes last) (FindsState s)
 saved_or_last outcomes last s found is c (inl left) = found c left
 saved_or_last outcomes last s found is c (inr finds) = record { body = subst (λ (b : Option (List ℕ)). FindsBody b c) is.octets finds; spells = is.spells }

@@ -12,7 +12,7 @@ use Rattle.mon_board.specs.Windows.{kept_by}
 use Rattle.mon_exchange.specs.Debts.{Heard, has_said, is_owed, is_owed_at, latest_heard}
 use Rattle.mon_saved.specs.declared.image.Image.{Image}
 use Rattle.mon_saved.specs.Image.{SpellsImage}
-use Rattle.mon_core.specs.StationCore.{Core}
+use Rattle.mon_config.specs.StationCore.{Core}
 use Rattle.mon_station.specs.declared.fault.StationFault.{StationFault}
 use Rattle.mon_station.specs.Lived.{IsLived, entries_of, last_state}
 use Rattle.mon_station.specs.ReadEvent.{ReadEvent}

@@ -15,7 +15,7 @@ use Rattle.mon_exchange.specs.Debts.{Heard}
 use Rattle.mon_exchange.specs.Peers.{IsWatchedAs}
 use Rattle.mon_saved.specs.declared.image.Image.{Image}
 use Rattle.mon_saved.specs.Image.{SpellsImage}
-use Rattle.mon_core.specs.StationCore.{Core}
+use Rattle.mon_config.specs.StationCore.{Core}
 use Rattle.mon_station.specs.Lived.{IsLived, entries_of, last_state}
 use Rattle.mon_station.specs.ReadEvent.{ReadEvent}
 use Rattle.mon_station.specs.declared.event.Event.TheVariants.{StartPoll, Timeout, FromAgent, FromPeer, Share, Save}
@@ -109,7 +109,8 @@ module _ (one_image : (octets : List ℕ) (instances : List Instance) (a b : Ima
   window_was_taken h s lived is i k there =
       kept_within s.board.watch i (taken (entries_of h) i) k (subst (λ a. In k a) (windows_taken h s lived is i) there)
 
-  -- the claims that an accepted event sends: of this station in this incarnation, and it has taken what they say
+  -- the claims that an accepted event sends: of this station in this incarnation, and it has taken
+  -- what they say
   module _ (x : ℕ) (h : List (Entry × State)) (o s : State) (is : last_state h ≡ Some o) where
     abbrev P : ReadEvent → ℕ → ℕ → Type 0
     P e i k = In k (taken (entries_of ((Answered e None, s) ∷ h)) i)

@@ -1,4 +1,5 @@
--- The lives of a station from an honestly kept file: its setting, its incarnations, and what it took.
+-- The lives of a station from an honestly kept file: its setting, its incarnations, and what it
+-- took.
 use Rattle.std.proofs.Common.{ℕ, zero, suc, ◌≡◌, ◌≤◌, ◌+◌, ◌∙◌, List, [], ◌∷◌, Option, Some, None, refl, sym, ap, subst, arith}
 use Rattle.mon_window.specs.Window.{In}
 use Rattle.mon_window.proofs.Promised.{in_left}
@@ -117,7 +118,8 @@ module _ (one_image : (octets : List ℕ) (instances : List Instance) (a b : Ima
       at (Some old) of_life r = raised w old s r ∙ ap (λ n. n + 1) of_life
 
   -- ---- what a claim says of its sender
-  -- the sender is in the claim's incarnation or past it, and while it is in it, it has taken what the claim says
+  -- the sender is in the claim's incarnation or past it, and while it is in it, it has taken what
+  -- the claim says
   pub record IsTrue (h : List (Entry × State)) (d : Heard) : Type 0 where
     pub state : State
     pub is : last_state h ≡ Some state

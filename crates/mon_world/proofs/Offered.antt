@@ -1,4 +1,5 @@
--- Every sample that a station took, or a claim says, was offered by an agent, unless claims were forged.
+-- Every sample that a station took, or a claim says, was offered by an agent, unless claims were
+-- forged.
 use Rattle.std.proofs.Common.{ℕ, zero, suc, ◌≡◌, ◌∙◌, inl, inr, Bool, true, false, List, [], ◌∷◌, Option, Some, None, Ok, Err, refl, sym, ap, subst}
 use Rattle.std.specs.Prelude.{◌==◌, if◌then◌else◌}
 use Rattle.std.specs.FinSet as set
@@ -16,7 +17,7 @@ use Rattle.mon_exchange.specs.declared.claim.Claim.{Claim}
 use Rattle.mon_exchange.specs.Peers.{IsWatchedAs}
 use Rattle.mon_saved.specs.declared.image.Image.{Image}
 use Rattle.mon_saved.specs.Image.{SpellsImage}
-use Rattle.mon_core.specs.StationCore.{Core}
+use Rattle.mon_config.specs.StationCore.{Core}
 use Rattle.mon_station.specs.declared.fault.StationFault.{StationFault}
 use Rattle.mon_station.specs.Lived.{IsLived, entries_of, last_state}
 use Rattle.mon_station.specs.ReadEvent.{ReadEvent}

@@ -80,7 +80,8 @@ shared_from s (Some slot) =
 
 -- ---- claims
 module _ (watch : Watch) (are : IsWatch watch) (P : ℕ → ℕ → Type 0) (own incarnation : ℕ) where
-  -- the claim is of this station in this incarnation, and P holds of each of its samples, by the number of its instance
+  -- the claim is of this station in this incarnation, and P holds of each of its samples, by the
+  -- number of its instance
   pub record Claims (c : Claim) : Type 0 where
     pub station : c.station ≡ own
     pub incarnation_is : c.incarnation ≡ incarnation

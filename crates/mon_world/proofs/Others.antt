@@ -5,7 +5,7 @@ use Rattle.std.proofs.Math.ListN.{get_or-append}
 use Rattle.std.proofs.Math.Seq.{get_or-append_seam}
 use Rattle.std.proofs.lemmas.Bool.{cases_Bool, cases_lt, eq-eqb, eqb-true, ne_eqb}
 use Rattle.std.proofs.lemmas.List.Quantifiers.{position-Some}
-use Rattle.mon_core.specs.StationCore.{ArePeersOf}
+use Rattle.mon_config.specs.StationCore.{ArePeersOf}
 use Rattle.mon_station.specs.Verdict.{slot_of}
 use Rattle.mon_world.specs.Places.{IsNumberTo, others_to}
 

@@ -4,7 +4,7 @@ use Rattle.std.specs.Prelude.{IfErr, IfOk, OnErr, OnOk}
 use Rattle.std.proofs.lemmas.List.{length-map}
 use Rattle.mon_disk.specs.declared.disk.Disk.{Ghosts}
 use Rattle.mon_disk.specs.declared.memory.MemoryDisk.{MemoryDisk}
-use Rattle.mon_core.specs.StationCore.{Core}
+use Rattle.mon_config.specs.StationCore.{Core}
 use Rattle.mon_station.specs.declared.station.Station.{Station}
 use Rattle.mon_station.specs.Verdict.{Setting}
 use Rattle.mon_world.specs.declared.fault.WorldFault.{WorldFault}

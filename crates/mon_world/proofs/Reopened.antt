@@ -15,7 +15,7 @@ use Rattle.mon_disk.specs.Keeper.{found_body}
 use Rattle.mon_disk.specs.Kept.{device_of}
 use Rattle.mon_disk.specs.Memory.{memory_first, memory_leaves, memory_octets}
 use Rattle.mon_disk.specs.Outcomes.{seen_left}
-use Rattle.mon_core.specs.StationCore.{Core}
+use Rattle.mon_config.specs.StationCore.{Core}
 use Rattle.mon_station.specs.declared.fault.StationFault.{StationFault}
 use Rattle.mon_station.specs.declared.fault.StationFault.TheVariants as station
 use Rattle.mon_station.specs.declared.station.Station.{Station}

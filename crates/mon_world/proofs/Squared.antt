@@ -16,7 +16,7 @@ use Rattle.mon_exchange.specs.Debts.{Heard, TellsDebts, WereTaken, is_owed}
 use Rattle.mon_exchange.specs.Peers.{is_claimed, latest, marked_by, noted_as}
 use Rattle.mon_saved.specs.declared.image.Image.{Image}
 use Rattle.mon_saved.specs.Image.{SpellsImage}
-use Rattle.mon_core.specs.StationCore.{Core}
+use Rattle.mon_config.specs.StationCore.{Core}
 use Rattle.mon_station.specs.Lived.{IsLived, entries_of, last_state}
 use Rattle.mon_station.specs.State.{State, known_of, owed_count, owed_to, setting_of}
 use Rattle.mon_station.specs.Taken.{Entry, taken}

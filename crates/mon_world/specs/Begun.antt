@@ -7,8 +7,9 @@ use Rattle.mon_station.specs.State.{State}
 use Rattle.mon_station.specs.Taken.{Entry, Restart, Answered, at_place}
 use Rattle.mon_world.specs.Moves.{MayFind}
 
--- A life goes on after these lives: it has the windows of a save that an opening may find, the last one that was answered without a fault or one after it that
--- was stopped or met the disk's fault, and the incarnation after that of every life before.
+-- A life goes on after these lives: it has the windows of a save that an opening may find, the last
+-- one that was answered without a fault or one after it that was stopped or met the disk's fault,
+-- and the incarnation after that of every life before.
 pub record GoesOn (lives : List (Entry × State)) (s : State) : Type 0 where
   pub later : ℕ
   pub save : State

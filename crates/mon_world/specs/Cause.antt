@@ -25,8 +25,10 @@ use Rattle.mon_world.specs.Shows.{FindsStopped, state_in}
 -- why a save was refused that made this disk of that one: the disk failed, and counted it, or the
 -- greatest generation was found
 abbrev pub IsFaultOfSave : (old new : MemoryDisk) → StationFault → Type 0
-IsFaultOfSave old new (station.Keeper keeper.DiskFault) = (memory_failures old < memory_failures new) ⊎ (memory_failures old ≡ 2 ^ 64 - 1)
-IsFaultOfSave old new (station.Keeper keeper.NoMoreGenerations) = found_generation (found SLOT_SIZE (memory_octets old)) ≡ 2 ^ 64 - 1
+IsFaultOfSave old new (station.Keeper keeper.DiskFault) = (memory_failures old
+    < memory_failures new) ⊎ (memory_failures old ≡ 2 ^ 64 - 1)
+IsFaultOfSave old new (station.Keeper keeper.NoMoreGenerations) = found_generation
+    (found SLOT_SIZE (memory_octets old)) ≡ 2 ^ 64 - 1
 IsFaultOfSave old new f = ⊥
 
 -- why an opening of this file was refused, where no disk fails
@@ -39,7 +41,8 @@ IsFaultOfCopy watch file f = IsFaultOfFile watch file f
 abbrev pub IsFaultOfBeginning : List ℕ → StationFault → Type 0
 IsFaultOfBeginning file station.OutOfMemory = Unit {0}
 IsFaultOfBeginning file (station.Keeper keeper.Damaged) = is_undamaged file ≡ false
-IsFaultOfBeginning file (station.Keeper keeper.NoMoreGenerations) = found_generation (found SLOT_SIZE file) ≡ 2 ^ 64 - 1
+IsFaultOfBeginning file (station.Keeper keeper.NoMoreGenerations) = found_generation
+    (found SLOT_SIZE file) ≡ 2 ^ 64 - 1
 IsFaultOfBeginning file f = ⊥
 
 -- why an opening of this file was refused, as the world's fault
@@ -61,20 +64,26 @@ module _ {G : Ghosts MemoryDisk} where
   -- if the station of this number refused a save, it was for its disk
   abbrev pub IsSaveReason : ℕ → (old new : List (Station MemoryDisk G)) → WorldFault → Type 0
   IsSaveReason s old new =
-      IsForReason (λ f. (one other : Station MemoryDisk G) × HasNumber old s one × HasNumber new s other × IsFaultOfSave (disk_of one) (disk_of other) f)
+      IsForReason (λ f. (one other : Station MemoryDisk G) × HasNumber old s one
+      × HasNumber new s other × IsFaultOfSave (disk_of one) (disk_of other) f)
 
   -- if it was not restarted, it was for its file
   abbrev pub IsRestartReason : ℕ → Watch → List (Station MemoryDisk G) → WorldFault → Type 0
-  IsRestartReason s watch old = IsForReason (λ f. (one : Station MemoryDisk G) × HasNumber old s one × IsFaultOfCopy watch (memory_octets (disk_of one)) f)
+  IsRestartReason s watch old = IsForReason (λ f. (one : Station MemoryDisk G) × HasNumber old s one
+      × IsFaultOfCopy watch (memory_octets (disk_of one)) f)
 
-  -- if it was not stopped within a save, its file could not be saved, or what the stop left of it not
-  -- be opened
-  abbrev pub IsStopReason : (s calls : ℕ) (keep : Bool) → Watch → List (Station MemoryDisk G) → WorldFault → Type 0
-  IsStopReason s calls keep watch old = IsForReason (λ f. (one : Station MemoryDisk G) × HasNumber old s one × (IsFaultOfBeginning (memory_octets (disk_of one)) f
-      ⊎ ((left : List ℕ) × FindsStopped (nat_lt calls (calls_of_save keep)) (state_in one) (memory_octets (disk_of one)) left × IsFaultOfCopy watch left f)))
+  -- if it was not stopped within a save, its file could not be saved, or what the stop left of it
+  -- not be opened
+  abbrev pub IsStopReason : (s calls : ℕ) (keep : Bool) → Watch → List (Station MemoryDisk G)
+      → WorldFault → Type 0
+  IsStopReason s calls keep watch old = IsForReason (λ f. (one : Station MemoryDisk G)
+      × HasNumber old s one × (IsFaultOfBeginning (memory_octets (disk_of one)) f
+      ⊎ ((left : List ℕ) × FindsStopped (nat_lt calls (calls_of_save keep)) (state_in one)
+      (memory_octets (disk_of one)) left × IsFaultOfCopy watch left f)))
 
   -- the reason of a step's refusal in the file of its station; other events say theirs in the moves
-  abbrev pub IsFileReason : Watch → (old new : List (Station MemoryDisk G)) → Step → WorldFault → Type 0
+  abbrev pub IsFileReason : Watch → (old new : List (Station MemoryDisk G)) → Step → WorldFault
+      → Type 0
   IsFileReason watch old new (step.Save s) f = IsSaveReason s old new f
   IsFileReason watch old new (step.Restart s) f = IsRestartReason s watch old f
   IsFileReason watch old new (step.Stop s calls keep) f = IsStopReason s calls keep watch old f

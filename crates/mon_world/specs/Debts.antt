@@ -17,7 +17,12 @@ use Rattle.mon_world.specs.Moves.{Move, lives_of}
 -- what a claim of the instance of this number says
 abbrev pub heard_of_claim : Claim → Option ℕ → List Heard
 heard_of_claim c None = []
-heard_of_claim c (Some i) = record { station = c.station; incarnation = c.incarnation; instance = i; samples = c.samples } ∷ []
+heard_of_claim c (Some i) = record {
+  station = c.station;
+  incarnation = c.incarnation;
+  instance = i;
+  samples = c.samples;
+} ∷ []
 
 -- what is received by an event with this answer: an accepted claim
 abbrev pub heard_by : ReadEvent → Option StationFault → List Heard
@@ -37,10 +42,12 @@ owed_by s lives y i = set.retain (window_of s.board i) (λ k. is_owed y (heard_i
 
 -- what an accepted response of an agent offered
 abbrev pub agent_offers : Past → Entry → List (ℕ × ℕ)
-agent_offers p (Answered (FromAgent from read) answer) = added p.setting p.polls (FromAgent from read) answer
+agent_offers p (Answered (FromAgent from read) answer) = added p.setting p.polls
+    (FromAgent from read) answer
 agent_offers p entry = []
 
 -- all that accepted responses of agents offered, at any station and in any life of it
 abbrev pub offered_in : List Move → List (ℕ × ℕ)
 offered_in [] = []
-offered_in (m ∷ moves) = agent_offers (past_of (entries_of (lives_of m.station moves))) m.entry ++ offered_in moves
+offered_in (m ∷ moves) = agent_offers (past_of (entries_of (lives_of m.station moves))) m.entry
+    ++ offered_in moves

@@ -6,7 +6,9 @@ use Rattle.mon_station.specs.declared.fault.StationFault.{StationFault}
 use Rattle.mon_station.specs.declared.fault.StationFault.TheVariants as station
 use Rattle.mon_station.specs.Fault as stations
 use Rattle.mon_world.specs.declared.fault.WorldFault.{WorldFault}
-use Rattle.mon_world.specs.declared.fault.WorldFault.TheVariants.{OutOfMemory, NoSuchStation, NoSuchDatagram, Refused, BadCount, BadStop}
+use Rattle.mon_world.specs.declared.fault.WorldFault.TheVariants.{OutOfMemory, NoSuchStation}
+use Rattle.mon_world.specs.declared.fault.WorldFault.TheVariants.{NoSuchDatagram, Refused, BadCount}
+use Rattle.mon_world.specs.declared.fault.WorldFault.TheVariants.{BadStop}
 use Rattle.mon_world.specs.declared.step.Step.{Step}
 use Rattle.mon_world.specs.declared.step.Step.TheVariants as step
 use Rattle.mon_world.specs.Places.{IsNoCount, IsNumberTo, IsNoNumberTo}

@@ -1,5 +1,6 @@
 -- What happened in a world of stations, one move after another, and what they sent each other.
-use Rattle.std.specs.Prelude.{ℕ, zero, suc, ◌≡◌, List, [], ◌∷◌, ◌++◌, ◌==◌, if◌then◌else◌, Option, Some, None, Ok, map, Contains}
+use Rattle.std.specs.Prelude.{ℕ, zero, suc, ◌≡◌, List, [], ◌∷◌, ◌++◌, ◌==◌, if◌then◌else◌, Option}
+use Rattle.std.specs.Prelude.{Some, None, Ok, map, Contains}
 use Rattle.mon_board.specs.Watch.{Watch}
 use Rattle.mon_disk.specs.declared.fault.KeeperFault.TheVariants as keeper
 use Rattle.mon_exchange.specs.declared.claim.Claim.{Claim}
@@ -7,7 +8,8 @@ use Rattle.mon_station.specs.declared.fault.StationFault.{StationFault}
 use Rattle.mon_station.specs.declared.fault.StationFault.TheVariants as fault
 use Rattle.mon_station.specs.Lived.{IsLived, last_state}
 use Rattle.mon_station.specs.ReadEvent.{ReadEvent, IsNumbered}
-use Rattle.mon_station.specs.declared.event.Event.TheVariants.{StartPoll, Timeout, FromAgent, FromPeer, Share, Save}
+use Rattle.mon_station.specs.declared.event.Event.TheVariants.{StartPoll, Timeout, FromAgent}
+use Rattle.mon_station.specs.declared.event.Event.TheVariants.{FromPeer, Share, Save}
 use Rattle.mon_station.specs.State.{State}
 use Rattle.mon_station.specs.Taken.{Entry, Restart, Answered, Origin, Nothing, Saved}
 use Rattle.mon_station.specs.Told.{claims_sent}
@@ -23,7 +25,8 @@ pub record Move : Type 0 where
 -- lists of moves, the newest is first.
 abbrev pub lives_of : ℕ → List Move → List (Entry × State)
 lives_of x [] = []
-lives_of x (m ∷ moves) = if m.station == x then (m.entry, m.after) ∷ lives_of x moves else lives_of x moves
+lives_of x (m ∷ moves) = if m.station == x then (m.entry, m.after) ∷ lives_of x moves
+    else lives_of x moves
 
 -- ---- datagrams between stations
 -- a claim on its way to a station
@@ -90,7 +93,8 @@ AreLives w [] = Unit {0}
 AreLives w ((Restart origin v, s) ∷ past) = (v ≡ w) × MayBegin past origin × AreLives w past
 AreLives w ((Answered e answer, s) ∷ past) = IsNumberedIn w.watch e × AreLives w past
 
--- The moves of a world whose station x is set up with `settings x`: each station lived as stations do.
+-- The moves of a world whose station x is set up with `settings x`: each station lived as stations
+-- do.
 pub record AreMoves (settings : ℕ → Setting) (moves : List Move) : Type 0 where
   pub lived : (x : ℕ) → IsLived (lives_of x moves)
   pub lives : (x : ℕ) → AreLives (settings x) (lives_of x moves)
@@ -98,7 +102,8 @@ pub record AreMoves (settings : ℕ → Setting) (moves : List Move) : Type 0 wh
 -- ---- no forgery
 -- a claim that was accepted had been sent
 abbrev pub WasSent : List Letter → Entry → Type 0
-WasSent letters (Answered (FromPeer (Ok said)) None) = Contains (map (λ l. l.claim) letters) said.claim
+WasSent letters (Answered (FromPeer (Ok said)) None) = Contains (map (λ l. l.claim) letters)
+    said.claim
 WasSent letters entry = Unit {0}
 
 -- every claim that was accepted had been sent

@@ -1,6 +1,7 @@
 -- Numbers of stations, and what each is set up with.
-use Rattle.std.specs.Prelude.{ℕ, zero, suc, ◌≡◌, ◌≤◌, ◌<◌, ◌⊎◌, List, [], ◌∷◌, ◌++◌, ◌==◌, if◌then◌else◌, Some, slice_get}
-use Rattle.mon_core.specs.StationCore.{Core}
+use Rattle.std.specs.Prelude.{ℕ, zero, suc, ◌≡◌, ◌≤◌, ◌<◌, ◌⊎◌, List, [], ◌∷◌, ◌++◌, ◌==◌}
+use Rattle.std.specs.Prelude.{if◌then◌else◌, Some, slice_get}
+use Rattle.mon_config.specs.StationCore.{Core}
 use Rattle.mon_station.specs.Verdict.{Setting}
 
 -- what has this number, counted from 1
@@ -23,7 +24,13 @@ others_to x (suc n) = if suc n == x then others_to x n else others_to x n ++ suc
 
 -- what station x of this many is set up with: all others are its peers
 abbrev pub setting_at : Core → ℕ → ℕ → Setting
-setting_at core count x = record { watch = core.watch; targets = core.targets; own = x; peers = others_to x count }
+setting_at core count x = record {
+  watch = core.watch;
+  targets = core.targets;
+  own = x;
+  peers =
+      others_to x count;
+}
 
 -- a world has 1 to 16 stations
 abbrev pub IsNoCount : ℕ → Type 0

@@ -1,5 +1,6 @@
 -- A world in memory against the moves that led to it.
-use Rattle.std.specs.Prelude.{ℕ, ◌≡◌, ◌+◌, Bool, true, false, List, [], ◌∷◌, Option, Some, None, map, length, slice_set}
+use Rattle.std.specs.Prelude.{ℕ, ◌≡◌, ◌+◌, Bool, true, false, List, [], ◌∷◌, Option, Some, None}
+use Rattle.std.specs.Prelude.{map, length, slice_set}
 use Rattle.std.specs.List.{AllByRecursion}
 use Rattle.mon_board.specs.Board.{window_of}
 use Rattle.mon_board.specs.Windows.{Has}
@@ -11,7 +12,7 @@ use Rattle.mon_disk.specs.declared.disk.Disk.{Ghosts}
 use Rattle.mon_disk.specs.declared.memory.MemoryDisk.{MemoryDisk}
 use Rattle.mon_exchange.specs.Claim.{IsClaim, claim_octets}
 use Rattle.mon_report.specs.Report.{report}
-use Rattle.mon_core.specs.StationCore.{Core}
+use Rattle.mon_config.specs.StationCore.{Core}
 use Rattle.mon_station.specs.declared.station.Station.{Station}
 use Rattle.mon_station.specs.Lived.{entries_of, last_state, saved_states}
 use Rattle.mon_station.specs.declared.fault.StationFault.{StationFault}
@@ -27,7 +28,8 @@ use Rattle.mon_world.specs.Moves.{Move, Letter, AreMoves, MayFind, letters_by, l
 use Rattle.mon_world.specs.Outcome.{answers}
 use Rattle.mon_world.specs.Places.{HasNumber, setting_at}
 
--- stations x and y, in these states, know each other's present incarnation and owe each other nothing
+-- stations x and y, in these states, know each other's present incarnation and owe each other
+-- nothing
 pub record AreSquare (x y : ℕ) (s t : State) : Type 0 where
   pub known : known_of s y ≡ Some t.incarnation
   pub known_back : known_of t x ≡ Some s.incarnation
@@ -54,8 +56,8 @@ pub record FindsOne (lives : List (Entry × State)) (file : List ℕ) : Type 0 w
   pub there : at_place later (saved_states lives) ≡ Some state
   pub finds : FindsState state file
 
--- An opening of this file finds what a stop within a save of this state left of the old file: where that was too early, what an opening of the old file finds,
--- and else this state.
+-- An opening of this file finds what a stop within a save of this state left of the old file: where
+-- that was too early, what an opening of the old file finds, and else this state.
 abbrev pub FindsStopped : (early : Bool) → State → (old file : List ℕ) → Type 0
 FindsStopped true s old file = IsAs file old
 FindsStopped false s old file = FindsState s file
@@ -68,15 +70,19 @@ state_in s = state_of s.life
 abbrev pub disk_leaves : {G : Ghosts MemoryDisk} → Station MemoryDisk G → List ℕ → Type 0
 disk_leaves s = OrLast (memory_leaves (device_of s.keeper)) (last_body s.keeper)
 
--- a station is as these lives left it, and whatever a crash leaves of its disk, an opening finds one of their saves
-pub record Stands {G : Ghosts MemoryDisk} (s : Station MemoryDisk G) (lives : List (Entry × State)) : Type 0 where
+-- a station is as these lives left it, and whatever a crash leaves of its disk, an opening finds
+-- one of their saves
+pub record Stands {G : Ghosts MemoryDisk} (s : Station MemoryDisk G) (lives : List (Entry × State))
+    : Type 0 where
   pub state : last_state lives ≡ Some (state_in s)
   pub disk : Leaves (disk_leaves s) (FindsOne lives)
 
 -- these stations, set up with this core, are what these moves led to
-pub record AreShown {G : Ghosts MemoryDisk} (core : Core) (stations : List (Station MemoryDisk G)) (moves : List Move) : Type 0 where
+pub record AreShown {G : Ghosts MemoryDisk} (core : Core) (stations : List (Station MemoryDisk G))
+    (moves : List Move) : Type 0 where
   pub are : AreMoves (setting_at core (length stations)) moves
-  pub stand : (x : ℕ) (s : Station MemoryDisk G) → HasNumber stations x s → Stands s (lives_of x moves)
+  pub stand : (x : ℕ) (s : Station MemoryDisk G) → HasNumber stations x s
+      → Stands s (lives_of x moves)
 
 -- datagrams are the claims of these letters
 pub record AreSent (datagrams : List Datagram) (letters : List Letter) : Type 0 where
@@ -84,18 +90,23 @@ pub record AreSent (datagrams : List Datagram) (letters : List Letter) : Type 0 
   pub claims : AllByRecursion IsClaim (map (λ l. l.claim) letters)
 
 -- these stations and the datagrams that were sent between them are what these moves led to
-pub record Shows {G : Ghosts MemoryDisk} (core : Core) (stations : List (Station MemoryDisk G)) (sent : List Datagram) (moves : List Move) : Type 0 where
+pub record Shows {G : Ghosts MemoryDisk} (core : Core) (stations : List (Station MemoryDisk G))
+    (sent : List Datagram) (moves : List Move) : Type 0 where
   pub shown : AreShown core stations moves
   pub letters : AreSent sent (sent_in moves)
 
 -- moves lead on to these stations and datagrams, and P holds of the moves
-pub record LeadsTo {G : Ghosts MemoryDisk} (core : Core) (stations : List (Station MemoryDisk G)) (sent : List Datagram) (P : List Move → Type 0) : Type 0 where
+pub record LeadsTo {G : Ghosts MemoryDisk} (core : Core) (stations : List (Station MemoryDisk G))
+    (sent : List Datagram) (P : List Move → Type 0) : Type 0 where
   pub now : List Move
   pub shows : Shows core stations sent now
   pub is : P now
 
--- station x was asked about an event, and this is what it answered, what it is then, and what it sends
-pub record IsStationAsked {G : Ghosts MemoryDisk} (core : Core) (x : ℕ) (event : OwnedEvent) (answer : Option StationFault) (sends : List Datagram) (past : List Move) (stations : List (Station MemoryDisk G)) : Type 0 where
+-- station x was asked about an event, and this is what it answered, what it is then, and what it
+-- sends
+pub record IsStationAsked {G : Ghosts MemoryDisk} (core : Core) (x : ℕ) (event : OwnedEvent)
+    (answer : Option StationFault) (sends : List Datagram) (past : List Move)
+    (stations : List (Station MemoryDisk G)) : Type 0 where
   pub read : ReadEvent
   pub after : State
   pub reads : ReadsAs core.watch event read
@@ -103,42 +114,66 @@ pub record IsStationAsked {G : Ghosts MemoryDisk} (core : Core) (x : ℕ) (event
   pub letters : AreSent sends (letters_by (last_state (lives_of x past)) (Answered read answer))
 
 -- what a step with a fault led to: if memory ran out nothing happened
-abbrev pub IsStationRefused : {G : Ghosts MemoryDisk} → Core → ℕ → OwnedEvent → Option StationFault → List Move → List (Station MemoryDisk G) → Type 0
+abbrev pub IsStationRefused : {G : Ghosts MemoryDisk} → Core → ℕ → OwnedEvent → Option StationFault
+    → List Move → List (Station MemoryDisk G) → Type 0
 IsStationRefused core x event None past stations = AreShown core stations past
-IsStationRefused core x event (Some f) past stations = IsStationAsked core x event (Some f) [] past stations
+IsStationRefused core x event (Some f) past stations = IsStationAsked core x event (Some f) [] past
+    stations
 
 -- station x of this many is in its first life, which will be found
-pub record IsFirst {G : Ghosts MemoryDisk} (core : Core) (count x : ℕ) (s : Station MemoryDisk G) : Type 0 where
+pub record IsFirst {G : Ghosts MemoryDisk} (core : Core) (count x : ℕ) (s : Station MemoryDisk G) :
+    Type 0 where
   pub begun : IsBegun (setting_at core count x) None (state_in s)
   pub kept : Leaves (disk_leaves s) (FindsState (state_in s))
 
 -- each of these stations, of this many, is
 abbrev pub AreFirst : {G : Ghosts MemoryDisk} → Core → ℕ → List (Station MemoryDisk G) → Type 0
-AreFirst {G} core count stations = (x : ℕ) (s : Station MemoryDisk G) → HasNumber stations x s → IsFirst core count x s
+AreFirst {G} core count stations = (x : ℕ) (s : Station MemoryDisk G) → HasNumber stations x s
+    → IsFirst core count x s
 
 -- a station at this place of a world of this many began a life from this body, and will be found
-pub record IsReplaced {G : Ghosts MemoryDisk} (core : Core) (place : ℕ) (body : Option (List ℕ)) (old new : List (Station MemoryDisk G)) : Type 0 where
+pub record IsReplaced {G : Ghosts MemoryDisk} (core : Core) (place : ℕ) (body : Option (List ℕ))
+    (old new : List (Station MemoryDisk G)) : Type 0 where
   pub station : Station MemoryDisk G
   pub is : new ≡ slice_set old place station
   pub begun : IsBegun (setting_at core (length old) (place + 1)) body (state_in station)
   pub kept : Leaves (disk_leaves station) (FindsState (state_in station))
 
--- What stations say of their debts is true after these moves. What x does not owe y, whose present incarnation it knows, y has taken; two stations that know
--- each other's present incarnation and owe each other nothing hold equal windows and print equal reports; and every sample in a window was offered by an agent.
-pub record DebtsAreTrue {G : Ghosts MemoryDisk} (stations : List (Station MemoryDisk G)) (moves : List Move) : Type 0 where
-  pub paid : (x y : ℕ) (s t : Station MemoryDisk G) → HasNumber stations x s → HasNumber stations y t → known_of (state_in s) y ≡ Some (state_in t).incarnation
-      → (i k : ℕ) → In k (window_of (state_in s).board i) → ¬ (In k (owed_by (state_in s) (lives_of x moves) y i)) → In k (taken (entries_of (lives_of y moves)) i)
-  pub equal : (x y : ℕ) (s t : Station MemoryDisk G) → HasNumber stations x s → HasNumber stations y t → AreSquare x y (state_in s) (state_in t) → (i : ℕ) → window_of (state_in s).board i ≡ window_of (state_in t).board i
-  pub reports : (x y : ℕ) (s t : Station MemoryDisk G) → HasNumber stations x s → HasNumber stations y t → AreSquare x y (state_in s) (state_in t)
-      → report (state_in s).board.watch (window_of (state_in s).board) ≡ report (state_in t).board.watch (window_of (state_in t).board)
-  pub offered : (x : ℕ) (s : Station MemoryDisk G) → HasNumber stations x s → (i k : ℕ) → In k (window_of (state_in s).board i) → Has (offered_in moves) i k
+-- What stations say of their debts is true after these moves. What x does not owe y, whose present
+-- incarnation it knows, y has taken; two stations that know each other's present incarnation and
+-- owe each other nothing hold equal windows and print equal reports; and every sample in a window
+-- was offered by an agent.
+pub record DebtsAreTrue {G : Ghosts MemoryDisk} (stations : List (Station MemoryDisk G))
+    (moves : List Move) : Type 0 where
+  pub paid : (x y : ℕ) (s t : Station MemoryDisk G) → HasNumber stations x s
+      → HasNumber stations y t → known_of (state_in s) y ≡ Some (state_in t).incarnation
+      → (i k : ℕ) → In k (window_of (state_in s).board i) → ¬
+      (In k (owed_by (state_in s) (lives_of x moves) y i))
+      → In k (taken (entries_of (lives_of y moves)) i)
+  pub equal : (x y : ℕ) (s t : Station MemoryDisk G) → HasNumber stations x s
+      → HasNumber stations y t → AreSquare x y (state_in s) (state_in t) → (i : ℕ)
+      → window_of (state_in s).board i ≡ window_of (state_in t).board i
+  pub reports : (x y : ℕ) (s t : Station MemoryDisk G) → HasNumber stations x s
+      → HasNumber stations y t → AreSquare x y (state_in s) (state_in t)
+      → report (state_in s).board.watch (window_of (state_in s).board)
+      ≡ report (state_in t).board.watch (window_of (state_in t).board)
+  pub offered : (x : ℕ) (s : Station MemoryDisk G) → HasNumber stations x s → (i k : ℕ)
+      → In k (window_of (state_in s).board i) → Has (offered_in moves) i k
 
--- What the states that these moves left say of their debts is true. What x does not owe y, whose present incarnation it knows, y has taken; two stations that know
--- each other's present incarnation and owe each other nothing hold equal windows and print equal reports; and every sample in a window was offered by an agent.
+-- What the states that these moves left say of their debts is true. What x does not owe y, whose
+-- present incarnation it knows, y has taken; two stations that know each other's present
+-- incarnation and owe each other nothing hold equal windows and print equal reports; and every
+-- sample in a window was offered by an agent.
 pub record StatesOweTruly (moves : List Move) : Type 0 where
-  pub paid : (x y : ℕ) (s t : State) → last_state (lives_of x moves) ≡ Some s → last_state (lives_of y moves) ≡ Some t → known_of s y ≡ Some t.incarnation
-      → (i k : ℕ) → In k (window_of s.board i) → ¬ (In k (owed_by s (lives_of x moves) y i)) → In k (taken (entries_of (lives_of y moves)) i)
-  pub equal : (x y : ℕ) (s t : State) → last_state (lives_of x moves) ≡ Some s → last_state (lives_of y moves) ≡ Some t → AreSquare x y s t → (i : ℕ) → window_of s.board i ≡ window_of t.board i
-  pub reports : (x y : ℕ) (s t : State) → last_state (lives_of x moves) ≡ Some s → last_state (lives_of y moves) ≡ Some t → AreSquare x y s t
+  pub paid : (x y : ℕ) (s t : State) → last_state (lives_of x moves) ≡ Some s
+      → last_state (lives_of y moves) ≡ Some t → known_of s y ≡ Some t.incarnation
+      → (i k : ℕ) → In k (window_of s.board i) → ¬ (In k (owed_by s (lives_of x moves) y i))
+      → In k (taken (entries_of (lives_of y moves)) i)
+  pub equal : (x y : ℕ) (s t : State) → last_state (lives_of x moves) ≡ Some s
+      → last_state (lives_of y moves) ≡ Some t → AreSquare x y s t → (i : ℕ)
+      → window_of s.board i ≡ window_of t.board i
+  pub reports : (x y : ℕ) (s t : State) → last_state (lives_of x moves) ≡ Some s
+      → last_state (lives_of y moves) ≡ Some t → AreSquare x y s t
       → report s.board.watch (window_of s.board) ≡ report t.board.watch (window_of t.board)
-  pub offered : (x : ℕ) (s : State) → last_state (lives_of x moves) ≡ Some s → (i k : ℕ) → In k (window_of s.board i) → Has (offered_in moves) i k
+  pub offered : (x : ℕ) (s : State) → last_state (lives_of x moves) ≡ Some s → (i k : ℕ)
+      → In k (window_of s.board i) → Has (offered_in moves) i k

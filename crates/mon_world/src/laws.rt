@@ -7,7 +7,7 @@ ghost use Rattle.mon_board.specs.Watch.{IsWatch};
 ghost use Rattle.mon_board.specs.Windows.{Has};
 ghost use Rattle.mon_exchange.specs.Claim.{IsClaim};
 ghost use Rattle.mon_report.specs.Report.{report};
-ghost use Rattle.mon_core.specs.StationCore.{Core};
+ghost use Rattle.mon_config.specs.StationCore.{Core};
 ghost use Rattle.mon_station.specs.Lived.{entries_of, last_state};
 ghost use Rattle.mon_station.specs.State.{State, known_of, owed_count, owed_to, setting_of};
 ghost use Rattle.mon_station.specs.Taken as lives;
@@ -22,23 +22,39 @@ ghost use Rattle.mon_world.specs.Moves.{AreMoves, AreUnforged, Move, lives_of, s
 ghost use Rattle.mon_world.specs.Outcome.{AreStepOutcomes, IsUnforged, first_lives};
 ghost use Rattle.mon_world.specs.Places.{setting_at};
 
-/// Over all moves of a world in which no claim was forged, restarts and stops among them: what a station does not owe a peer whose
-/// present incarnation it knows, the peer has taken. Two stations that know each other's present incarnation and owe each other nothing
-/// hold equal windows and print equal reports. Every sample in a window was offered by an agent.
+/// Over all moves of a world in which no claim was forged, restarts and stops among them: what a
+/// station does not owe a peer whose present incarnation it knows, the peer has taken. Two stations
+/// that know each other's present incarnation and owe each other nothing hold equal windows and
+/// print equal reports. Every sample in a window was offered by an agent.
 pub fn debts()
-    ensures owed { (core : Core) (count x y slot : ℕ) (moves : List Move) (s : State) → IsWatch core.watch → AreMoves (setting_at core count) moves → last_state (lives_of x moves) ≡ Some s
-        → slot_of (setting_of s).peers y ≡ Some slot → (i : ℕ) → owed_to s slot i ≡ owed_by s (lives_of x moves) y i }
-    ensures paid { (core : Core) (count x y : ℕ) (moves : List Move) (s t : State) → IsWatch core.watch → AreMoves (setting_at core count) moves → AreUnforged moves
-        → last_state (lives_of x moves) ≡ Some s → last_state (lives_of y moves) ≡ Some t → known_of s y ≡ Some t.incarnation
-        → (i k : ℕ) → In k (window_of s.board i) → ¬ (In k (owed_by s (lives_of x moves) y i)) → In k (lives.taken (entries_of (lives_of y moves)) i) }
-    ensures equal { (core : Core) (count x y : ℕ) (moves : List Move) (s t : State) → IsWatch core.watch → AreMoves (setting_at core count) moves → AreUnforged moves
-        → last_state (lives_of x moves) ≡ Some s → last_state (lives_of y moves) ≡ Some t → known_of s y ≡ Some t.incarnation → known_of t x ≡ Some s.incarnation
-        → owed_count s (slot_of (setting_of s).peers y) ≡ 0 → owed_count t (slot_of (setting_of t).peers x) ≡ 0 → (i : ℕ) → window_of s.board i ≡ window_of t.board i }
-    ensures reports { (core : Core) (count x y : ℕ) (moves : List Move) (s t : State) → IsWatch core.watch → AreMoves (setting_at core count) moves → AreUnforged moves
-        → last_state (lives_of x moves) ≡ Some s → last_state (lives_of y moves) ≡ Some t → known_of s y ≡ Some t.incarnation → known_of t x ≡ Some s.incarnation
-        → owed_count s (slot_of (setting_of s).peers y) ≡ 0 → owed_count t (slot_of (setting_of t).peers x) ≡ 0
+    ensures owed { (core : Core) (count x y slot : ℕ) (moves : List Move) (s : State)
+        → IsWatch core.watch → AreMoves (setting_at core count) moves
+        → last_state (lives_of x moves) ≡ Some s
+        → slot_of (setting_of s).peers y ≡ Some slot → (i : ℕ)
+        → owed_to s slot i ≡ owed_by s (lives_of x moves) y i }
+    ensures paid { (core : Core) (count x y : ℕ) (moves : List Move) (s t : State)
+        → IsWatch core.watch → AreMoves (setting_at core count) moves → AreUnforged moves
+        → last_state (lives_of x moves) ≡ Some s → last_state (lives_of y moves) ≡ Some t
+        → known_of s y ≡ Some t.incarnation
+        → (i k : ℕ) → In k (window_of s.board i) → ¬ (In k (owed_by s (lives_of x moves) y i))
+        → In k (lives.taken (entries_of (lives_of y moves)) i) }
+    ensures equal { (core : Core) (count x y : ℕ) (moves : List Move) (s t : State)
+        → IsWatch core.watch → AreMoves (setting_at core count) moves → AreUnforged moves
+        → last_state (lives_of x moves) ≡ Some s → last_state (lives_of y moves) ≡ Some t
+        → known_of s y ≡ Some t.incarnation → known_of t x ≡ Some s.incarnation
+        → owed_count s (slot_of (setting_of s).peers y) ≡ 0 → owed_count t
+        (slot_of (setting_of t).peers x) ≡ 0 → (i : ℕ) → window_of s.board i
+        ≡ window_of t.board i }
+    ensures reports { (core : Core) (count x y : ℕ) (moves : List Move) (s t : State)
+        → IsWatch core.watch → AreMoves (setting_at core count) moves → AreUnforged moves
+        → last_state (lives_of x moves) ≡ Some s → last_state (lives_of y moves) ≡ Some t
+        → known_of s y ≡ Some t.incarnation → known_of t x ≡ Some s.incarnation
+        → owed_count s (slot_of (setting_of s).peers y) ≡ 0 → owed_count t
+        (slot_of (setting_of t).peers x) ≡ 0
         → report s.board.watch (window_of s.board) ≡ report t.board.watch (window_of t.board) }
-    ensures offered { (core : Core) (count x : ℕ) (moves : List Move) (s : State) → IsWatch core.watch → AreMoves (setting_at core count) moves → AreUnforged moves → last_state (lives_of x moves) ≡ Some s
+    ensures offered { (core : Core) (count x : ℕ) (moves : List Move) (s : State)
+        → IsWatch core.watch → AreMoves (setting_at core count) moves → AreUnforged moves
+        → last_state (lives_of x moves) ≡ Some s
         → (i k : ℕ) → In k (window_of s.board i) → Has (offered_in moves) i k }
 {
     mon_station::laws::taken();
@@ -51,21 +67,29 @@ pub fn debts()
     mon_saved::laws::one_image();
 }
 
-/// Where no step forges a claim, every claim that was accepted had been sent: of the first lives of stations, and over steps with their
-/// results, if what was sent are claims, as of every world.
+/// Where no step forges a claim, every claim that was accepted had been sent: of the first lives of
+/// stations, and over steps with their results, if what was sent are claims, as of every world.
 pub fn unforged()
-    ensures first { (settings : ℕ → Setting) (x : ℕ) (states : List State) → AreUnforged (first_lives settings x states) }
-    ensures steps { (settings : ℕ → Setting) (count : ℕ) (steps : List Step) (results : List (Result Sent WorldFault)) (past now : List Move) → AllByRecursion IsUnforged steps
-        → AllByRecursion IsClaim (map (λ l. l.claim) (sent_in now)) → AreStepOutcomes settings count steps results past now → AreUnforged past → AreUnforged now }
+    ensures first { (settings : ℕ → Setting) (x : ℕ) (states : List State)
+        → AreUnforged (first_lives settings x states) }
+    ensures steps { (settings : ℕ → Setting) (count : ℕ) (steps : List Step)
+        (results : List (Result Sent WorldFault)) (past now : List Move)
+        → AllByRecursion IsUnforged steps
+        → AllByRecursion IsClaim (map (λ l. l.claim) (sent_in now))
+        → AreStepOutcomes settings count steps results past now → AreUnforged past
+        → AreUnforged now }
 {
     mon_exchange::laws::one_spelling();
 }
 
-/// Over all moves of a world, stops within a save among them: a station's first life begins with empty windows and incarnation 1. Each
-/// other has the windows of the last save that was answered without a fault, or of one after it that was stopped or met the disk's fault;
-/// an opening's own save is one of these. Its incarnation is the one after that of the life before, so greater than each earlier one.
+/// Over all moves of a world, stops within a save among them: a station's first life begins with
+/// empty windows and incarnation 1. Each other has the windows of the last save that was answered
+/// without a fault, or of one after it that was stopped or met the disk's fault; an opening's own
+/// save is one of these. Its incarnation is the one after that of the life before, so greater than
+/// each earlier one.
 pub fn begun()
-    ensures { (core : Core) (count x : ℕ) (moves : List Move) → AreMoves (setting_at core count) moves → AreBegun (lives_of x moves) }
+    ensures { (core : Core) (count x : ℕ) (moves : List Move)
+        → AreMoves (setting_at core count) moves → AreBegun (lives_of x moves) }
 {
     mon_saved::laws::one_image();
     mon_saved::laws::read_back();

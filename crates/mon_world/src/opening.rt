@@ -9,7 +9,7 @@ ghost use Rattle.mon_world.specs.Places.{setting_at};
 ghost use Rattle.mon_world.specs.Shows.{AreFirst, IsFirst};
 
 use crate::fault::WorldFault;
-use mon_core::Core;
+use mon_config::Core;
 use mon_disk::{KeeperFault, MemoryDisk};
 use mon_station::{Station, StationFault};
 use std::alloc::{AllocError, Global};
@@ -87,7 +87,8 @@ pub(crate) fn core_at(
 
 /// Appends a number that is not this one.
 fn push_other(peers: &mut Vec<u32>, number: u32, peer: u32) -> Result<(), AllocError>
-    ensures { OnOk result (peers.new.items ≡ (if peer == number then peers.old.items else peers.old.items ++ peer ∷ [])) }
+    ensures { OnOk result (peers.new.items ≡ (if peer == number then peers.old.items
+        else peers.old.items ++ peer ∷ [])) }
 {
     if peer != number {
         peers.push(peer)?;

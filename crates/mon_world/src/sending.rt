@@ -15,7 +15,8 @@ pub struct Datagram {
     pub octets: Octets,
 }
 
-/// The numbers of the datagrams that a step sent between stations. The number after the last one is below 2^64 too.
+/// The numbers of the datagrams that a step sent between stations. The number after the last one is
+/// below 2^64 too.
 #[derive(Clone, Copy, Debug, PartialEq, Eq)]
 pub struct Sent {
     /// The number of the first; where none was sent, the next one's.

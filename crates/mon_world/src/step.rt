@@ -1,6 +1,7 @@
 //! The steps of a world.
 
-/// What happens in a world. Stations and targets count from 1, and so do the datagrams between stations.
+/// What happens in a world. Stations and targets count from 1, and so do the datagrams between
+/// stations.
 #[derive(Clone, Copy)]
 pub enum Step<'a> {
     /// A station starts a poll of a target.

@@ -28,8 +28,10 @@ pub(crate) fn stop_at(
     keep: bool,
 ) -> Result<MemoryDisk, StationFault>
     requires { calls ≤ 6 }
-    // An opening finds the save that was stopped, or, where that was too early, what an opening of the station's disk finds.
-    ensures found { IfOk result (λ left. FindsStopped (nat_lt calls (calls_of_save keep)) (state_in station.now) (memory_octets (device_of station.now.keeper)) (memory_octets left)) }
+    // An opening finds the save that was stopped, or, where that was too early, what an opening of
+    // the station's disk finds.
+    ensures found { IfOk result (λ left. FindsStopped (nat_lt calls (calls_of_save keep))
+        (state_in station.now) (memory_octets (device_of station.now.keeper)) (memory_octets left)) }
     ensures crash { IfOk result (λ left. Only (memory_octets left) (memory_leaves left)) }
     ensures fault { IfErr result (IsFaultOfBeginning (memory_octets (device_of station.now.keeper))) }
 {
@@ -73,7 +75,8 @@ fn fault_of_copy(fault: KeeperFault) -> StationFault
 
 /// A save that met the disk's fault changes nothing of a station. It does nothing.
 pub(crate) fn promise_unsaved(station: &Station<MemoryDisk>)
-    ensures { IsHandled Save (Some (StationFault.Keeper KeeperFault.DiskFault)) (state_in station.now) (state_in station.now) }
+    ensures { IsHandled Save (Some (StationFault.Keeper KeeperFault.DiskFault))
+        (state_in station.now) (state_in station.now) }
 {
     mon_board::laws::taken_in_turn();
     // Proof: the invariant of the watch.

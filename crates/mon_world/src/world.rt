@@ -3,7 +3,7 @@
 ghost use Rattle.std.specs.Prelude.{◌≡◌, ◌≤◌, ◌<◌, ◌+◌, ◌∷◌, ◌⊎◌, List, [], ℕ, Option, Some, None, Ok, Err, IfOk, IfErr, IfSome, OnOk, OnErr, length, map, vec_len};
 ghost use Rattle.mon_disk.specs.Keeper.{found_body};
 ghost use Rattle.mon_disk.specs.Memory.{memory_octets};
-ghost use Rattle.mon_core.specs.StationCore.{Core as AnyCore};
+ghost use Rattle.mon_config.specs.StationCore.{Core as AnyCore};
 ghost use Rattle.mon_station.specs.ReadEvent.{owned};
 ghost use Rattle.mon_world.specs.Cause.{IsFaultOfReopening, IsFileReason, IsRestartReason, IsSaveReason, IsStopReason};
 ghost use Rattle.mon_world.specs.Fault.{IsCause, IsDeliveryCause, IsFaultOfNew, IsRestartCause, IsSaveCause, IsStationCause, IsStopCause, IsThere, refusal_in};
@@ -21,7 +21,7 @@ use crate::sending::{Datagram, Sent, append, none_after};
 use crate::speaker::speaker;
 use crate::step::Step;
 use crate::stop::{promise_unsaved, stop_at};
-use mon_core::Core;
+use mon_config::Core;
 use mon_disk::MemoryDisk;
 use mon_station::{Event, LentEvent, Station, Told};
 use std::alloc::Global;
@@ -35,8 +35,8 @@ const CALLS: u8 = 6;
 /// The most stations of a world.
 const MOST: u32 = 16;
 
-/// Several stations with equal watches and targets, all peers of each other, each on its own disk in memory, and every datagram that
-/// was sent between them.
+/// Several stations with equal watches and targets, all peers of each other, each on its own disk
+/// in memory, and every datagram that was sent between them.
 pub struct World {
     core: Core,
     stations: Vec<Station<MemoryDisk>>,
@@ -64,7 +64,8 @@ impl World {
     /// # Errors
     /// `BadCount` unless they are 1 to 16; `Refused` where an opening was refused; `OutOfMemory`.
     pub fn new(alloc: Global, core: &Core, count: u32) -> Result<World, WorldFault>
-        ensures opened { IfOk result (λ world. Shows core.now world.stations.items world.sent.items (first_lives (setting_at core.now count) 1 (map state_in world.stations.items))) }
+        ensures opened { IfOk result (λ world. Shows core.now world.stations.items world.sent.items
+            (first_lives (setting_at core.now count) 1 (map state_in world.stations.items))) }
         ensures count { IfOk result (λ world. length world.stations.items ≡ count) }
         ensures core { IfOk result (λ world. world.core ≡ core.now) }
         ensures bad { IsNoCount count → result ≡ Err WorldFault.BadCount }
@@ -86,7 +87,8 @@ impl World {
 
     /// The station of this number, from 1 on, if there is one.
     pub fn station(&self, number: u32) -> Option<&Station<MemoryDisk>>
-        ensures there { IfSome result (λ station. HasNumber self.now.stations.items number station.now) }
+        ensures there { IfSome result (λ station. HasNumber self.now.stations.items number
+            station.now) }
         ensures none { result ≡ None → IsNoNumberTo (length self.now.stations.items) number }
     {
         match self.place_of(number) {
@@ -95,11 +97,14 @@ impl World {
         }
     }
 
-    /// What stations say of their debts is true in every world to which moves led in which no claim was forged; restarts and stops may be
-    /// among them. It does nothing.
+    /// What stations say of their debts is true in every world to which moves led in which no claim
+    /// was forged; restarts and stops may be among them. It does nothing.
     pub fn debts(&self)
-        ensures stations { (moves : List Move) → Shows self.now.core self.now.stations.items self.now.sent.items moves → AreUnforged moves → DebtsAreTrue self.now.stations.items moves }
-        ensures states { (moves : List Move) → Shows self.now.core self.now.stations.items self.now.sent.items moves → AreUnforged moves → StatesOweTruly moves }
+        ensures stations { (moves : List Move) → Shows self.now.core self.now.stations.items
+            self.now.sent.items moves → AreUnforged moves → DebtsAreTrue self.now.stations.items
+            moves }
+        ensures states { (moves : List Move) → Shows self.now.core self.now.stations.items
+            self.now.sent.items moves → AreUnforged moves → StatesOweTruly moves }
     {
         laws::debts();
         // Proof: the invariant of the watch.
@@ -121,14 +126,20 @@ impl World {
 
     /// Hands an event to a station.
     fn handle(&mut self, number: u32, event: LentEvent<'_>) -> Result<Sent, WorldFault>
-        ensures outcome { (past : List Move) → Shows self.old.core self.old.stations.items self.old.sent.items past
-            → LeadsTo self.new.core self.new.stations.items self.new.sent.items (λ now. Does (Hands (setting_at self.old.core (length self.old.stations.items) number) number (owned event.entry)) result past now) }
+        ensures outcome { (past : List Move) → Shows self.old.core self.old.stations.items
+            self.old.sent.items past
+            → LeadsTo self.new.core self.new.stations.items self.new.sent.items
+            (λ now. Does (Hands (setting_at self.old.core (length self.old.stations.items)
+            number) number (owned event.entry)) result past now) }
         ensures there { OnOk result (IsNumberTo (length self.old.stations.items) number) }
         ensures cause { IfErr result (IsStationCause (length self.old.stations.items) number) }
-        ensures saving { event.entry ≡ Event.Save → IfErr result (IsSaveCause (length self.old.stations.items) number) }
-        ensures reason { event.entry ≡ Event.Save → IfErr result (IsSaveReason number self.old.stations.items self.new.stations.items) }
+        ensures saving { event.entry ≡ Event.Save → IfErr result
+            (IsSaveCause (length self.old.stations.items) number) }
+        ensures reason { event.entry ≡ Event.Save → IfErr result
+            (IsSaveReason number self.old.stations.items self.new.stations.items) }
         ensures first { IfOk result (λ sent. sent.first ≡ length self.old.sent.items + 1) }
-        ensures count { IfOk result (λ sent. length self.old.sent.items + sent.count ≡ length self.new.sent.items) }
+        ensures count { IfOk result (λ sent. length self.old.sent.items + sent.count
+            ≡ length self.new.sent.items) }
         ensures refused { OnErr result (self.new.sent.items ≡ self.old.sent.items) }
         ensures kept { IfErr result (AreKept self.old.stations.items self.new.stations.items) }
         ensures core { self.new.core ≡ self.old.core }
@@ -155,12 +166,18 @@ impl World {
 
     /// Hands a datagram to the station that it was sent to.
     fn deliver(&mut self, number: u64) -> Result<Sent, WorldFault>
-        ensures outcome { (past : List Move) → Shows self.old.core self.old.stations.items self.old.sent.items past
-            → LeadsTo self.new.core self.new.stations.items self.new.sent.items (λ now. Does (Delivers (setting_at self.old.core (length self.old.stations.items)) number) result past now) }
+        ensures outcome { (past : List Move) → Shows self.old.core self.old.stations.items
+            self.old.sent.items past
+            → LeadsTo self.new.core self.new.stations.items self.new.sent.items
+            (λ now. Does (Delivers (setting_at self.old.core (length self.old.stations.items))
+            number) result past now) }
         ensures there { OnOk result (IsNumberTo (length self.old.sent.items) number) }
-        ensures cause { (past : List Move) → Shows self.old.core self.old.stations.items self.old.sent.items past → IfErr result (IsDeliveryCause (length self.old.sent.items) number) }
+        ensures cause { (past : List Move) → Shows self.old.core self.old.stations.items
+            self.old.sent.items past → IfErr result (IsDeliveryCause (length self.old.sent.items)
+            number) }
         ensures first { IfOk result (λ sent. sent.first ≡ length self.old.sent.items + 1) }
-        ensures count { IfOk result (λ sent. length self.old.sent.items + sent.count ≡ length self.new.sent.items) }
+        ensures count { IfOk result (λ sent. length self.old.sent.items + sent.count
+            ≡ length self.new.sent.items) }
         ensures refused { OnErr result (self.new.sent.items ≡ self.old.sent.items) }
         ensures kept { IfErr result (AreKept self.old.stations.items self.new.stations.items) }
         ensures core { self.new.core ≡ self.old.core }
@@ -174,14 +191,19 @@ impl World {
         Ok(append(&mut self.sent, told.sends))
     }
 
-    /// Hands what an agent says to a station: it comes from the address of the target of this number, or from a strange one.
+    /// Hands what an agent says to a station: it comes from the address of the target of this
+    /// number, or from a strange one.
     fn hear(&mut self, number: u32, target: u32, octets: &[u8]) -> Result<Sent, WorldFault>
-        ensures outcome { (past : List Move) → Shows self.old.core self.old.stations.items self.old.sent.items past
-            → LeadsTo self.new.core self.new.stations.items self.new.sent.items (λ now. Does (Hears (setting_at self.old.core (length self.old.stations.items) number) number target octets.now) result past now) }
+        ensures outcome { (past : List Move) → Shows self.old.core self.old.stations.items
+            self.old.sent.items past
+            → LeadsTo self.new.core self.new.stations.items self.new.sent.items
+            (λ now. Does (Hears (setting_at self.old.core (length self.old.stations.items)
+            number) number target octets.now) result past now) }
         ensures there { OnOk result (IsNumberTo (length self.old.stations.items) number) }
         ensures cause { IfErr result (IsStationCause (length self.old.stations.items) number) }
         ensures first { IfOk result (λ sent. sent.first ≡ length self.old.sent.items + 1) }
-        ensures count { IfOk result (λ sent. length self.old.sent.items + sent.count ≡ length self.new.sent.items) }
+        ensures count { IfOk result (λ sent. length self.old.sent.items + sent.count
+            ≡ length self.new.sent.items) }
         ensures refused { OnErr result (self.new.sent.items ≡ self.old.sent.items) }
         ensures kept { IfErr result (AreKept self.old.stations.items self.new.stations.items) }
         ensures core { self.new.core ≡ self.old.core }
@@ -194,7 +216,8 @@ impl World {
     /// Opens the station at a place from this disk, in place of the one that was there.
     fn reopen(&mut self, place: usize, disk: MemoryDisk) -> Result<Sent, WorldFault>
         requires { place < length self.old.stations.items }
-        ensures opened { OnOk result (IsReplaced self.old.core place (found_body (memory_octets disk)) self.old.stations.items self.new.stations.items) }
+        ensures opened { OnOk result (IsReplaced self.old.core place
+            (found_body (memory_octets disk)) self.old.stations.items self.new.stations.items) }
         ensures cause { IfErr result (IsFaultOfReopening self.old.core.watch (memory_octets disk)) }
         ensures refused { OnErr result (self.new.stations.items ≡ self.old.stations.items) }
         ensures sent { self.new.sent.items ≡ self.old.sent.items }
@@ -216,11 +239,15 @@ impl World {
 
     /// Opens a station again from a copy of its disk.
     fn restart(&mut self, number: u32) -> Result<Sent, WorldFault>
-        ensures outcome { (past : List Move) → Shows self.old.core self.old.stations.items self.old.sent.items past
-            → LeadsTo self.new.core self.new.stations.items self.new.sent.items (λ now. Does (Opens (setting_at self.old.core (length self.old.stations.items)) number) result past now) }
+        ensures outcome { (past : List Move) → Shows self.old.core self.old.stations.items
+            self.old.sent.items past
+            → LeadsTo self.new.core self.new.stations.items self.new.sent.items
+            (λ now. Does (Opens (setting_at self.old.core (length self.old.stations.items))
+            number) result past now) }
         ensures there { OnOk result (IsNumberTo (length self.old.stations.items) number) }
         ensures cause { IfErr result (IsRestartCause (length self.old.stations.items) number) }
-        ensures reason { IfErr result (IsRestartReason number self.old.core.watch self.old.stations.items) }
+        ensures reason { IfErr result (IsRestartReason number self.old.core.watch
+            self.old.stations.items) }
         ensures refused { OnErr result (self.new.stations.items ≡ self.old.stations.items) }
         ensures sent { self.new.sent.items ≡ self.old.sent.items }
         ensures core { self.new.core ≡ self.old.core }
@@ -235,11 +262,16 @@ impl World {
 
     /// Opens a station again from what a stop within a save leaves of a copy of its disk.
     fn stop(&mut self, number: u32, calls: u8, keep: bool) -> Result<Sent, WorldFault>
-        ensures outcome { (past : List Move) → Shows self.old.core self.old.stations.items self.old.sent.items past
-            → LeadsTo self.new.core self.new.stations.items self.new.sent.items (λ now. Does (StopsAndOpens (setting_at self.old.core (length self.old.stations.items)) number calls keep) result past now) }
-        ensures there { OnOk result (IsNumberTo (length self.old.stations.items) number × (calls ≤ 6)) }
+        ensures outcome { (past : List Move) → Shows self.old.core self.old.stations.items
+            self.old.sent.items past
+            → LeadsTo self.new.core self.new.stations.items self.new.sent.items
+            (λ now. Does (StopsAndOpens (setting_at self.old.core
+            (length self.old.stations.items)) number calls keep) result past now) }
+        ensures there { OnOk result (IsNumberTo (length self.old.stations.items) number
+            × (calls ≤ 6)) }
         ensures cause { IfErr result (IsStopCause (length self.old.stations.items) number calls) }
-        ensures reason { IfErr result (IsStopReason number calls keep self.old.core.watch self.old.stations.items) }
+        ensures reason { IfErr result (IsStopReason number calls keep self.old.core.watch
+            self.old.stations.items) }
         ensures refused { OnErr result (self.new.stations.items ≡ self.old.stations.items) }
         ensures sent { self.new.sent.items ≡ self.old.sent.items }
         ensures core { self.new.core ≡ self.old.core }
@@ -264,16 +296,25 @@ impl World {
     /// at a stop whose save has no generation left; `OutOfMemory`, and everything is as it was.
     pub fn step(&mut self, step: Step<'_>) -> Result<Sent, WorldFault>
         // Whatever moves led here, the step adds its own: what the station does about its event.
-        ensures outcome { (past : List Move) → Shows self.old.core self.old.stations.items self.old.sent.items past
-            → LeadsTo self.new.core self.new.stations.items self.new.sent.items (λ now. IsStepOutcome (setting_at self.old.core (length self.old.stations.items)) step.entry result past now) }
+        ensures outcome { (past : List Move) → Shows self.old.core self.old.stations.items
+            self.old.sent.items past
+            → LeadsTo self.new.core self.new.stations.items self.new.sent.items
+            (λ now. IsStepOutcome (setting_at self.old.core (length self.old.stations.items))
+            step.entry result past now) }
         // Each fault has its cause, and what a step names is there where it has none.
-        ensures there { OnOk result (IsThere (length self.old.stations.items) (length self.old.sent.items) step.entry) }
-        ensures cause { (past : List Move) → Shows self.old.core self.old.stations.items self.old.sent.items past → IfErr result (IsCause (length self.old.stations.items) (length self.old.sent.items) step.entry) }
-        // A station refuses a save, a restart or a stop for what its file is, or for what became of it.
-        ensures reason { IfErr result (IsFileReason self.old.core.watch self.old.stations.items self.new.stations.items step.entry) }
+        ensures there { OnOk result (IsThere (length self.old.stations.items)
+            (length self.old.sent.items) step.entry) }
+        ensures cause { (past : List Move) → Shows self.old.core self.old.stations.items
+            self.old.sent.items past → IfErr result (IsCause (length self.old.stations.items)
+            (length self.old.sent.items) step.entry) }
+        // A station refuses a save, a restart or a stop for what its file is, or for what became of
+        // it.
+        ensures reason { IfErr result (IsFileReason self.old.core.watch self.old.stations.items
+            self.new.stations.items step.entry) }
         // The numbers of what was sent: a refused step sends nothing.
         ensures first { IfOk result (λ sent. sent.first ≡ length self.old.sent.items + 1) }
-        ensures count { IfOk result (λ sent. length self.old.sent.items + sent.count ≡ length self.new.sent.items) }
+        ensures count { IfOk result (λ sent. length self.old.sent.items + sent.count
+            ≡ length self.new.sent.items) }
         ensures refused { OnErr result (self.new.sent.items ≡ self.old.sent.items) }
         // With it every station holds, knows and owes what it did before.
         ensures kept { IfErr result (AreKept self.old.stations.items self.new.stations.items) }
@@ -300,8 +341,11 @@ impl World {
     /// # Errors
     /// `OutOfMemory` if there is no memory for the results: no step was made.
     pub fn run(&mut self, steps: &[Step<'_>]) -> Result<Vec<Result<Sent, WorldFault>>, WorldFault>
-        ensures outcomes { IfOk result (λ results. (past : List Move) → Shows self.old.core self.old.stations.items self.old.sent.items past
-            → LeadsTo self.new.core self.new.stations.items self.new.sent.items (λ now. AreStepOutcomes (setting_at self.old.core (length self.old.stations.items)) (length self.old.stations.items) steps.now results.items past now)) }
+        ensures outcomes { IfOk result (λ results. (past : List Move)
+            → Shows self.old.core self.old.stations.items self.old.sent.items past
+            → LeadsTo self.new.core self.new.stations.items self.new.sent.items
+            (λ now. AreStepOutcomes (setting_at self.old.core (length self.old.stations.items))
+            (length self.old.stations.items) steps.now results.items past now)) }
         ensures count { IfOk result (λ results. length results.items ≡ length steps.now) }
         ensures fault { IfErr result (λ fault. fault ≡ WorldFault.OutOfMemory) }
         ensures same_stations { OnErr result (self.new.stations ≡ self.old.stations) }
@@ -326,13 +370,19 @@ fn ask(
     event: LentEvent<'_>,
 ) -> Result<Told, WorldFault>
     requires { place < length stations.old.items }
-    ensures told { IfOk result (λ told. (core : AnyCore) (past : List Move) → AreShown core stations.old.items past → IsStationAsked core (place + 1) (owned event.entry) None (to_peers told.sends.items) past stations.new.items) }
-    ensures refused { IfErr result (λ fault. (core : AnyCore) (past : List Move) → AreShown core stations.old.items past → IsStationRefused core (place + 1) (owned event.entry) (refusal_in fault) past stations.new.items) }
+    ensures told { IfOk result (λ told. (core : AnyCore) (past : List Move)
+        → AreShown core stations.old.items past → IsStationAsked core (place + 1)
+        (owned event.entry) None (to_peers told.sends.items) past stations.new.items) }
+    ensures refused { IfErr result (λ fault. (core : AnyCore) (past : List Move)
+        → AreShown core stations.old.items past → IsStationRefused core (place + 1)
+        (owned event.entry) (refusal_in fault) past stations.new.items) }
     ensures kept { IfErr result (AreKept stations.old.items stations.new.items) }
     ensures few { IfOk result (λ told. length told.sends.items ≤ 512) }
     ensures cause { IfErr result (IsStationCause (length stations.old.items) (place + 1)) }
-    ensures saving { event.entry ≡ Event.Save → IfErr result (IsSaveCause (length stations.old.items) (place + 1)) }
-    ensures reason { event.entry ≡ Event.Save → IfErr result (IsSaveReason (place + 1) stations.old.items stations.new.items) }
+    ensures saving { event.entry ≡ Event.Save → IfErr result
+        (IsSaveCause (length stations.old.items) (place + 1)) }
+    ensures reason { event.entry ≡ Event.Save → IfErr result
+        (IsSaveReason (place + 1) stations.old.items stations.new.items) }
     ensures count { length stations.new.items ≡ length stations.old.items }
 {
     let told = stations[place].step(alloc, event)?;

@@ -1,5 +1,6 @@
 -- A whole run of the program: from its arguments to its exit status.
-use Rattle.std.specs.Prelude.{◌≡◌, ◌⊎◌, ℕ, List, [], ◌∷◌, ◌++◌, Bool, true, false, if◌then◌else◌, map, Result, Ok, Err, codes, option_map}
+use Rattle.std.specs.Prelude.{◌≡◌, ◌⊎◌, ℕ, List, [], ◌∷◌, ◌++◌, Bool, true, false, if◌then◌else◌}
+use Rattle.std.specs.Prelude.{map, Result, Ok, Err, codes, option_map}
 use Rattle.std.specs.declared.io.ErrorKind.{ErrorKind}
 use Rattle.std.specs.declared.io.ErrorKind.TheVariants as kinds
 use Rattle.clap.specs.Words.{Text, found_of, rows_of, subcommand_rows_of}
@@ -9,7 +10,8 @@ use Rattle.clap.specs.declared.error.Error.{Error}
 use Rattle.clap.specs.declared.error.kind.ErrorKind.{ErrorKind as UsageKind}
 use Rattle.clap.specs.declared.error.kind.ErrorKind.TheVariants as usage
 use Rattle.mon_app.specs.Network.{Agents, Ports}
-use Rattle.mon_cli.specs.Asked.{AsksFor, LacksColumns, LacksInterval, LacksNumber, LacksRounds, LacksSource, is_on}
+use Rattle.mon_cli.specs.Asked.{AsksFor, LacksColumns, LacksInterval, LacksNumber, LacksRounds}
+use Rattle.mon_cli.specs.Asked.{LacksSource, is_on}
 use Rattle.mon_cli.specs.Program.{IsParseOf, Reads}
 use Rattle.mon_cli.specs.declared.meaning.Asked.{Asked}
 use Rattle.mon_cli.specs.declared.meaning.Asked.TheVariants as asked
@@ -42,8 +44,8 @@ abbrev pub IsToldIf : Bool → Failure → List AtHost → Type 0
 IsToldIf true failure log = log ≡ []
 IsToldIf false failure log = IsTold level.Error failure log
 
--- The exit status of a fault: 1, and of a station 4 if it ends since its settings changed, and 3 if the
--- fault lasts, since another start would only meet it again.
+-- The exit status of a fault: 1, and of a station 4 if it ends since its settings changed, and 3 if
+-- the fault lasts, since another start would only meet it again.
 abbrev pub status_of : (station : Bool) → Fault → ℕ
 status_of true SettingsChanged = 4
 status_of true fault = if lasts fault then 3 else 1
@@ -71,7 +73,8 @@ IsRefused line log status = (log ≡ Noted level.Error line ∷ []) × (status �
 
 -- memory ran out before a command was run
 abbrev pub EndsForMemory : List AtHost → ℕ → Type 0
-EndsForMemory log status = (failure : Failure) × IsMemory failure × IsEnd false (Err failure) log status
+EndsForMemory log status = (failure : Failure) × IsMemory failure
+    × IsEnd false (Err failure) log status
 
 -- the arguments could not be listed: memory ran out, or they are no text
 abbrev pub IsUnlisted : ErrorKind → List AtHost → ℕ → Type 0
@@ -96,23 +99,32 @@ IsUsage usage.DisplayVersion log status = IsRun false IsShown log status
 IsUsage _ log status = (line : List ℕ) × IsRefused line log status
 
 -- what a command does
-abbrev pub Does : Agents → Ports → Saved → Stations → Asked → List AtHost → Result Unit Failure → Type 0
-Does agents ports saved stations asked.Version log result = IsPrint (codes "snmpmon 0.1.0\n") log result
+abbrev pub Does : Agents → Ports → Saved → Stations → Asked → List AtHost → Result Unit Failure
+    → Type 0
+Does agents ports saved stations asked.Version log result = IsPrint (codes "snmpmon 0.1.0\n") log
+    result
 Does agents ports saved stations (asked.Replay words) log result = IsRecording words log result
-Does agents ports saved stations (asked.Get request) log result = IsGetting agents request log result
-Does agents ports saved stations (asked.Next request) log result = IsGettingNext agents request log result
-Does agents ports saved stations (asked.Bulk words) log result = IsAskingMany agents words log result
+Does agents ports saved stations (asked.Get request) log result = IsGetting agents request log
+    result
+Does agents ports saved stations (asked.Next request) log result = IsGettingNext agents request log
+    result
+Does agents ports saved stations (asked.Bulk words) log result = IsAskingMany agents words log
+    result
 Does agents ports saved stations (asked.Walk words) log result = IsWalking agents words log result
 Does agents ports saved stations (asked.Set words) log result = IsSetting agents words log result
-Does agents ports saved stations (asked.Settings words) log result = AreSettings agents words log result
-Does agents ports saved stations (asked.Agent words) log result = IsServingAgent ports words log result
+Does agents ports saved stations (asked.Settings words) log result = AreSettings agents words log
+    result
+Does agents ports saved stations (asked.Agent words) log result = IsServingAgent ports words log
+    result
 Does agents ports saved stations (asked.Answer words) log result = IsAnswering words log result
 Does agents ports saved stations (asked.Mib words) log result =
     IsMib words.file.now (map (λ f. f.now) words.modules.now) log result
 Does agents ports saved stations (asked.Station words) log result = IsStation words log result
 Does agents ports saved stations (asked.Report words) log result = IsReportCommand words log result
-Does agents ports saved stations (asked.Carry words) log result = IsCarryCommand saved words log result
-Does agents ports saved stations (asked.Healthz words) log result = IsHealthz stations words.address.now log result
+Does agents ports saved stations (asked.Carry words) log result = IsCarryCommand saved words log
+    result
+Does agents ports saved stations (asked.Healthz words) log result = IsHealthz stations
+    words.address.now log result
 Does agents ports saved stations asked.SelfTest log result = IsSelfTest log result
 Does agents ports saved stations (asked.Rehearse words) log result = IsRehearsing words log result
 
@@ -144,7 +156,8 @@ IsBefore true log = Hints log
 IsBefore false log = log ≡ []
 
 -- the command is run; first comes the line at a terminal, if it reads from one
-pub record IsRunFor (agents : Agents) (ports : Ports) (saved : Saved) (stations : Stations) (asked : Asked) (log : List AtHost) (status : ℕ) : Type 0 where
+pub record IsRunFor (agents : Agents) (ports : Ports) (saved : Saved) (stations : Stations)
+    (asked : Asked) (log : List AtHost) (status : ℕ) : Type 0 where
   pub begin : List AtHost
   pub before : IsBefore (reads_input asked) begin
   pub rest : List AtHost
@@ -176,7 +189,8 @@ abbrev pub no_columns : List ℕ
 no_columns = codes "snmpmon: --sort wants --columns; see snmpmon report --help\n"
 
 -- The command is run, unless a station or a report lacks something, which one line says.
-pub record IsStartOf (agents : Agents) (ports : Ports) (saved : Saved) (stations : Stations) (asked : Asked) (log : List AtHost) (status : ℕ) : Type 0 where
+pub record IsStartOf (agents : Agents) (ports : Ports) (saved : Saved) (stations : Stations)
+    (asked : Asked) (log : List AtHost) (status : ℕ) : Type 0 where
   pub rounds : LacksRounds asked → IsRefused no_rounds log status
   pub interval : ¬ (LacksRounds asked) → LacksInterval asked → IsRefused no_interval log status
   pub source : ¬ (LacksRounds asked) → ¬ (LacksInterval asked) → LacksSource asked
@@ -186,7 +200,8 @@ pub record IsStartOf (agents : Agents) (ports : Ports) (saved : Saved) (stations
   pub columns : ¬ (LacksRounds asked) → ¬ (LacksInterval asked) → ¬ (LacksSource asked)
       → ¬ (LacksNumber asked) → LacksColumns asked → IsRefused no_columns log status
   pub run : ¬ (LacksRounds asked) → ¬ (LacksInterval asked) → ¬ (LacksSource asked)
-      → ¬ (LacksNumber asked) → ¬ (LacksColumns asked) → IsRunFor agents ports saved stations asked log status
+      → ¬ (LacksNumber asked) → ¬ (LacksColumns asked) → IsRunFor agents ports saved stations asked
+      log status
 
 -- what arguments ask for, by the rows that the command line makes of them
 pub record IsAskedBy (words : List Text) (a : Asked) : Type 0 where
@@ -197,11 +212,13 @@ pub record IsAskedBy (words : List Text) (a : Asked) : Type 0 where
 
 -- what the program does with its arguments: it starts the command, or says why there is none
 abbrev pub IsStartWith : Agents → Ports → Saved → Stations → List Text → List AtHost → ℕ → Type 0
-IsStartWith agents ports saved stations words log status = ((a : Asked) × IsAskedBy words a × IsStartOf agents ports saved stations a log status)
+IsStartWith agents ports saved stations words log status = ((a : Asked) × IsAskedBy words a
+    × IsStartOf agents ports saved stations a log status)
     ⊎ ((e : Error) × Reads words (Err e) × IsUsage (kind_of e) log status)
 
 -- the arguments were listed, and the program does what they say
-pub record IsListedStart (agents : Agents) (ports : Ports) (saved : Saved) (stations : Stations) (log : List AtHost) (status : ℕ) : Type 0 where
+pub record IsListedStart (agents : Agents) (ports : Ports) (saved : Saved) (stations : Stations)
+    (log : List AtHost) (status : ℕ) : Type 0 where
   pub words : List Text
   pub rest : List AtHost
   pub start : IsStartWith agents ports saved stations words rest status
@@ -214,7 +231,8 @@ pub record IsUnlistedStart (log : List AtHost) (status : ℕ) : Type 0 where
   pub end : IsUnlisted why.kind rest status
   pub log_is : log ≡ Unlisted why ∷ rest
 
--- A whole run: what is done from the first call to the last, and the exit status. Agents are reached and
--- ports opened by a network.
+-- A whole run: what is done from the first call to the last, and the exit status. Agents are
+-- reached and ports opened by a network.
 abbrev pub IsStart : Agents → Ports → Saved → Stations → List AtHost → ℕ → Type 0
-IsStart agents ports saved stations log status = IsListedStart agents ports saved stations log status ⊎ IsUnlistedStart log status
+IsStart agents ports saved stations log status = IsListedStart agents ports saved stations log
+    status ⊎ IsUnlistedStart log status

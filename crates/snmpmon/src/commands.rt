@@ -270,9 +270,9 @@ fn end<H: Host>(host: &mut H, done: Result<(), Failure>, station: bool) -> u8
     }
 }
 
-/// Returns the exit status of a fault: 1, and of a station 4 if it ends since its settings changed, so
-/// that it is started with them, and 3 if the fault lasts, so that nobody starts it again before somebody
-/// has mended it.
+/// Returns the exit status of a fault: 1, and of a station 4 if it ends since its settings changed,
+/// so that it is started with them, and 3 if the fault lasts, so that nobody starts it again before
+/// somebody has mended it.
 fn status_of(station: bool, fault: Fault) -> u8
     ensures { result ≡ status_of station fault }
 {

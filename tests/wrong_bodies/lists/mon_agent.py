@@ -48,8 +48,8 @@ BUGS = {
     ),
     "set_needs_to_read": (
         "src/agent.rt",
-        "        Body::Pdu(pdu) if pdu.kind == PduKind::Set => Need::Write,",
-        "        Body::Pdu(pdu) if pdu.kind == PduKind::Trap => Need::Write,",
+        "        Body::Pdu(pdu) if pdu.kind == PduKind::Set => ViewType::Write,",
+        "        Body::Pdu(pdu) if pdu.kind == PduKind::Trap => ViewType::Write,",
     ),
     "silence_by_another_name": (
         "src/reply.rt",
@@ -82,17 +82,17 @@ BUGS = {
         "        PduFault::BadVersion(_) => Some(Silence::BadMessage),",
     ),
     "refuses_a_reply_of_the_limit": (
-        "src/growing.rt",
+        "src/response_builder.rt",
         "    size <= limit.max(0) as usize",
         "    size < limit.max(0) as usize",
     ),
     "forgets_the_size_of_the_list": (
-        "src/growing.rt",
+        "src/response_builder.rt",
         "        self.list = list;\n",
         "",
     ),
     "goes_on_when_full": (
-        "src/growing.rt",
+        "src/response_builder.rt",
         "            return false;",
         "            return true;",
     ),
@@ -162,12 +162,12 @@ BUGS = {
         "        Reply::Silent(Silence::BadVersion) => {}",
     ),
     "has_room_by_its_bindings_alone": (
-        "src/growing.rt",
+        "src/response_builder.rt",
         "    if is_within(size_bound(head, list), limit) {",
         "    if is_within(list, limit) {",
     ),
     "sends_within_any_limit": (
-        "src/growing.rt",
+        "src/response_builder.rt",
         "        send_measured(alloc, self.into_message(), list, limit)",
         "        send_measured(alloc, self.into_message(), list, limit.max(484))",
     ),
@@ -207,7 +207,7 @@ BUGS = {
         "        Commit::CommitFailed(_) => (COMMIT_FAILED, 0),",
     ),
     "sends_above_the_limit": (
-        "src/growing.rt",
+        "src/response_builder.rt",
         "    size <= limit.max(0) as usize",
         "    size <= limit.max(0) as usize + 1",
     ),
@@ -222,14 +222,14 @@ BUGS = {
         "                let _ = before;",
     ),
     "bulk_cuts_at_whole_rounds": (
-        "src/growing.rt",
+        "src/response_builder.rt",
         "            return Ok(false);",
         "            { self.bindings.truncate(self.bindings.len() / 2 * 2); return Ok(false); }",
     ),
     "in_place_grants_the_view_for_writing": (
         "src/in_place.rt",
-        "        match self.policy.access(community, Need::Read) {",
-        "        match self.policy.access(community, Need::Write) {",
+        "        match self.policy.access(community, ViewType::Read) {",
+        "        match self.policy.access(community, ViewType::Write) {",
     ),
     "in_place_leaves_what_was_written_before": (
         "src/in_place.rt",
@@ -318,8 +318,8 @@ BUGS = {
     ),
     "bulk_in_place_ends_at_any_end": (
         "src/bulk_in_place.rt",
-        "        is_last = is_last && is_at_end(&found);",
-        "        is_last = is_last || is_at_end(&found);",
+        "        all_end = all_end && is_at_end(&found);",
+        "        all_end = all_end || is_at_end(&found);",
     ),
     "in_place_answers_no_object_at_the_end": (
         "src/in_place.rt",
@@ -333,8 +333,8 @@ BUGS = {
     ),
     "bulk_in_place_never_ends_at_the_end": (
         "src/bulk_in_place.rt",
-        "    Some(if is_last { Round::Last } else { Round::More })",
-        "    Some(if is_last { Round::More } else { Round::More })",
+        "    Some(if all_end { Round::Last } else { Round::More })",
+        "    Some(if all_end { Round::More } else { Round::More })",
     ),
     "bulk_in_place_passes_over_a_name": (
         "src/bulk_in_place.rt",
@@ -416,5 +416,5 @@ BUGS = {
 # Those that break a promise as a whole, each with its function: tests/bodies tries them in the gate.
 PROMISES = {
     "bulk_in_place_goes_on_after_what_does_not_fit": "bulk_in_place::put_round",
-    "bulk_cuts_at_whole_rounds": "growing::Growing::push",
+    "bulk_cuts_at_whole_rounds": "growing::ResponseBuilder::push",
 }

@@ -8,18 +8,18 @@ BUGS = {
     ),
     "windows_of_65": (
         "src/watch.rt",
-        "const MOST_SAMPLES: usize = 64;",
-        "const MOST_SAMPLES: usize = 65;",
+        "const MAX_SAMPLES: usize = 64;",
+        "const MAX_SAMPLES: usize = 65;",
     ),
     "one_instance_less": (
         "src/watch.rt",
-        "const MOST_INSTANCES: usize = 256;",
-        "const MOST_INSTANCES: usize = 255;",
+        "const MAX_INSTANCES: usize = 256;",
+        "const MAX_INSTANCES: usize = 255;",
     ),
     "one_rule_more": (
         "src/watch.rt",
-        "const MOST_RULES: usize = 256;",
-        "const MOST_RULES: usize = 257;",
+        "const MAX_RULES: usize = 256;",
+        "const MAX_RULES: usize = 257;",
     ),
     "an_instance_twice": (
         "src/watch.rt",
@@ -162,7 +162,7 @@ BUGS = {
         "        marks[0].clear(slot);",
     ),
     "adds_in_front": (
-        "src/pairs.rt",
+        "src/instance_samples.rt",
         "        self.items.push((instance, sample))?;",
         "        self.items.insert(0, (instance, sample))?;",
     ),
@@ -173,8 +173,8 @@ BUGS = {
     ),
     "takes_an_epoch_above_its_window": (
         "src/watch.rt",
-        "    1 <= watched.epoch && watched.epoch <= watched.window && watched.window <= MOST_SAMPLES",
-        "    1 <= watched.epoch && watched.epoch <= MOST_SAMPLES && watched.window <= MOST_SAMPLES",
+        "    1 <= watched.epoch && watched.epoch <= watched.window && watched.window <= MAX_SAMPLES",
+        "    1 <= watched.epoch && watched.epoch <= MAX_SAMPLES && watched.window <= MAX_SAMPLES",
     ),
     "clears_a_neighbouring_slot": (
         "src/marks.rt",
@@ -282,7 +282,7 @@ BUGS = {
         "            Some(_) => None,",
     ),
     "says_that_a_pair_without_memory_was_added": (
-        "src/pairs.rt",
+        "src/instance_samples.rt",
         "        self.items.push((instance, sample))?;",
         "        let _ = self.items.push((instance, sample));",
     ),

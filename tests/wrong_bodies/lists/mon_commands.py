@@ -390,18 +390,18 @@ BUGS = {
     ),
     "ignores_the_boots": (
         "src/agent.rt",
-        "    let told = told_of(alloc, host, words.settings, words.boots)?;\n    let service = Service {",
-        "    let told = told_of(alloc, host, words.settings, None)?;\n    let service = Service {",
+        "    let told = read_agent_settings(alloc, host, words.settings, words.boots)?;\n    let service = Service {",
+        "    let told = read_agent_settings(alloc, host, words.settings, None)?;\n    let service = Service {",
     ),
     "reads_the_settings_twice": (
         "src/agent.rt",
-        "    let told = told_of(alloc, host, words.settings, words.boots)?;\n    let service = Service {",
-        "    let _ = told_of(alloc, host, words.settings, words.boots)?;\n    let told = told_of(alloc, host, words.settings, words.boots)?;\n    let service = Service {",
+        "    let told = read_agent_settings(alloc, host, words.settings, words.boots)?;\n    let service = Service {",
+        "    let _ = read_agent_settings(alloc, host, words.settings, words.boots)?;\n    let told = read_agent_settings(alloc, host, words.settings, words.boots)?;\n    let service = Service {",
     ),
     "reads_other_settings": (
         "src/agent.rt",
-        "    let told = told_of(alloc, host, words.settings, words.boots)?;\n    let service = Service {",
-        "    let told = told_of(alloc, host, \"agent.toml\", words.boots)?;\n    let service = Service {",
+        "    let told = read_agent_settings(alloc, host, words.settings, words.boots)?;\n    let service = Service {",
+        "    let told = read_agent_settings(alloc, host, \"agent.toml\", words.boots)?;\n    let service = Service {",
     ),
     "serves_without_a_word": (
         "src/agent.rt",

@@ -178,8 +178,8 @@ BUGS = {
     ),
     "offers_41_samples": (
         "src/sharing.rt",
-        "const MOST_SAMPLES: usize = 40;",
-        "const MOST_SAMPLES: usize = 41;",
+        "const MAX_SAMPLES: usize = 40;",
+        "const MAX_SAMPLES: usize = 41;",
     ),
     "offers_nothing_where_nothing_is_owed": (
         "src/sharing.rt",
@@ -264,7 +264,7 @@ BUGS = {
     "owes_40_samples_of_an_instance": (
         "src/sharing.rt",
         "        owed.push(sample)?;\n",
-        "        owed.push(sample)?;\n        if owed.len() == MOST_SAMPLES {\n            break;\n        }\n",
+        "        owed.push(sample)?;\n        if owed.len() == MAX_SAMPLES {\n            break;\n        }\n",
     ),
     "offers_the_first_portion_alone": (
         "src/sharing.rt",

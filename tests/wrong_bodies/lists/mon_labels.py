@@ -178,7 +178,7 @@ BUGS = {
     "cuts_a_list_that_is_too_long": (
         "src/reading.rt",
         "        return Err(LabelsFault::TooMany);",
-        "        return Ok(&values[..MOST_INTERFACES]);",
+        "        return Ok(&values[..MAX_INTERFACES]);",
     ),
     "no_toml_is_an_empty_table": (
         "src/reading.rt",

@@ -13,7 +13,7 @@ BUGS = {
     "a_name_twice": ("src/machines.rt", "    if has_name(machines, name) {", "    if has_name(machines, name) && number == 0 {"),
     "an_address_twice": ("src/machines.rt", "        return Err(MachinesFault::RepeatedAddress(number));", "        return Ok(());"),
     "address_before_name": ("src/machines.rt", "        return Err(MachinesFault::RepeatedName(number));", "        return Err(MachinesFault::RepeatedAddress(number));"),
-    "one_machine_more": ("src/machines.rt", "const MOST_MACHINES: usize = 1_024;", "const MOST_MACHINES: usize = 1_025;"),
+    "one_machine_more": ("src/machines.rt", "const MAX_MACHINES: usize = 1_024;", "const MAX_MACHINES: usize = 1_025;"),
     "only_the_first_name": ("src/machines.rt", "    has_name(rest, name)\n", "    let _rest = rest;\n    false\n"),
     "comments_by_semicolons": ("src/machines.rt", "[] | [b'#', ..]", "[] | [b';', ..]"),
     "any_name": ("src/machines.rt", "    begins_well(octets) && are_of_names(octets)\n", "    begins_well(octets)\n"),

@@ -23,8 +23,8 @@ BUGS = {
     ),
     "opens_65_polls": (
         "src/poller.rt",
-        "const MOST_OPEN: usize = 64;",
-        "const MOST_OPEN: usize = 65;",
+        "const MAX_OPEN: usize = 64;",
+        "const MAX_OPEN: usize = 65;",
     ),
     "tries_once_more": (
         "src/poller.rt",
@@ -188,13 +188,13 @@ BUGS = {
     ),
     "nine_tries": (
         "src/target.rt",
-        "const MOST_TRIES: u8 = 8;",
-        "const MOST_TRIES: u8 = 9;",
+        "const MAX_TRIES: u8 = 8;",
+        "const MAX_TRIES: u8 = 9;",
     ),
     "communities_of_513": (
         "src/target.rt",
-        "const MOST_COMMUNITY: usize = 512;",
-        "const MOST_COMMUNITY: usize = 513;",
+        "const MAX_COMMUNITY: usize = 512;",
+        "const MAX_COMMUNITY: usize = 513;",
     ),
     "a_copy_of_the_object_without_its_discontinuity": (
         "src/target.rt",

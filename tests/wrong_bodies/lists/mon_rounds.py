@@ -22,37 +22,37 @@ BUGS = {
         "        Span::Between(_) => before.saturating_add(1),\n    }\n}\n\n/// How many polls of the target",
     ),
     "announces_each_alarm_at_once": (
-        "src/course.rt",
+        "src/totals.rt",
         "            announcer: Announcer::new(alloc, after, states.as_slice())?,",
         "            announcer: Announcer::new(alloc, after.min(1), states.as_slice())?,",
     ),
     "knows_no_alarm_at_the_start": (
-        "src/course.rt",
+        "src/totals.rt",
         "            announcer: Announcer::new(alloc, after, states.as_slice())?,",
         "            announcer: Announcer::new(alloc, after, &[])?,",
     ),
     "each_call_is_a_look": (
-        "src/course.rt",
+        "src/totals.rt",
         "        self.announcer.announce(alloc, changes, looks)\n",
         "        let _ = looks;\n        self.announcer.announce(alloc, changes, true)\n",
     ),
     "no_call_is_a_look": (
-        "src/course.rt",
+        "src/totals.rt",
         "        self.announcer.announce(alloc, changes, looks)\n",
         "        let _ = looks;\n        self.announcer.announce(alloc, changes, false)\n",
     ),
     "looks_without_the_changes": (
-        "src/course.rt",
+        "src/totals.rt",
         "        self.announcer.announce(alloc, changes, looks)\n",
         "        let _ = changes;\n        self.announcer.announce(alloc, Vec::new(alloc), looks)\n",
     ),
     "says_all_changes_though_they_must_hold": (
-        "src/course.rt",
+        "src/totals.rt",
         "        self.announcer.announce(alloc, changes, looks)\n",
         "        let _ = looks;\n        Ok(changes)\n",
     ),
     "shows_no_announced_alarm": (
-        "src/course.rt",
+        "src/totals.rt",
         "        self.announcer.states(alloc)\n",
         "        Ok(Vec::new(alloc))\n",
     ),
@@ -153,8 +153,8 @@ BUGS = {
     ),
     "saves_nothing": (
         "src/round.rt",
-        "            Phase::Listening => self.finish(),",
-        "            Phase::Listening => None,",
+        "            Phase::AwaitConfirmations => self.finish(),",
+        "            Phase::AwaitConfirmations => None,",
     ),
     "a_round_never_saves": (
         "src/round.rt",
@@ -228,8 +228,8 @@ BUGS = {
     ),
     "rests_half_the_time": (
         "src/round.rt",
-        "(Phase::Resting, Wait::Begin(milliseconds)),",
-        "(Phase::Resting, Wait::Begin(milliseconds / 2)),",
+        "(Phase::BetweenRounds, Wait::Begin(milliseconds)),",
+        "(Phase::BetweenRounds, Wait::Begin(milliseconds / 2)),",
     ),
     "asks_for_few_events": (
         "src/running.rt",
@@ -392,42 +392,42 @@ BUGS = {
         "            To::Peer(station) => self.addresses.target(station as u16),",
     ),
     "counts_the_last_round_alone": (
-        "src/course.rt",
+        "src/totals.rt",
         "        self.taken = self.taken.saturating_add(report.taken);",
         "        self.taken = report.taken;",
     ),
     "counts_no_polls_given_up": (
-        "src/course.rt",
+        "src/totals.rt",
         "        self.given_up = self.given_up.saturating_add(report.given_up);\n",
         "",
     ),
     "tells_each_alarm_again": (
-        "src/course.rt",
+        "src/totals.rt",
         "        see_windows(alloc, board, &mut self.windows)?;\n",
         "",
     ),
     "tells_no_alarm": (
-        "src/course.rt",
+        "src/totals.rt",
         "        self.announcer.announce(alloc, changes, looks)\n",
         "        let _ = self.announcer.announce(alloc, changes, looks)?;\n        Ok(Vec::new(alloc))\n",
     ),
     "owes_all_what_it_owes_the_first": (
-        "src/course.rt",
+        "src/totals.rt",
         "debts.push((*peer, station.owed(*peer)))?;",
         "debts.push((*peer, station.owed(peers[0])))?;",
     ),
     "reports_after_each_round": (
-        "src/course.rt",
+        "src/totals.rt",
         "    every != 0 && round % every == 0",
         "    every != 0 && round % every < every",
     ),
     "ends_an_interval_at_once": (
-        "src/course.rt",
+        "src/totals.rt",
         "        .saturating_sub(passed)\n",
         "        .saturating_sub(interval)\n",
     ),
     "rests_a_second_at_most": (
-        "src/course.rt",
+        "src/totals.rt",
         "const LONGEST_REST: u128 = 60_000;",
         "const LONGEST_REST: u128 = 1_000;",
     ),
@@ -572,27 +572,27 @@ BUGS = {
         "        let changes = self.changes_to(alloc, &now);\n        *self = now;\n        changes",
     ),
     "says_all_alarms_at_the_start": (
-        "src/course.rt",
+        "src/totals.rt",
         "            windows: seen_windows(alloc, board)?,",
         "            windows: {\n                let _ = board;\n                Vec::new(alloc)\n            },",
     ),
     "says_polls_for_samples": (
-        "src/course.rt",
+        "src/totals.rt",
         "        ensures { result ≡ self.now.taken }\n    {\n        self.taken\n",
         "        ensures { result ≡ self.now.taken }\n    {\n        self.given_up\n",
     ),
     "owes_peers_by_their_places": (
-        "src/course.rt",
+        "src/totals.rt",
         "        debts.push((*peer, station.owed(*peer)))?;",
         "        debts.push((debts.len() as u32, station.owed(*peer)))?;",
     ),
     "reports_from_a_round_on": (
-        "src/course.rt",
+        "src/totals.rt",
         "    every != 0 && round % every == 0",
         "    every != 0 && round >= every",
     ),
     "rests_for_what_passed": (
-        "src/course.rt",
+        "src/totals.rt",
         "    interval\n        .saturating_sub(passed)",
         "    passed\n        .saturating_sub(interval)",
     ),
@@ -714,7 +714,7 @@ BUGS = {
     "a_round_is_over_at_its_end_alone": (
         "src/round.rt",
         "        self.phase = Phase::Over;\n        self.events.push_reserved(RoundEvent::Save);",
-        "        self.phase = Phase::Listening;\n        self.events.push_reserved(RoundEvent::Save);",
+        "        self.phase = Phase::AwaitConfirmations;\n        self.events.push_reserved(RoundEvent::Save);",
     ),
     "offers_each_peer_twice": (
         "src/round.rt",
@@ -728,12 +728,12 @@ BUGS = {
     ),
     "a_rest_never_ends": (
         "src/round.rt",
-        "        Phase::Resting | Phase::Rested => Phase::Rested,\n        _ => Phase::Over,",
-        "        Phase::Resting => Phase::Resting,\n        Phase::Rested => Phase::Rested,\n        _ => Phase::Over,",
+        "        Phase::BetweenRounds | Phase::Rested => Phase::Rested,\n        _ => Phase::Over,",
+        "        Phase::BetweenRounds => Phase::BetweenRounds,\n        Phase::Rested => Phase::Rested,\n        _ => Phase::Over,",
     ),
     "counts_datagrams_downwards": (
         "src/round.rt",
-        "        MOST_DATAGRAMS - self.datagrams\n",
+        "        MAX_DATAGRAMS - self.datagrams\n",
         "        self.datagrams\n",
     ),
     "runs_no_station": (
@@ -792,34 +792,34 @@ BUGS = {
         "            buffer: datagram_buffer(alloc)?,\n            failures: 1,",
     ),
     "looks_before_it_compares": (
-        "src/course.rt",
+        "src/totals.rt",
         "        let changes = alarm_changes(alloc, board, self.windows.as_slice())?;\n        see_windows(alloc, board, &mut self.windows)?;\n",
         "        see_windows(alloc, board, &mut self.windows)?;\n        let changes = alarm_changes(alloc, board, self.windows.as_slice())?;\n",
     ),
     "looks_again_only_after_a_change": (
-        "src/course.rt",
+        "src/totals.rt",
         "        see_windows(alloc, board, &mut self.windows)?;\n",
         "        if changes.is_empty() {\n            return Ok(changes);\n        }\n        see_windows(alloc, board, &mut self.windows)?;\n",
     ),
     "loses_alarm_changes_without_memory": (
-        "src/course.rt",
+        "src/totals.rt",
         "        let changes = alarm_changes(alloc, board, self.windows.as_slice())?;\n        see_windows(alloc, board, &mut self.windows)?;\n",
         "        let now = seen_windows(alloc, board)?;\n        let changes = alarm_changes(alloc, board, self.windows.as_slice());\n        self.windows = now;\n        let changes = changes?;\n",
     ),
     "keeps_the_alarms_without_memory_for_the_changes": (
-        "src/course.rt",
+        "src/totals.rt",
         "        see_windows(alloc, board, &mut self.windows)?;\n",
         "        match seen_windows(alloc, board) {\n            Ok(now) => self.windows = now,\n            Err(_) => self.windows = Vec::new(alloc),\n        }\n",
     ),
     "a_look_at_the_alarms_counts_anew": (
-        "src/course.rt",
+        "src/totals.rt",
         "        see_windows(alloc, board, &mut self.windows)?;\n        self.announcer",
         "        see_windows(alloc, board, &mut self.windows)?;\n        if !changes.is_empty() {\n            self.taken = 0;\n            self.given_up = 0;\n        }\n        self.announcer",
     ),
     "forgets_the_second_hearing": (
         "src/round.rt",
-        "        Phase::Hearing | Phase::Listening | Phase::Resting => true,\n        Phase::Polling(_) | ",
-        "        Phase::Hearing | Phase::Resting => true,\n        Phase::Listening | Phase::Polling(_) | ",
+        "        Phase::AwaitResponses | Phase::AwaitConfirmations | Phase::BetweenRounds => true,\n        Phase::Polling(_) | ",
+        "        Phase::AwaitResponses | Phase::BetweenRounds => true,\n        Phase::AwaitConfirmations | Phase::Polling(_) | ",
     ),
     "a_wait_goes_on_after_a_timeout": (
         "src/round.rt",
@@ -868,13 +868,13 @@ BUGS = {
     ),
     "a_rest_is_prolonged": (
         "src/round.rt",
-        "        Phase::Resting => Wait::Rest,\n        _ => Wait::Renew,",
+        "        Phase::BetweenRounds => Wait::Rest,\n        _ => Wait::Renew,",
         "        _ => Wait::Renew,",
     ),
     "listening_is_never_renewed": (
         "src/round.rt",
-        "        Phase::Resting => Wait::Rest,\n        _ => Wait::Renew,",
-        "        Phase::Resting | Phase::Listening => Wait::Rest,\n        _ => Wait::Renew,",
+        "        Phase::BetweenRounds => Wait::Rest,\n        _ => Wait::Renew,",
+        "        Phase::BetweenRounds | Phase::AwaitConfirmations => Wait::Rest,\n        _ => Wait::Renew,",
     ),
     "times_out_once": (
         "src/round.rt",
@@ -898,12 +898,12 @@ BUGS = {
     ),
     "waits_after_each_timeout": (
         "src/round.rt",
-        "        Phase::TimingOut(_) if !more => Phase::Hearing,",
-        "        Phase::TimingOut(_) => Phase::Hearing,",
+        "        Phase::TimingOut(_) if !more => Phase::AwaitResponses,",
+        "        Phase::TimingOut(_) => Phase::AwaitResponses,",
     ),
     "never_ends_timing_out": (
         "src/round.rt",
-        "        Phase::TimingOut(_) if !more => Phase::Hearing,\n",
+        "        Phase::TimingOut(_) if !more => Phase::AwaitResponses,\n",
         "",
     ),
     "times_out_the_first_poll_again": (
@@ -949,7 +949,7 @@ BUGS = {
     "times_out_in_the_next_poll": (
         "src/round.rt",
         "        self.phase = Phase::TimingOut(id);\n",
-        "        self.phase = Phase::Hearing;\n",
+        "        self.phase = Phase::AwaitResponses;\n",
     ),
     "waits_half_as_long_after_timeouts": (
         "src/round.rt",
@@ -1059,7 +1059,7 @@ BUGS = {
     "forgets_the_datagrams_before_it_lends_the_receiver": (
         "src/source.rt",
         "        &mut self.receiver\n",
-        "        self.latest = Latest::new(self.alloc);\n        &mut self.receiver\n",
+        "        self.latest = NewestDatagrams::new(self.alloc);\n        &mut self.receiver\n",
     ),
     "counts_each_spell_of_a_peer": (
         "src/freshness.rt",
@@ -1120,7 +1120,7 @@ BUGS = {
     ),
     "a_round_without_targets_is_over": (
         "src/round.rt",
-        "                (Phase::Hearing, Wait::Begin(self.wait_ms))\n",
+        "                (Phase::AwaitResponses, Wait::Begin(self.wait_ms))\n",
         "                (Phase::Over, Wait::Begin(self.wait_ms))\n",
     ),
     "sends_no_octets": (
@@ -1237,7 +1237,7 @@ BUGS = {
 
 # Those that break a promise as a whole, each with its function: tests/bodies tries them in the gate.
 PROMISES = {
-    "says_all_changes_though_they_must_hold": "course::Course::take_changes",
+    "says_all_changes_though_they_must_hold": "course::Totals::take_changes",
     "the_first_wrong_engine_stays": "changes::put_engine_change",
     "keeps_no_datagram_of_a_target": "source::Rounds::keep_latest",
     "begins_a_round_before_it_lends_the_receiver": "source::Rounds::receiver_mut",

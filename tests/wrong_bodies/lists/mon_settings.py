@@ -198,8 +198,8 @@ BUGS = {
     ),
     "takes_257_instances": (
         "src/placing.rt",
-        "    if instances.len() > MOST_INSTANCES {",
-        "    if instances.len() > MOST_INSTANCES + 1 {",
+        "    if instances.len() > MAX_INSTANCES {",
+        "    if instances.len() > MAX_INSTANCES + 1 {",
     ),
     "compares_an_instance_with_its_own_name": (
         "src/placing.rt",
@@ -258,8 +258,8 @@ BUGS = {
     ),
     "takes_16_peers": (
         "src/peers.rt",
-        "    numbers.len() <= MOST_PEERS && are_others(own, numbers) && differ(numbers)",
-        "    numbers.len() <= MOST_PEERS + 1 && are_others(own, numbers) && differ(numbers)",
+        "    numbers.len() <= MAX_PEERS && are_others(own, numbers) && differ(numbers)",
+        "    numbers.len() <= MAX_PEERS + 1 && are_others(own, numbers) && differ(numbers)",
     ),
     "drops_the_peers": (
         "src/station.rt",

@@ -221,7 +221,7 @@ BUGS = {
     "tells_nothing_of_a_claim": (
         "src/life.rt",
         "            Some(number) => pairs_of(alloc, number, claim.samples.as_slice()),",
-        "            Some(_) => Ok(Pairs::new(alloc)),",
+        "            Some(_) => Ok(InstanceSamples::new(alloc)),",
     ),
     # ---- the image that is kept
     "a_claim_leaves_the_image_as_it_was": (
@@ -370,7 +370,7 @@ BUGS = {
     "tells_that_a_poll_gave_up_that_is_not_open": (
         "src/life.rt",
         "            TimedOut::NotOpen => told_none(alloc),",
-        "            TimedOut::NotOpen => Told {\n                taken: Pairs::new(alloc),\n                sends: room,\n                noted: None,\n                given_up: Some(0),\n                answered: None,\n            },",
+        "            TimedOut::NotOpen => Told {\n                taken: InstanceSamples::new(alloc),\n                sends: room,\n                noted: None,\n                given_up: Some(0),\n                answered: None,\n            },",
     ),
     "takes_no_room_to_send_again": (
         "src/life.rt",

@@ -88,13 +88,13 @@ BUGS = {
     ),
     "plans_a_counter_too_many": (
         "src/planning.rt",
-        "    if counters.len() > MOST_INSTANCES {\n        return Err",
-        "    if counters.len() > MOST_INSTANCES + 1 {\n        return Err",
+        "    if counters.len() > MAX_INSTANCES {\n        return Err",
+        "    if counters.len() > MAX_INSTANCES + 1 {\n        return Err",
     ),
     "polls_a_counter_in_two_groups": (
         "src/planning.rt",
-        "            let from = MOST_INSTANCES * number as usize;",
-        "            let from = (MOST_INSTANCES - 1) * number as usize;",
+        "            let from = MAX_INSTANCES * number as usize;",
+        "            let from = (MAX_INSTANCES - 1) * number as usize;",
     ),
     "asks_for_no_mark": (
         "src/column.rt",
@@ -303,8 +303,8 @@ BUGS = {
     ),
     "labels_an_interface_too_many": (
         "src/labelled.rt",
-        "    if count > MOST_INTERFACES {",
-        "    if count > MOST_INTERFACES + 1 {",
+        "    if count > MAX_INTERFACES {",
+        "    if count > MAX_INTERFACES + 1 {",
     ),
     "knows_no_engine_that_just_began": (
         "src/engine.rt",

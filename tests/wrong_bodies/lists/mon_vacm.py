@@ -127,8 +127,8 @@ BUGS = {
     ),
     "write_reads": (
         "src/access_entry.rt",
-        "Need::Write => &self.write_view,",
-        "Need::Write => &self.read_view,",
+        "ViewType::Write => &self.write_view,",
+        "ViewType::Write => &self.read_view,",
     ),
     "model_0_preferred": (
         "src/tables.rt",
@@ -175,12 +175,12 @@ BUGS = {
     "grants_the_view_for_reading": (
         "src/policy.rt",
         "        self.tables.entry_of(group)?.view_for(need)",
-        "        let _ = need;\n        self.tables.entry_of(group)?.view_for(Need::Read)",
+        "        let _ = need;\n        self.tables.entry_of(group)?.view_for(ViewType::Read)",
     ),
     "judges_each_need_as_reading": (
         "src/policy.rt",
         "        match self.access(community, need) {",
-        "        let _ = need;\n        match self.access(community, Need::Read) {",
+        "        let _ = need;\n        match self.access(community, ViewType::Read) {",
     ),
     "calls_a_hidden_name_no_view": (
         "src/policy.rt",
@@ -238,6 +238,6 @@ BUGS = {
 PROMISES = {
     "model_0_preferred": "tables::Tables::entry_of",
     "short_mask_by_zeros": "family::must_agree",
-    "shortest_wins": "family::Family::compare",
+    "shortest_wins": "family::ViewTreeFamily::compare",
     "unmatched_is_in_view": "policy::Policy::sees",
 }

@@ -187,7 +187,7 @@ BUGS = {
     ),
     "datagrams_have_http_wait": (
         "src/receiver.rt",
-        "        if self.unserved >= MOST_UNSERVED {\n            return Ok(None);\n        }\n",
+        "        if self.unserved >= MAX_UNSERVED {\n            return Ok(None);\n        }\n",
         "",
     ),
     "counts_no_datagram": (
@@ -197,8 +197,8 @@ BUGS = {
     ),
     "http_waits_for_a_thousand_datagrams": (
         "src/receiver.rt",
-        "const MOST_UNSERVED: u32 = 64;",
-        "const MOST_UNSERVED: u32 = 1000;",
+        "const MAX_UNSERVED: u32 = 64;",
+        "const MAX_UNSERVED: u32 = 1000;",
     ),
     "a_turn_counts_as_none": (
         "src/receiver.rt",
@@ -343,7 +343,7 @@ BUGS = {
     "http_is_due_after_each_datagram": (
         "src/receiver.rt",
         "            self.unserved += 1;",
-        "            self.unserved = MOST_UNSERVED;",
+        "            self.unserved = MAX_UNSERVED;",
     ),
     "a_datagram_from_the_sender_of_the_last": (
         "src/receiver.rt",

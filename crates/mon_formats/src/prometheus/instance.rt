@@ -76,7 +76,8 @@ pub(crate) fn put_engine(
 /// Adds the object and the index of the instance with this name.
 #[tactic(auto, unfolding(crate::specs::Prometheus::object_labels))]
 fn put_object(labels: &mut Vec<u8>, name: &str) -> Result<(), AllocError>
-    ensures { OnOk result (labels.new.items ≡ labels.old.items ++ object_labels (object_and_index name.now)) }
+    ensures { OnOk result (labels.new.items ≡ labels.old.items
+        ++ object_labels (object_and_index name.now)) }
 {
     let (object, index) = object_and_index(name);
     put_more(labels, "object", object.as_bytes())?;
@@ -128,7 +129,8 @@ pub(crate) fn at_first_dot(name: &str) -> (&str, &str)
 
 /// Adds the labels that are given, if any are.
 fn put_given(labels: &mut Vec<u8>, given: Option<&InstanceLabels>) -> Result<(), AllocError>
-    ensures { OnOk result (labels.new.items ≡ labels.old.items ++ given_labels (option_map (λ l. l.now) given.entry)) }
+    ensures { OnOk result (labels.new.items ≡ labels.old.items
+        ++ given_labels (option_map (λ l. l.now) given.entry)) }
 {
     match given {
         None => Ok(()),

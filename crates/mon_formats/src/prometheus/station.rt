@@ -214,7 +214,8 @@ fn put_plain(
     metric: StationMetric,
     value: u64,
 ) -> Result<(), AllocError>
-    ensures { OnOk result (text.new.items ≡ text.old.items ++ plain_metric format station metric value) }
+    ensures { OnOk result (text.new.items ≡ text.old.items ++ plain_metric format station metric
+        value) }
 {
     let mut buffer = Buffer::new();
     put_metric_head(format, text, metric)?;
@@ -229,7 +230,8 @@ fn put_duration(
     station: u32,
     milliseconds: u64,
 ) -> Result<(), AllocError>
-    ensures { OnOk result (text.new.items ≡ text.old.items ++ duration_text format station milliseconds) }
+    ensures { OnOk result (text.new.items ≡ text.old.items ++ duration_text format station
+        milliseconds) }
 {
     let metric = StationMetric::Duration;
     let mut seconds = Vec::new(*text.allocator());

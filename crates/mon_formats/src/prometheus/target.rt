@@ -96,7 +96,8 @@ pub(crate) fn put_targets(
     station: u32,
     targets: &[TargetFigures],
 ) -> Result<(), AllocError>
-    ensures { OnOk result (text.new.items ≡ text.old.items ++ targets_text format station targets.now) }
+    ensures { OnOk result (text.new.items ≡ text.old.items ++ targets_text format station
+        targets.now) }
 {
     put_target_metric(format, text, station, targets, TargetMetric::Up)?;
     put_target_metric(format, text, station, targets, TargetMetric::Rounds)?;
@@ -178,7 +179,8 @@ fn put_refusals(
     station: u32,
     targets: &[TargetFigures],
 ) -> Result<(), AllocError>
-    ensures { OnOk result (text.new.items ≡ text.old.items ++ refusals_text format station targets.now) }
+    ensures { OnOk result (text.new.items ≡ text.old.items ++ refusals_text format station
+        targets.now) }
 {
     let alloc = *text.allocator();
     let metric = TargetMetric::Refusal;

@@ -111,7 +111,8 @@ fn put_comment(
     metric: &[u8],
     content: &str,
 ) -> Result<(), AllocError>
-    ensures { OnOk result (text.new.items ≡ text.old.items ++ comment_line keyword.now metric.now content.now) }
+    ensures { OnOk result (text.new.items ≡ text.old.items ++ comment_line keyword.now metric.now
+        content.now) }
 {
     text.extend_from_slice(b"# ")?;
     text.extend_from_slice(keyword.as_bytes())?;
@@ -130,7 +131,8 @@ pub(crate) fn put_line(
     labels: &[u8],
     value: &[u8],
 ) -> Result<(), AllocError>
-    ensures { OnOk result (text.new.items ≡ text.old.items ++ metric_line metric.now labels.now value.now) }
+    ensures { OnOk result (text.new.items ≡ text.old.items ++ metric_line metric.now labels.now
+        value.now) }
 {
     text.extend_from_slice(metric.as_bytes())?;
     text.extend_from_slice(b"{")?;

@@ -1,7 +1,7 @@
 use Rattle.std.proofs.Common.{◌≡◌, ◌-◌, ◌++◌, rules, length, sym, ap, subst, ◌∙◌}
 use Rattle.std.specs.Prelude.{Ok}
 use Rattle.std.proofs.lemmas.Result.{IfOk-from_err}
-use Rattle.mon_agent.specs.Growing.{FitsWith, IsPut, last, more_rounds}
+use Rattle.mon_agent.specs.ResponseBuilder.{FitsWith, IsPut, last, more_rounds}
 use Rattle.mon_agent.specs.Reply.{count_of}
 use Rattle.mon_agent.proofs.Rounds.{cut_same, ended_same, above_zero, answers, at_least_one, cut_once, no_repetition, cut_round, further, on_ok, moved, part_of}
 use Rattle.mon_agent.proofs.bulk.bulk.Goals as goal

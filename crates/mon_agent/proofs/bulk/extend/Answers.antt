@@ -2,7 +2,7 @@ use Rattle.std.proofs.Common.{◌≡◌, ◌<◌, ◌++◌, ◌∷◌, [], true,
 use Rattle.std.specs.Prelude.{Ok}
 use Rattle.std.proofs.lemmas.Result.{IfOk-from_err}
 use Rattle.mon_pdu.specs.declared.message.Binding.{Binding}
-use Rattle.mon_agent.specs.Growing.{FitsWith}
+use Rattle.mon_agent.specs.ResponseBuilder.{FitsWith}
 use Rattle.mon_agent.proofs.Rounds.{cut_same, cut_at, more_at, answers, all_put, one_longer, moved, not_full, unless_err}
 use Rattle.mon_agent.proofs.bulk.extend.Goals as goal
 

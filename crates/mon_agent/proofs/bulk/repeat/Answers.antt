@@ -1,7 +1,7 @@
 use Rattle.std.proofs.Common.{◌≡◌, ◌≤◌, ◌<◌, ◌-◌, ◌++◌, ◌∷◌, [], true, length, get_or, ap, ◌∙◌}
 use Rattle.std.specs.Prelude.{Ok}
 use Rattle.std.proofs.lemmas.Result.{IfOk-from_err}
-use Rattle.mon_agent.specs.Growing.{FitsWith, last}
+use Rattle.mon_agent.specs.ResponseBuilder.{FitsWith, last}
 use Rattle.mon_agent.proofs.Rounds.{cut_same, cut_at, more_at, name_back, answers, all_put, as_wide, in_last, last_within, some_of, moved, not_full, unless_err}
 use Rattle.mon_agent.proofs.bulk.repeat.Goals as goal
 

@@ -2,7 +2,7 @@ use Rattle.std.proofs.Common.{◌≡◌, ◌++◌, ◌≤◌, ℕ, List, length,
 use Rattle.mon_pdu.specs.declared.message.Binding.{Binding}
 use Rattle.mon_mib.specs.Search.{IsSeenIn, known_in}
 use Rattle.mon_agent.specs.Bulk.{IsStepper, names_of}
-use Rattle.mon_agent.specs.Growing.{last}
+use Rattle.mon_agent.specs.ResponseBuilder.{last}
 use Rattle.mon_agent.proofs.bulk.repeat.Given as goal
 
 -- the answers to those so far of the round before were added

@@ -1,15 +1,15 @@
 use Rattle.std.proofs.Common.{◌≡◌, ◌≤◌, ◌+◌, ◌-◌, ◌++◌, suc, true, false, length, append_assoc, append-nil, ap, sym, subst, ◌∙◌, inl, inr}
 use Rattle.std.specs.Prelude.{Ok}
 use Rattle.std.proofs.lemmas.Result.{IfOk-from_err}
-use Rattle.mon_agent.specs.Bulk.{is_last}
-use Rattle.mon_agent.specs.Growing.{FitsWith, IsCut, IsPut, last, more_rounds}
+use Rattle.mon_agent.specs.Bulk.{all_end_of_mib_view}
+use Rattle.mon_agent.specs.ResponseBuilder.{FitsWith, IsCut, IsPut, last, more_rounds}
 use Rattle.mon_agent.proofs.Rounds.{cut_same, cut_longer, cut_is, none_follows, none_left, no_rounds, goes_on, answers, length-answers, all_last, one_less, unrolled, moved}
 use Rattle.mon_agent.proofs.bulk.repeat_all.Goals as goal
 
-pub returns-then-is_last-clause-put : goal.returns-then-is_last-clause-put
-returns-then-is_last-clause-put g c = λ next steps.
+pub returns-then-all_end_of_mib_view-clause-put : goal.returns-then-all_end_of_mib_view-clause-put
+returns-then-all_end_of_mib_view-clause-put g c = λ next steps.
     let at = c.loop in
-    let end : is_last (last c.args.width at.reply.bindings) ≡ true = sym c.is_last.ensures ∙ c.if-is_last.true in
+    let end : all_end_of_mib_view (last c.args.width at.reply.bindings) ≡ true = sym c.all_end_of_mib_view.ensures ∙ c.if-all_end_of_mib_view.true in
     inl (sym (at.invariant.put next steps
     ∙ (ap (λ l. at.reply.bindings ++ l) (none_follows next (c.args.rounds - at.counter) (last c.args.width at.reply.bindings) end)
     ∙ append-nil at.reply.bindings)))
@@ -19,7 +19,7 @@ returns-then-not-branch-clause-put g c = λ next steps.
     let at = c.loop in
     let width = c.args.width in
     let round = last width at.reply.bindings in
-    let other : is_last round ≡ false = sym c.is_last.ensures ∙ c.if-is_last.false in
+    let other : all_end_of_mib_view round ≡ false = sym c.all_end_of_mib_view.ensures ∙ c.if-all_end_of_mib_view.false in
     let m = c.args.rounds - (at.counter + 1) in
     let left : c.args.rounds - at.counter ≡ suc m = one_less c.args.rounds at.counter c.loop-test.true in
     let is : c.in_ok-repeat.field-0 ≡ false = c.if-not-branch.true in
@@ -37,7 +37,7 @@ loop-preserved g c =
     let at = c.loop in
     let width = c.args.width in
     let round = last width at.reply.bindings in
-    let other : is_last round ≡ false = sym c.is_last.ensures ∙ c.if-is_last.false in
+    let other : all_end_of_mib_view round ≡ false = sym c.all_end_of_mib_view.ensures ∙ c.if-all_end_of_mib_view.false in
     let m = c.args.rounds - (at.counter + 1) in
     let left : c.args.rounds - at.counter ≡ suc m = one_less c.args.rounds at.counter c.loop-test.true in
     let wide : width ≤ length c.repeat.new.reply.bindings = c.repeat.ensures.wide (c.in_ok-repeat.was ∙ ap Ok c.if-not-branch.false) in
@@ -65,17 +65,17 @@ returns-clause-put g c = λ next steps.
     ∙ (ap (λ n. at.reply.bindings ++ more_rounds next n (last c.args.width at.reply.bindings)) none
     ∙ (ap (λ l. at.reply.bindings ++ l) (no_rounds next (last c.args.width at.reply.bindings)) ∙ append-nil at.reply.bindings))))
 
-pub is_last-requires : goal.is_last-requires
-is_last-requires g c = c.loop.invariant.wide
+pub all_end_of_mib_view-requires : goal.all_end_of_mib_view-requires
+all_end_of_mib_view-requires g c = c.loop.invariant.wide
 
 pub repeat-requires : goal.repeat-requires
 repeat-requires g c = c.loop.invariant.wide
 
-pub returns-then-is_last-clause-head : goal.returns-then-is_last-clause-head
-returns-then-is_last-clause-head g c = c.loop.invariant.head
+pub returns-then-all_end_of_mib_view-clause-head : goal.returns-then-all_end_of_mib_view-clause-head
+returns-then-all_end_of_mib_view-clause-head g c = c.loop.invariant.head
 
-pub returns-then-is_last-clause-limit : goal.returns-then-is_last-clause-limit
-returns-then-is_last-clause-limit g c = c.loop.invariant.limit
+pub returns-then-all_end_of_mib_view-clause-limit : goal.returns-then-all_end_of_mib_view-clause-limit
+returns-then-all_end_of_mib_view-clause-limit g c = c.loop.invariant.limit
 
 pub returns-in_err-repeat-clause-head : goal.returns-in_err-repeat-clause-head
 returns-in_err-repeat-clause-head g c = c.repeat.ensures.head ∙ c.loop.invariant.head

@@ -2,7 +2,7 @@ use Rattle.std.proofs.Common.{◌≡◌, ◌++◌, ◌-◌, ◌≤◌, ℕ, List
 use Rattle.mon_pdu.specs.declared.message.Binding.{Binding}
 use Rattle.mon_mib.specs.Search.{IsSeenIn, known_in}
 use Rattle.mon_agent.specs.Bulk.{IsStepper}
-use Rattle.mon_agent.specs.Growing.{last, more_rounds}
+use Rattle.mon_agent.specs.ResponseBuilder.{last, more_rounds}
 use Rattle.mon_agent.proofs.bulk.repeat_all.Given as goal
 
 -- what had to be added at first is what was added, and then what must be added to that

@@ -12,5 +12,5 @@ invariant-loop-name g l = record {
   long : length l.names ≡ length l.fn.names;
   rest : drop l.name-index l.names ≡ drop l.name-index l.fn.names;
   put : ((before : List Binding) → l.fn.list.items ≡ list_contents before
-      → IsSoFar (known_in g.D.Device.held l.fn.search) (IsSeenIn l.fn.search) before (take l.name-index l.fn.names) (take l.name-index l.names) l.is_last l.list.items);
+      → IsSoFar (known_in g.D.Device.held l.fn.search) (IsSeenIn l.fn.search) before (take l.name-index l.fn.names) (take l.name-index l.names) l.all_end l.list.items);
 }

@@ -3,7 +3,7 @@ use Rattle.mon_pdu.specs.declared.message.Body.TheVariants as bodies
 use Rattle.mon_pdu.specs.declared.message.Message.{Message}
 use Rattle.mon_pdu.specs.Sizes.{with_bindings}
 use Rattle.mon_agent.specs.Bulk.{full_list}
-use Rattle.mon_agent.specs.Growing.{Grown, FitsWith}
+use Rattle.mon_agent.specs.ResponseBuilder.{Grown, FitsWith}
 use Rattle.mon_agent.specs.Reply.{answered}
 use Rattle.mon_agent.proofs.Longest.{longest}
 use Rattle.mon_agent.proofs.Rounds.{ended_same, fits_same}

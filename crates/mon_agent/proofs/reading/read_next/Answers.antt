@@ -4,7 +4,7 @@ use Rattle.mon_pdu.specs.declared.message.Binding.{Binding}
 use Rattle.mon_pdu.specs.Sizes.{with_bindings}
 use Rattle.mon_mib.specs.Search.{IsSeenIn, known_in}
 use Rattle.mon_agent.specs.Bulk.{names_of}
-use Rattle.mon_agent.specs.Growing.{Grown, FitsWith, IsCut, IsPut}
+use Rattle.mon_agent.specs.ResponseBuilder.{Grown, FitsWith, IsCut, IsPut}
 use Rattle.mon_agent.specs.Reply.{too_big, IsAboveLimit, IsOut}
 use Rattle.mon_agent.specs.Step.{IsNextAnswer}
 use Rattle.mon_agent.proofs.Read.{cut_above, same_head, sent_for}

@@ -4,7 +4,7 @@ use Rattle.std.proofs.lemmas.List.{map-append}
 use Rattle.std.proofs.lemmas.Iterator.Consumers.{YieldsList-end}
 use Rattle.std.proofs.lemmas.Iterator.Splits.{YieldsList-from_lines}
 use Rattle.hex.specs.Hex.{decode_of}
-use Rattle.mon_vacm.specs.Tables.{Lists}
+use Rattle.mon_vacm.specs.Tables.{PolicyTables}
 use Rattle.mon_mib.specs.declared.settings.Settings.{Settings}
 use Rattle.mon_agent.specs.State.{policy_of, settings_of}
 use Rattle.mon_app.specs.Served.{AnswersIt, stands}
@@ -24,7 +24,7 @@ loop-line-preserved g c =
     let line = c.in-Some.line.now in
     let something : is_read line ≡ true = search (rules) in
     let more : Appends (IsPrinted Here c.args.scene.now (decode_of line) between after) old new =
-    moved (λ (p : Lists) (s : Settings). Appends (IsPrinted (Answers p s) c.args.scene.now (decode_of line) between after) old new)
+    moved (λ (p : PolicyTables) (s : Settings). Appends (IsPrinted (Answers p s) c.args.scene.now (decode_of line) between after) old new)
     (policy_of c.loop-line.agent) (policy_of c.args.agent.now) (settings_of c.loop-line.agent) (settings_of c.args.agent.now) c.loop-line.invariant.policy
     c.loop-line.invariant.settings c.in_ok-put_line.ensures.printed in
     record {

@@ -1,5 +1,5 @@
 use Rattle.std.proofs.Common.{◌∙◌, ◌-◌, ℕ, arith, refl, subst}
-use Rattle.mon_vacm.specs.Tables.{Lists}
+use Rattle.mon_vacm.specs.Tables.{PolicyTables}
 use Rattle.mon_mib.specs.declared.settings.Settings.{Settings}
 use Rattle.mon_agent.specs.declared.reply.Reply.{Reply}
 use Rattle.mon_agent.specs.State.{policy_of, settings_of}
@@ -19,7 +19,7 @@ loop-preserved g c =
     let after = stands c.answer_once.new.agent in
     let reply = c.in_ok-answer_once.field-0 in
     let Arrives = arrives (Answers (policy_of c.args.agent.now) (settings_of c.args.agent.now)) c.args.datagram.now c.args.scene.now.at in
-    let last = moved (λ (p : Lists) (s : Settings). Answers p s between after c.args.datagram.now c.args.scene.now.at reply)
+    let last = moved (λ (p : PolicyTables) (s : Settings). Answers p s between after c.args.datagram.now c.args.scene.now.at reply)
     (policy_of c.loop.agent) (policy_of c.args.agent.now) (settings_of c.loop.agent) (settings_of c.args.agent.now) c.loop.invariant.policy c.loop.invariant.settings
     c.in_ok-answer_once.ensures.reply in
     record {
@@ -40,7 +40,7 @@ returns-clause-reply g c =
     (IsLastReply Arrives c.args.scene.now.times before after) c.answer_once-2.result (λ reply last. record {
       between = between;
       earlier = subst (λ (n : ℕ). AreArrivals Arrives n before between) (omega arith) c.loop.invariant.arrived;
-      last = moved (λ (p : Lists) (s : Settings). Answers p s between after c.args.datagram.now c.args.scene.now.at reply)
+      last = moved (λ (p : PolicyTables) (s : Settings). Answers p s between after c.args.datagram.now c.args.scene.now.at reply)
           (policy_of c.loop.agent) (policy_of c.args.agent.now) (settings_of c.loop.agent) (settings_of c.args.agent.now) c.loop.invariant.policy c.loop.invariant.settings last;
     }) c.answer_once-2.ensures.reply
 

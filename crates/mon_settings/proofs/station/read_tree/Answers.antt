@@ -8,7 +8,7 @@ use Rattle.mon_settings.specs.StationAccepted.{Scalars, core_from}
 use Rattle.mon_settings.specs.Placing.{instances_of_rows}
 use Rattle.mon_settings.specs.Resolving.{resolution}
 use Rattle.mon_settings.specs.Station.{rules_at, scalars_view, station_of}
-use Rattle.mon_core.specs.StationCore.{IsCore}
+use Rattle.mon_config.specs.StationCore.{IsCore}
 use Rattle.mon_settings.proofs.ForCores.{core_read}
 use Rattle.mon_settings.proofs.station.read_tree.Goals as goal
 

@@ -5,7 +5,7 @@ use Rattle.std.specs.declared.alloc.AllocError.{AllocError}
 use Rattle.mon_alarms.specs.Announcing.{announced_of}
 use Rattle.mon_board.specs.declared.board.Board.{Board}
 use Rattle.mon_host.specs.Log.{GoesOnBy}
-use Rattle.mon_rounds.specs.Course.{changes_since}
+use Rattle.mon_rounds.specs.Totals.{changes_since}
 use Rattle.mon_station.specs.State.{state_of}
 use Rattle.mon_station_commands.specs.Telling.{AreSaid, alarm_note, announced_notes}
 use Rattle.mon_station_commands.proofs.Accounts.{alarmed, half_alarmed, unalarmed}

@@ -1,6 +1,6 @@
 use Rattle.std.proofs.Common.{◌≡◌, ◌+◌, ◌-◌, ◌++◌, ◌∷◌, [], List, ℕ, sym, ◌∙◌, ap, subst, arith}
 use Rattle.std.specs.Prelude.{◌==◌, if◌then◌else◌}
-use Rattle.mon_core.specs.StationCore.{ArePeersOf, Core}
+use Rattle.mon_config.specs.StationCore.{ArePeersOf, Core}
 use Rattle.mon_station.specs.Opened.{setting_in}
 use Rattle.mon_world.specs.Places.{others_to, setting_at}
 use Rattle.mon_world.proofs.Others.{others_next, peers_of_station}

@@ -1,5 +1,5 @@
 use Rattle.std.proofs.Common.{◌≤◌, sym, subst}
-use Rattle.mon_reasons.specs.declared.latest.Datagram.{Datagram}
+use Rattle.mon_reasons.specs.declared.newest_datagrams.Datagram.{Datagram}
 use Rattle.mon_rounds.proofs.Few.{keeps_few, kept_or_refused, most_within}
 use Rattle.mon_rounds.specs.Kept.{count_at, kept_in}
 use Rattle.mon_rounds.proofs.source.Rounds.keep_latest.Goals as goal

@@ -49,8 +49,8 @@ returns-in-Ok-clause-last g c = λ honest.
     let octets = ap (λ l. drop 16 l) c.as_mut_slice.ensures.value ∙ image.written in
     record { octets = c.in-Ok.ensures.save.last honest ∙ ap Some octets; spells = image.spells }
 
-pub save_again-requires-clause-fits : goal.save_again-requires-clause-fits
-save_again-requires-clause-fits g c =
+pub reopen_and_save-requires-clause-fits : goal.reopen_and_save-requires-clause-fits
+reopen_and_save-requires-clause-fits g c =
     let image = c.in_ok-image.ensures in
     let octets = ap (λ l. drop 16 l) c.as_mut_slice.ensures.value ∙ image.written in
     omega (arith, ap length octets, image.few)

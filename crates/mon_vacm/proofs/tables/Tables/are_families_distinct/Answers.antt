@@ -1,17 +1,17 @@
 use Rattle.std.proofs.Common.{◌≡◌, take, Any, List, ℕ, refl, sym, ◌∙◌, subst}
 use Rattle.std.proofs.lemmas.Bool.{false≢true}
 use Rattle.std.proofs.lemmas.List.{take_all}
-use Rattle.mon_vacm.specs.declared.family.Family.{Family}
+use Rattle.mon_vacm.specs.declared.family.ViewTreeFamily.{ViewTreeFamily}
 use Rattle.mon_vacm.specs.Tables.{AreFamiliesDistinct}
 use Rattle.mon_vacm.proofs.Distinct.{pairs_more, twins}
 use Rattle.mon_vacm.proofs.tables.Tables.are_families_distinct.Goals as goal
 
-abbrev Alike : Family → Family → Type 0
+abbrev Alike : ViewTreeFamily → ViewTreeFamily → Type 0
 Alike f g = (f.view_name ≡ g.view_name) × (f.subtree ≡ g.subtree)
 
 -- some of the families is of the view and has the subtree
-abbrev HasOne : List Family → List ℕ → List ℕ → Type 0
-HasOne families subtree view = Any (λ (f : Family). (f.view_name ≡ view) × (f.subtree ≡ subtree)) families
+abbrev HasOne : List ViewTreeFamily → List ℕ → List ℕ → Type 0
+HasOne families subtree view = Any (λ (f : ViewTreeFamily). (f.view_name ≡ view) × (f.subtree ≡ subtree)) families
 
 pub returns-then-has_family : goal.returns-then-has_family
 returns-then-has_family c =
