@@ -96,7 +96,7 @@ pub reads : (kind : PduKind) → (kind ≡ kinds.Get) ⊎ (kind ≡ kinds.GetNex
 reads kind (inl e) = rw e (refl, refl)
 reads kind (inr e) = rw e (refl, refl)
 
-module _ {D : Type 0} (held : D → Held) (failed : D → ℕ) (refuses : D → Change → Type 0) (policy : Lists) (k : Known) where
+module _ {D : Type 0} (held : D → Held) (failed : D → ℕ) (refuses : D → Change → Type 0) (policy : PolicyTables) (k : Known) where
   -- a response that is written answers a request to read
   pub read_answered : (device : D) (m : Message) (view : List ℕ) (answers : List Binding) (octets : Vec ℕ) → need_of m.body ≡ Read → is_request m.body ≡ true
       → access_of policy m.community Read ≡ Ok view → AreAnswers k (IsInView policy.families view) m m.body answers

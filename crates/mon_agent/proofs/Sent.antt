@@ -83,7 +83,7 @@ set_answers (bodies.Bulk p) e = absurd cc
 pub known_view : (policy : PolicyTables) (m : Message) (view : List ℕ) → access_of policy m.community (need_of m.body) ≡ Ok view → IsKnown policy m
 known_view policy m view access unknown = absurd cc
 
-module _ {D : Type 0} (held : D → Held) (failed : D → ℕ) (refuses : D → Change → Type 0) (policy : Lists) (k : Known) where
+module _ {D : Type 0} (held : D → Held) (failed : D → ℕ) (refuses : D → Change → Type 0) (policy : PolicyTables) (k : Known) where
   -- what becomes of a response answers its request
   pub out_answers : (before after : D) (m reply : Message) (r : Reply) → IsKnown policy m → is_request m.body ≡ true
       → IsResponseTo held failed refuses policy k before after m reply → too_big reply ≡ too_big m → IsOut k.settings.limit reply reply r
@@ -309,7 +309,7 @@ one (negsuc n) not_other = absurd (not_other (λ e. negative e))
 pub not_true : {A : Type 0} → false ≡ true → A
 not_true e = absurd cc
 
-module _ {D : Type 0} (held : D → Held) (failed : D → ℕ) (refuses : D → Change → Type 0) (policy : Lists) (k : Known) (device : D) where
+module _ {D : Type 0} (held : D → Held) (failed : D → ℕ) (refuses : D → Change → Type 0) (policy : PolicyTables) (k : Known) (device : D) where
   broken : (datagram : List ℕ) (r : Result Message PduFault) (e : PduFault) (cause : Silence) → r ≡ Err e
       → Some BadMessage ≡ Some cause → ((m : Message) → Gives (λ x. x) (Err e) (Ok m) → ⊥) → ((v : ℤ) → e ≢ faults.BadVersion v)
       → ((m : Message) → BeginsWithMessage datagram m → Gives (λ x. x) r (Ok m))

@@ -115,7 +115,7 @@ not_false false h = refl
 abbrev failed : Key → Result PolicyTables SettingsFault
 failed k = Err (bad_value k)
 
-module _ (t : Lists) where
+module _ (t : PolicyTables) where
   distinct : (communities_differ t.communities ≡ true) ↔ AreCommunitiesDistinct t.communities
   distinct = (pairs_from other_names _ names_differ t.communities, pairs_to other_names _ names_differ t.communities)
 

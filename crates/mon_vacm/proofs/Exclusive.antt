@@ -7,7 +7,7 @@ use Rattle.mon_vacm.specs.Decision.{IsRight}
 use Rattle.mon_vacm.specs.Tables.{PolicyTables}
 use Rattle.mon_vacm.specs.View.{IsInView}
 
-module _ (tables : Lists) (community : List ℕ) (need : ViewType) (name : List ℕ) where
+module _ (tables : PolicyTables) (community : List ℕ) (need : ViewType) (name : List ℕ) where
   pub one_decision : (d e : Decision) → IsRight tables community need name d → IsRight tables community need name e → d ≡ e
   one_decision decision.Allowed decision.Allowed p q = refl
   one_decision decision.Allowed (decision.Denied why) p q = let both = sym p.1 ∙ q in cc
