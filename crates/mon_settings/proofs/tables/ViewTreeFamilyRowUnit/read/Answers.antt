@@ -1,7 +1,7 @@
 use Rattle.std.proofs.Common.{arith}
 use Rattle.std.proofs.lemmas.Grind.{common_steps}
 use Rattle.mon_settings.specs.Tables.{family_of}
-use Rattle.mon_settings.proofs.tables.FamilyRowUnit.read.Goals as goal
+use Rattle.mon_settings.proofs.tables.ViewTreeFamilyRowUnit.read.Goals as goal
 
 pub returns : goal.returns
 unfolding family_of
