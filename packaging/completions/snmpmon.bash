@@ -72,9 +72,9 @@ _snmpmon() {
             operands=('-' '-' '-' 'integer string hex oid ip counter32 gauge32 timeticks counter64' '-')
             ;;
         settings)
-            options=' --station --listen --file --window --wait-ms --tries --peer --only --up --match --thresholds --split --append --update --labels -m --module -h --help '
+            options=' --station --listen --file --window --wait-ms --tries --peer --only --up --match --thresholds --split --machines --stations --first-group --append --update --labels -m --module -h --help '
             again=' --peer -m --module '
-            takes=([--station]='-' [--listen]='-' [--file]='@*' [--window]='-' [--wait-ms]='-' [--tries]='-' [--peer]='-' [--only]='-' [--match]='-' [--thresholds]='-' [--split]='-' [--append]='@*' [--update]='@*' [--labels]='@*' [-m]='@*' [--module]='@*')
+            takes=([--station]='-' [--listen]='-' [--file]='@*' [--window]='-' [--wait-ms]='-' [--tries]='-' [--peer]='-' [--only]='-' [--match]='-' [--thresholds]='-' [--split]='-' [--machines]='@*' [--stations]='-' [--first-group]='-' [--append]='@*' [--update]='@*' [--labels]='@*' [-m]='@*' [--module]='@*')
             operands=('-' '-')
             ;;
         agent)
@@ -95,9 +95,9 @@ _snmpmon() {
             operands=('@*')
             ;;
         station)
-            options=' --rounds --check --follow-settings --interval --phase --report-every --save-every --stale-after --alarm-after --log-levels --out --http --http-host --labels --station-label --format --columns --sort -m --module --names -h --help '
+            options=' --rounds --check --follow-settings --interval --phase --report-every --save-every --stale-after --alarm-after --log-levels --out --http --http-host --notify --labels --station-label --format --columns --sort -m --module --names -h --help '
             again=' --http-host -m --module '
-            takes=([--rounds]='-' [--interval]='-' [--phase]='-' [--report-every]='-' [--save-every]='-' [--stale-after]='-' [--alarm-after]='-' [--out]='@*' [--http]='-' [--http-host]='-' [--labels]='@*' [--format]='text json prometheus openmetrics columns html' [--sort]='name rate alarm age' [-m]='@*' [--module]='@*')
+            takes=([--rounds]='-' [--interval]='-' [--phase]='-' [--report-every]='-' [--save-every]='-' [--stale-after]='-' [--alarm-after]='-' [--out]='@*' [--http]='-' [--http-host]='-' [--notify]='-' [--labels]='@*' [--format]='text json prometheus openmetrics columns html' [--sort]='name rate alarm age' [-m]='@*' [--module]='@*')
             operands=('@*.toml')
             ;;
         report)

@@ -217,6 +217,11 @@ METRICS = {
         "Datagrams since the station began from an address of no target and no peer. "
         "Find the sender where it rises.",
     ),
+    "snmpmon_notifications_dropped_total": (
+        "counter",
+        "Notifications that the station could not deliver and dropped since it began. "
+        "Look at the receiver of --notify where it rises.",
+    ),
     "snmpmon_round_duration_seconds": (
         "gauge",
         "How long the last round took. "
@@ -316,6 +321,8 @@ class Station:
     interval: int = 0
     # How many of its rounds took longer than that.
     overruns: int = 0
+    # How many notifications it dropped; None where it sends none.
+    dropped: int | None = None
     # What `--version` prints behind the program's name.
     version: str = ""
 
@@ -330,16 +337,26 @@ class Station:
 
     def said_once(self):
         """What it says in one line each, by the names of metrics."""
-        return {
+        said = {
             "incarnation": self.incarnation,
             "samples_taken_total": self.taken,
             "polls_given_up_total": self.given_up,
             "saves_failed_total": self.failed_saves,
             "strangers_total": self.strangers,
+            "notifications_dropped_total": self.dropped,
             "round_duration_seconds": points(self.round_ms),
             "round_interval_seconds": self.interval,
             "rounds_overrun_total": self.overruns,
-        } | ({} if self.round_at is None else {"last_round_timestamp_seconds": self.round_at})
+            "last_round_timestamp_seconds": self.round_at,
+        }
+        return {name: value for name, value in said.items() if value is not None}
+
+    def unsaid(self):
+        """The metrics that are not there: of a round before the first one, and of notifications where
+        none are sent.
+        """
+        there = {f"snmpmon_{name}" for name in self.said_once()}
+        return {"snmpmon_last_round_timestamp_seconds", "snmpmon_notifications_dropped_total"} - there
 
     def said_of_peers(self):
         """What it says of each peer, by the names of metrics."""
@@ -425,7 +442,7 @@ def prometheus(instances, station=None, label=None, head=plain_head):
     shown = list(METRICS)[:OF_INSTANCES]
     if station:
         lines.update(station.lines(instances, label))
-        shown = [name for name in METRICS if name != "snmpmon_last_round_timestamp_seconds" or station.round_at is not None]
+        shown = [name for name in METRICS if name not in station.unsaid()]
     heads = {name: head(name, kind, words) for name, (kind, words) in METRICS.items()}
     return "".join(heads[name] + "".join(lines.get(name, [])) for name in shown)
 

@@ -139,6 +139,8 @@ STATIONS = {
     "Failed saves": [both(0)],
     "Rounds overrun": [both((0, MANY))],
     "Strangers": [both(0)],
+    # Neither station sends any.
+    "Notifications dropped": [{}],
 }
 EXPECTED = {"overview": OVERVIEW, "device": DEVICE, "interface": INTERFACE, "stations": STATIONS}
 # After station 2 was killed: it is gone, and not also a silent peer.

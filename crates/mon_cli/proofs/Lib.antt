@@ -3,3 +3,4 @@ pub mod Commands
 pub mod Reading
 pub mod Simple
 pub mod Walked
+pub mod Within

@@ -167,8 +167,14 @@ IsStation rows w = IsSettings rows w.settings
     × (option_map (λ o. o.now) w.out ≡ first_of (codes "out") rows)
     × (option_map (λ o. o.now) w.http ≡ first_of (codes "http") rows)
     × (texts w.http_hosts.now ≡ all_in (codes "http-host") rows)
+    × (option_map (λ o. o.now) w.notify ≡ first_of (codes "notify") rows)
     × (option_map (λ o. o.now) w.labels ≡ first_of (codes "labels") rows)
     × IsPrinted rows w.printed
+
+-- --stations or --first-group was given
+abbrev pub numbers_groups : List Row → Bool
+numbers_groups rows = is_some (first_of (codes "stations") rows)
+    || is_some (first_of (codes "first-group") rows)
 
 -- the arguments of `settings`
 abbrev pub IsSurvey : List Row → SettingsArgs → Type 0
@@ -186,6 +192,10 @@ IsSurvey rows w = (w.address.now ≡ text_in (codes "ADDRESS") rows)
     × (w.part.now ≡ text_in (codes "match") rows)
     × (option_map (λ o. o.now) w.thresholds ≡ first_of (codes "thresholds") rows)
     × (option_map (λ o. o.now) w.split ≡ first_of (codes "split") rows)
+    × (option_map (λ o. o.now) w.machines ≡ first_of (codes "machines") rows)
+    × IsNumberOr 32 1 (one_of (codes "stations") rows) w.stations
+    × IsNumberOr 32 1 (one_of (codes "first-group") rows) w.first_group
+    × (w.numbered ≡ numbers_groups rows)
     × (option_map (λ o. o.now) w.append ≡ first_of (codes "append") rows)
     × (option_map (λ o. o.now) w.update ≡ first_of (codes "update") rows)
     × (option_map (λ o. o.now) w.labels ≡ first_of (codes "labels") rows)
@@ -299,6 +309,8 @@ IsWithin (asked.Settings w) = IsIn (value_of commands.Settings (codes "station")
     × IsIn (value_of commands.Settings (codes "window")) w.window
     × IsIn (value_of commands.Settings (codes "wait-ms")) w.wait_ms
     × IsIn (value_of commands.Settings (codes "tries")) w.tries
+    × IsIn (value_of commands.Settings (codes "stations")) w.stations
+    × IsIn (value_of commands.Settings (codes "first-group")) w.first_group
 IsWithin (asked.Agent w) = IfSome w.boots (IsSignedIn (value_of commands.Agent (codes "boots")))
     × IsIn (value_of commands.Agent (codes "count")) w.count
 IsWithin (asked.Answer w) = IfSome w.boots (IsSignedIn (value_of commands.Answer (codes "boots")))
@@ -330,6 +342,16 @@ LacksSource _ = ⊥
 abbrev pub LacksNumber : Asked → Type 0
 LacksNumber (asked.Report w) = (w.printed.station_label ≡ true) × (w.settings ≡ None)
 LacksNumber _ = ⊥
+
+-- stations that are to be placed on machines, and no folder for their settings
+abbrev pub LacksSplit : Asked → Type 0
+LacksSplit (asked.Settings w) = IsSome w.machines × (w.split ≡ None)
+LacksSplit _ = ⊥
+
+-- how many stations a group has, or the number of the first group, and no machines
+abbrev pub LacksMachines : Asked → Type 0
+LacksMachines (asked.Settings w) = (w.numbered ≡ true) × (w.machines ≡ None)
+LacksMachines _ = ⊥
 
 -- a report whose rows are sorted and which is no table
 abbrev pub SortsNoTable : Printed → Type 0

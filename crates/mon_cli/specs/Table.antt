@@ -109,6 +109,9 @@ arguments commands.Settings = addressed
     ∷ option (codes "match") Text
     ∷ option (codes "thresholds") Text
     ∷ option (codes "split") Text
+    ∷ option (codes "machines") Text
+    ∷ option (codes "stations") (up_to 1 3)
+    ∷ option (codes "first-group") (up_to 1 49435)
     ∷ option (codes "append") Text
     ∷ option (codes "update") Text
     ∷ option (codes "labels") Text
@@ -135,6 +138,7 @@ arguments commands.Station = settings
     ∷ option (codes "out") Text
     ∷ option (codes "http") Text
     ∷ repeated (codes "http-host")
+    ∷ option (codes "notify") Text
     ∷ option (codes "labels") Text
     ∷ flag (codes "station-label")
     ∷ sorted

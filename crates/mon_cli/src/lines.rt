@@ -451,6 +451,18 @@ localhost and addresses are always served, and a
 request for another name gets 421",
 };
 
+const NOTIFY: Line = Line {
+    id: "notify",
+    form: Form::Long,
+    takes: Takes::One(Value::Text),
+    needed: false,
+    shown: "URL",
+    help: "Sends each announced change of an alarm, and each
+device that goes down or comes up, to this URL
+(http://ADDRESS:PORT/PATH) as a JSON object in the
+form of Alertmanager's webhook",
+};
+
 const LABELS: Line = Line {
     id: "labels",
     form: Form::Long,
@@ -586,7 +598,7 @@ static ANSWER: [Line; 7] = [AGENT_SETTINGS, BOOTS, AT, FUSES, TIMES, MODULE, NAM
 
 static MIB: [Line; 2] = [FILE, MODULE];
 
-static STATION: [Line; 21] = [
+static STATION: [Line; 22] = [
     SETTINGS,
     ROUNDS,
     CHECK,
@@ -601,6 +613,7 @@ static STATION: [Line; 21] = [
     OUT,
     HTTP,
     HTTP_HOST,
+    NOTIFY,
     LABELS,
     STATION_LABEL,
     FORMAT,

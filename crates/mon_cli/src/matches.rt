@@ -3,7 +3,7 @@
 ghost use Rattle.std.specs.Prelude.{◌≡◌, ◌≢◌, IfNone, IfSome, codes, option_map};
 ghost use Rattle.clap.specs.Words.{first_of, found_of, one_of, rows_of, subcommand_rows_of};
 ghost use Rattle.clap.specs.Walk.{texts};
-ghost use Rattle.mon_cli.specs.Asked.{AreAllowed, AreThere, AsksFor, IsAgent, IsAnswer, IsFormat, IsInteger, IsNamed, IsNumber, IsNumberOr, IsCarry, IsPrinted, IsRequest, IsSaved, IsScene, IsSort, IsStation, IsSurvey, IsTiming, IsTimingIn, IsWithin, Says, all_in, is_on, names_format, text_in, wants_report};
+ghost use Rattle.mon_cli.specs.Asked.{AreAllowed, AreThere, AsksFor, IsAgent, IsAnswer, IsFormat, IsInteger, IsNamed, IsNumber, IsNumberOr, IsCarry, IsPrinted, IsRequest, IsSaved, IsScene, IsSort, IsStation, IsSurvey, IsTiming, IsTimingIn, IsWithin, Says, all_in, is_on, names_format, numbers_groups, text_in, wants_report};
 ghost use Rattle.mon_cli.specs.Program.{IsParse};
 ghost use Rattle.mon_cli.specs.SortWord.{sort_word};
 ghost use Rattle.mon_cli.specs.Table.{arguments};
@@ -243,9 +243,18 @@ fn station<'m, 'a>(matches: &'m ArgMatches<'a>) -> StationArgs<'m, 'a>
         out: find_value(matches, "out"),
         http: find_value(matches, "http"),
         http_hosts: all(matches, "http-host"),
+        notify: find_value(matches, "notify"),
         labels: find_value(matches, "labels"),
         printed: read_printed(matches),
     }
+}
+
+/// Returns `true` if the arguments say how many stations a group has, or the number of the first
+/// group.
+fn numbers_groups(matches: &ArgMatches<'_>) -> bool
+    ensures { result ≡ numbers_groups (rows_of (found_of matches.now)) }
+{
+    find_value(matches, "stations").is_some() || find_value(matches, "first-group").is_some()
 }
 
 /// Returns the station whose settings are printed.
@@ -269,6 +278,10 @@ fn survey<'m, 'a>(matches: &'m ArgMatches<'a>) -> SettingsArgs<'m, 'a>
         part: text(matches, "match"),
         thresholds: find_value(matches, "thresholds"),
         split: find_value(matches, "split"),
+        machines: find_value(matches, "machines"),
+        stations: number_or(matches, "stations", 1),
+        first_group: number_or(matches, "first-group", 1),
+        numbered: numbers_groups(matches),
         append: find_value(matches, "append"),
         update: find_value(matches, "update"),
         labels: find_value(matches, "labels"),

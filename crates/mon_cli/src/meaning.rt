@@ -1,7 +1,7 @@
 //! What the arguments ask for.
 
 ghost use Rattle.std.specs.Prelude.{◌↔◌, IsTrue};
-ghost use Rattle.mon_cli.specs.Asked.{LacksColumns, LacksInterval, LacksNumber, LacksRounds, LacksSource, SortsNoTable};
+ghost use Rattle.mon_cli.specs.Asked.{LacksColumns, LacksInterval, LacksMachines, LacksNumber, LacksRounds, LacksSource, LacksSplit, SortsNoTable};
 
 use mon_formats::{Format, Sort};
 
@@ -137,6 +137,15 @@ pub struct SettingsArgs<'m, 'a> {
     pub thresholds: Option<&'a str>,
     /// The folder of several files of settings, if the arguments say so.
     pub split: Option<&'a str>,
+    /// The file of the machines that the stations of a network are placed on, if the arguments say
+    /// so.
+    pub machines: Option<&'a str>,
+    /// How many stations of a network poll each group of counters, 1 to 3.
+    pub stations: u32,
+    /// The number of a network's first group of counters, 1 to 49435.
+    pub first_group: u32,
+    /// `true` if the arguments say how many stations a group has, or the number of the first group.
+    pub numbered: bool,
     /// The file of the settings whose targets come first, if the arguments say so.
     pub append: Option<&'a str>,
     /// The file of the settings whose targets of the agent are brought up to date, if the arguments
@@ -200,6 +209,8 @@ pub struct StationArgs<'m, 'a> {
     pub http: Option<&'a str>,
     /// The names by which that is reached, in the order of the command line.
     pub http_hosts: &'m [&'a str],
+    /// The URL that changes of alarms and devices are sent to, if the arguments say so.
+    pub notify: Option<&'a str>,
     /// The file of labels of interfaces, if the arguments say so.
     pub labels: Option<&'a str>,
     pub printed: Printed<'m, 'a>,
@@ -309,6 +320,28 @@ impl Asked<'_, '_> {
     {
         match self {
             Asked::Report(words) => words.printed.station_label && words.settings.is_none(),
+            _ => false,
+        }
+    }
+
+    /// Returns `true` if stations are to be placed on machines, and no folder is named for their
+    /// settings.
+    pub fn lacks_split(&self) -> bool
+        ensures { IsTrue result ↔ LacksSplit self.now }
+    {
+        match self {
+            Asked::Settings(words) => words.machines.is_some() && words.split.is_none(),
+            _ => false,
+        }
+    }
+
+    /// Returns `true` if the arguments say how many stations a group has, or the number of the
+    /// first group, and name no machines that they would be on.
+    pub fn lacks_machines(&self) -> bool
+        ensures { IsTrue result ↔ LacksMachines self.now }
+    {
+        match self {
+            Asked::Settings(words) => words.numbered && words.machines.is_none(),
             _ => false,
         }
     }

@@ -124,6 +124,39 @@ counters, with ports and files counted up, and
 prints their names",
 };
 
+const MACHINES: Line = Line {
+    id: "machines",
+    form: Form::Long,
+    takes: Takes::One(Value::Text),
+    needed: false,
+    shown: "FILE",
+    help: "With --split: places the stations of a network on
+the machines in FILE, a line each with its name and
+its IPv4 address, and writes Prometheus' targets",
+};
+
+const GROUP_STATIONS: Line = Line {
+    id: "stations",
+    form: Form::Long,
+    takes: Takes::One(Value::Number(1, 3)),
+    needed: false,
+    shown: "K",
+    help: "With --machines: how many stations poll each 256
+counters, each on another machine, 1 to 3; 1 if not
+given",
+};
+
+const FIRST_GROUP: Line = Line {
+    id: "first-group",
+    form: Form::Long,
+    takes: Takes::One(Value::Number(1, 49_435)),
+    needed: false,
+    shown: "N",
+    help: "With --machines: the number of the first 256
+counters, from which names, ports and places are
+counted up, 1 to 49435; 1 if not given",
+};
+
 const APPEND: Line = Line {
     id: "append",
     form: Form::Long,
@@ -158,7 +191,7 @@ agent's tables in FILE at once",
 };
 
 /// The options and operands of `settings`.
-pub(crate) static SURVEY: [Line; 18] = [
+pub(crate) static SURVEY: [Line; 21] = [
     ADDRESS,
     COMMUNITY,
     OWN_NUMBER,
@@ -173,6 +206,9 @@ pub(crate) static SURVEY: [Line; 18] = [
     MATCH,
     THRESHOLDS,
     SPLIT,
+    MACHINES,
+    GROUP_STATIONS,
+    FIRST_GROUP,
     APPEND,
     UPDATE,
     WRITTEN_LABELS,

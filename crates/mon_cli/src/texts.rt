@@ -137,6 +137,13 @@ From the second on the ports of --listen and --peer are counted up, and the
 number follows the name of its file. If one of the files is there, nothing is
 written.
 
+With --split and --machines they are those of a network: group 1 is the first
+256 counters, group 2 the next, and so on from --first-group. FOLDER has a file
+group-G-station-K.toml for each station of a group, which listens at port 16100
++ G of its machine and has the other stations of its group as peers, targets.json
+for Prometheus, with their HTTP at port 9700 + G, and units.txt, a line for each
+station with its machine. The stations of a group are on different machines.
+
 With --append the settings in FILE come first, octet by octet, and then the
 targets of this agent and their alarms; options of the station are FILE's own.
 An engine id that FILE has ends it with 10 SameEngine, more than 64 targets in
@@ -152,6 +159,7 @@ got another number. `carry` then takes the windows over.
 
 Examples: snmpmon settings 127.0.0.1:16100 public > station.toml
           snmpmon settings 127.0.0.1:16100 public --up --only octets,packets --thresholds 80% > station.toml
+          snmpmon settings 127.0.0.1:16100 public --split network --machines machines.txt --stations 2
           snmpmon settings 127.0.0.1:16110 public --append station.toml > both.toml
           snmpmon settings 127.0.0.1:16100 public --update station.toml > new.toml";
 
@@ -241,6 +249,7 @@ save was ever finished, counts as new.
 Examples: snmpmon station examples/station.toml --rounds 6 --interval 10
           snmpmon station examples/station.toml --rounds 6 --interval 10 --format prometheus --out snmpmon.prom
           snmpmon station examples/station.toml --rounds 1000000 --interval 10 --http 127.0.0.1:9732
+          snmpmon station examples/station.toml --rounds 1000000 --interval 10 --notify http://127.0.0.1:9094/alerts
           snmpmon station examples/station.toml --check";
 
 const REPORT_FILE_MORE: &str =

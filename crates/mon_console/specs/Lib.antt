@@ -4,6 +4,7 @@ pub mod Failure
 pub mod Files
 pub mod Labelled
 pub mod Naming
+pub mod Notices
 pub mod Printing
 pub mod Settings
 pub mod Shown

@@ -11,6 +11,7 @@ mod labels;
 pub mod laws;
 mod naming;
 mod printing;
+mod seen;
 mod settings;
 mod shared;
 
@@ -26,5 +27,6 @@ pub use naming::{
     KnownNames, asked_for, known_names, known_names_in, name_failure, names_of, no_module,
 };
 pub use printing::Printing;
+pub use seen::{DeviceSeen, Seen};
 pub use settings::{module_files_in, read_station_file, settings_failure, station_settings_in};
 pub use shared::SharedPrinting;

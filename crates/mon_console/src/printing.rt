@@ -2,6 +2,7 @@
 
 ghost use Rattle.std.specs.Prelude.{◌≡◌, ◌↔◌, [], IfOk, IsTrue, None, is_some, option_map, string_bytes};
 ghost use Rattle.mon_board.specs.Board.{window_of};
+ghost use Rattle.mon_console.specs.Notices.{alarm_notice, device_notice};
 ghost use Rattle.mon_console.specs.Printing.{IsPrinting, aged, numbered, presented, shown_names, with_labels};
 ghost use Rattle.mon_console.specs.Shown.{shown_by};
 ghost use Rattle.mon_host.specs.Log.{GoesOnBy};
@@ -11,6 +12,7 @@ ghost use Rattle.mon_formats.specs.declared.format.Format.TheVariants.{Text};
 
 use crate::failure::Failure;
 use crate::naming::{KnownNames, add_others};
+use crate::seen::{DeviceSeen, Seen};
 use mon_alarms::AlarmChange;
 use mon_board::{Board, Instance};
 use mon_cli::Printed;
@@ -19,6 +21,7 @@ use mon_formats::{
     instance_text,
 };
 use mon_host::Host;
+use mon_notify::{Scene, alarm_message, device_message};
 use mon_report::{Entry, entries_of};
 use mon_smi::{InNumbers, Names};
 use std::alloc::{AllocError, Global};
@@ -179,6 +182,55 @@ impl Printing {
         match &self.names {
             None => alarm_line(alloc, &InNumbers, board, labels, change),
             Some(names) => alarm_line(alloc, &names.labels(alloc)?, board, labels, change),
+        }
+    }
+
+    /// Returns the notice of an alarm of a board that changed.
+    pub(crate) fn alarm_message(
+        &self,
+        alloc: Global,
+        board: &Board,
+        seen: Seen,
+        change: &AlarmChange,
+    ) -> Result<Vec<u8>, AllocError>
+        ensures { IfOk result (λ t. t.items ≡ alarm_notice self.now board.now seen change.now) }
+    {
+        let line = self.alarm_line(alloc, board, change)?;
+        let scene = self.scene(board, seen);
+        match &self.names {
+            None => alarm_message(alloc, &InNumbers, scene, change, line.as_str()),
+            Some(names) => {
+                alarm_message(alloc, &names.labels(alloc)?, scene, change, line.as_str())
+            }
+        }
+    }
+
+    /// Returns the notice that a device was seen down or up, with this line for people.
+    pub(crate) fn device_message(
+        &self,
+        alloc: Global,
+        board: &Board,
+        seen: Seen,
+        device: DeviceSeen,
+        summary: &str,
+    ) -> Result<Vec<u8>, AllocError>
+        ensures { IfOk result (λ t. t.items ≡ device_notice self.now seen device summary.now) }
+    {
+        let scene = self.scene(board, seen);
+        device_message(alloc, scene, device.target, device.is_down, summary)
+    }
+
+    /// Returns what all notices of a station have in common that are seen at one time.
+    fn scene<'a>(&'a self, board: &'a Board, seen: Seen) -> Scene<'a>
+        ensures board { result.board.now ≡ board.now }
+        ensures labels { result.labels.now ≡ self.now.labels.items }
+        ensures seen { (result.station ≡ seen.station) × (result.date ≡ seen.date) }
+    {
+        Scene {
+            board,
+            labels: self.labels.as_slice(),
+            station: seen.station,
+            date: seen.date,
         }
     }
 

@@ -1,6 +1,7 @@
 //! How reports are printed, by several owners: by what prints them and what shows them over HTTP.
 
 ghost use Rattle.std.specs.Prelude.{◌≡◌, ◌↔◌, IfOk, IsTrue, None, option_map, string_bytes};
+ghost use Rattle.mon_console.specs.Notices.{alarm_notice, device_notice};
 ghost use Rattle.mon_console.specs.Printing.{IsFitted};
 ghost use Rattle.mon_console.specs.Shown.{shown_by};
 ghost use Rattle.mon_formats.specs.Changes.{change_line, instance_text};
@@ -9,6 +10,7 @@ ghost use Rattle.mon_formats.specs.declared.format.Format.TheVariants.{Text};
 ghost use Rattle.mon_host.specs.Log.{GoesOnBy};
 
 use crate::printing::Printing;
+use crate::seen::{DeviceSeen, Seen};
 use mon_alarms::AlarmChange;
 use mon_board::{Board, Instance};
 use mon_formats::{Figures, Format};
@@ -126,6 +128,42 @@ impl SharedPrinting {
             ≡ change_line (shown_by self.now.names) board.now self.now.labels.items change.now) }
     {
         self.shared.alarm_line(alloc, board, change)
+    }
+
+    /// Returns the notice of an alarm of a board that changed, for a receiver of Alertmanager's
+    /// webhooks: the text of a JSON object (RFC 8259). Its summary is the line of the alarm.
+    ///
+    /// # Errors
+    /// `AllocError` if there is no memory for it.
+    pub fn alarm_message(
+        &self,
+        alloc: Global,
+        board: &Board,
+        seen: Seen,
+        change: &AlarmChange,
+    ) -> Result<Vec<u8>, AllocError>
+        ensures { IfOk result (λ t. t.items ≡ alarm_notice self.now board.now seen change.now) }
+    {
+        self.shared.alarm_message(alloc, board, seen, change)
+    }
+
+    /// Returns the notice that a device was seen down or up, with this line for people, for the
+    /// same receivers.
+    ///
+    /// # Errors
+    /// `AllocError` if there is no memory for it.
+    pub fn device_message(
+        &self,
+        alloc: Global,
+        board: &Board,
+        seen: Seen,
+        device: DeviceSeen,
+        summary: &str,
+    ) -> Result<Vec<u8>, AllocError>
+        ensures { IfOk result (λ t. t.items ≡ device_notice self.now seen device summary.now) }
+    {
+        self.shared
+            .device_message(alloc, board, seen, device, summary)
     }
 
     /// Returns an instance's engine id and its name.

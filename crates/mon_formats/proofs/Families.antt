@@ -5,7 +5,7 @@ use Rattle.mon_formats.specs.declared.prometheus.text.Kind.TheVariants.{Gauge}
 use Rattle.mon_formats.specs.declared.prometheus.metric.Metric.{Metric}
 use Rattle.mon_formats.specs.declared.prometheus.metric.Metric.TheVariants.{Counted, Number, Samples, Rate, Alarm, Speed}
 use Rattle.mon_formats.specs.declared.prometheus.station.StationMetric.{StationMetric}
-use Rattle.mon_formats.specs.declared.prometheus.station.StationMetric.TheVariants.{Info, Incarnation, Taken, GivenUp, Debt, FailedSaves, Strangers, Duration, Interval, Overruns, LastRound, Age}
+use Rattle.mon_formats.specs.declared.prometheus.station.StationMetric.TheVariants.{Info, Incarnation, Taken, GivenUp, Debt, FailedSaves, Strangers, Dropped, Duration, Interval, Overruns, LastRound, Age}
 use Rattle.mon_formats.specs.declared.prometheus.peer.PeerMetric.{PeerMetric}
 use Rattle.mon_formats.specs.declared.prometheus.peer.PeerMetric.TheVariants.{PeerUp, LastHeard}
 use Rattle.mon_formats.specs.declared.prometheus.target.TargetMetric.{TargetMetric}
@@ -41,6 +41,7 @@ of_station GivenUp = refl
 of_station Debt = refl
 of_station FailedSaves = refl
 of_station Strangers = refl
+of_station Dropped = refl
 of_station Duration = refl
 of_station Interval = refl
 of_station Overruns = refl
@@ -55,6 +56,7 @@ plain_station GivenUp = refl
 plain_station Debt = refl
 plain_station FailedSaves = refl
 plain_station Strangers = refl
+plain_station Dropped = refl
 plain_station Duration = refl
 plain_station Interval = refl
 plain_station Overruns = refl

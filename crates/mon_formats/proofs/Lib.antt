@@ -6,6 +6,7 @@ pub mod Fresh
 pub mod Labels
 pub mod LastDot
 pub mod NoFloats
+pub mod Plain
 pub mod Pushed
 pub mod Samples
 pub mod Sound

@@ -6,7 +6,7 @@
 -- `station`. The series of instances have that label just if a number is given for it: the reports
 -- of several stations on the same devices then have no series in common.
 use Rattle.std.specs.Prelude.{◌≡◌, ℕ, ℤ, Bool, true, false, not, List, [], ◌∷◌, ◌++◌, Option, Some}
-use Rattle.std.specs.Prelude.{None, codes, decimal, length, ◌==◌, if◌then◌else◌, slice_index}
+use Rattle.std.specs.Prelude.{◌&&◌, None, codes, decimal, length, ◌==◌, if◌then◌else◌, slice_index}
 use Rattle.std.specs.Prelude.{String, string_bytes, take, ◌-◌}
 use Rattle.std.specs.Char.{is_ascii_digit}
 use Rattle.std.specs.Fmt.{signed_decimal}
@@ -42,6 +42,7 @@ use Rattle.mon_formats.specs.declared.prometheus.station.StationMetric.TheVarian
   Debt,
   FailedSaves,
   Strangers,
+  Dropped,
   Duration,
   Interval,
   Overruns,
@@ -67,6 +68,10 @@ use Rattle.mon_page.specs.Cells.{newest_of, value_of, rate_of}
 abbrev pub escaped : ℕ → List ℕ
 escaped c = if c == 92 then 92 ∷ 92 ∷ [] else if c == 34 then 92 ∷ 34 ∷ [] else if c == 10
     then 92 ∷ 110 ∷ [] else c ∷ []
+
+-- a character that has none
+abbrev pub is_plain : ℕ → Bool
+is_plain c = not (c == 92) && (not (c == 34) && not (c == 10))
 
 -- A label's value as a reader of the format takes it, from behind its opening quote up to its
 -- closing one, and what follows that: a backslash is before a backslash, a quote, and the n of a
@@ -320,6 +325,7 @@ station_name GivenUp = codes "snmpmon_polls_given_up_total"
 station_name Debt = codes "snmpmon_debt"
 station_name FailedSaves = codes "snmpmon_saves_failed_total"
 station_name Strangers = codes "snmpmon_strangers_total"
+station_name Dropped = codes "snmpmon_notifications_dropped_total"
 station_name Duration = codes "snmpmon_round_duration_seconds"
 station_name Interval = codes "snmpmon_round_interval_seconds"
 station_name Overruns = codes "snmpmon_rounds_overrun_total"
@@ -341,6 +347,8 @@ station_help FailedSaves = codes
     "Saves that failed since the station began. Look at its disk and the rights of its file where it rises."
 station_help Strangers = codes
     "Datagrams since the station began from an address of no target and no peer. Find the sender where it rises."
+station_help Dropped = codes
+    "Notifications that the station could not deliver and dropped since it began. Look at the receiver of --notify where it rises."
 station_help Duration = codes
     "How long the last round took. Rounds begin late where it exceeds snmpmon_round_interval_seconds."
 station_help Interval = codes
@@ -361,6 +369,7 @@ station_type GivenUp = kinds.Counter
 station_type Debt = kinds.Gauge
 station_type FailedSaves = kinds.Counter
 station_type Strangers = kinds.Counter
+station_type Dropped = kinds.Counter
 station_type Duration = kinds.Gauge
 station_type Interval = kinds.Gauge
 station_type Overruns = kinds.Counter
@@ -389,6 +398,11 @@ version = codes "0.1.0"
 unfoldable pub info_text : Exposition → (station : ℕ) → List ℕ
 info_text format station = station_head format Info ++ metric_line (station_name Info)
     (station_label station ++ more_label (codes "version") version) (codes "1")
+
+-- how many notifications the station dropped; nothing where it sends none
+abbrev pub dropped_if : Exposition → (station : ℕ) → Option ℕ → List ℕ
+dropped_if format station None = []
+dropped_if format station (Some dropped) = plain_metric format station Dropped dropped
 
 -- how long the last round took: milliseconds, written as seconds with three digits after the point
 unfoldable pub duration_text : Exposition → (station milliseconds : ℕ) → List ℕ
@@ -551,7 +565,8 @@ targets_text format station targets =
 -- what a station says of itself since its start, by its number: the program's version and its
 -- incarnation, how many samples it took and how many polls it gave up, by the number of each peer
 -- how many samples it owes that peer and when its last datagram came, how many saves failed, how
--- many datagrams strangers sent, and what it says of its rounds and of each target
+-- many datagrams strangers sent, how many notifications it dropped, if it sends any, and what it
+-- says of its rounds and of each target
 unfoldable pub station_text : Exposition → Figures → List ℕ
 station_text format f =
     info_text format f.station ++ plain_metric format f.station Incarnation f.incarnation
@@ -559,7 +574,8 @@ station_text format f =
     ++ plain_metric format f.station GivenUp f.given_up ++ debts_text format f.station f.debts.items
     ++ peers_text format f.station f.peers.items ++ plain_metric format f.station FailedSaves
     f.failed_saves
-    ++ plain_metric format f.station Strangers f.strangers ++ rounds_text format f
+    ++ plain_metric format f.station Strangers f.strangers
+    ++ dropped_if format f.station f.notifications_dropped ++ rounds_text format f
     ++ targets_text format f.station f.targets.items
 
 -- ---- ages of instances

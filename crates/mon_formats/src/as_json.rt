@@ -631,7 +631,8 @@ fn put_totals(
     entry: &Entry,
 ) -> Result<(), AllocError>
     requires { members_view members.old.entries ≡ no_members }
-    ensures { OnOk result (object (members_view members.new.entries) ≡ totals_data entry.now.items) }
+    ensures { OnOk result (object (members_view members.new.entries)
+        ≡ totals_data entry.now.items) }
 {
     let totals = entry.totals();
     put_exact(alloc, members, "delta", totals.delta)?;

@@ -106,7 +106,8 @@ fn put_instance<S: NameTexts>(
 
 /// Adds an engine id in hex digits.
 fn put_engine(alloc: Global, text: &mut String, engine: &[u8]) -> Result<(), AllocError>
-    ensures { OnOk result (string_bytes text.new ≡ string_bytes text.old ++ encode_lower engine.now) }
+    ensures { OnOk result (string_bytes text.new
+        ≡ string_bytes text.old ++ encode_lower engine.now) }
 {
     let digits = hex::encode(alloc, engine)?;
     text.push_str(digits.as_str())
@@ -393,7 +394,8 @@ fn put_measured(
     level: i128,
 ) -> Result<(), AllocError>
     requires { level ≤ℤ pos (2 ^ 100) }
-    ensures { OnOk result (string_bytes text.new ≡ string_bytes text.old ++ measured measure level) }
+    ensures { OnOk result (string_bytes text.new
+        ≡ string_bytes text.old ++ measured measure level) }
 {
     match (measure, u128::try_from(level)) {
         (Measure::Bits, Ok(octets)) => put_rate(alloc, text, Unit::Bits, 8 * octets),
@@ -418,7 +420,8 @@ fn put_rate(
 
 /// Adds thousandths as a decimal number with its sign.
 fn put_number(text: &mut String, thousandths: i128) -> Result<(), AllocError>
-    ensures { OnOk result (string_bytes text.new ≡ string_bytes text.old ++ number_text thousandths) }
+    ensures { OnOk result (string_bytes text.new
+        ≡ string_bytes text.old ++ number_text thousandths) }
 {
     if thousandths < 0 {
         text.push_str("-")?;

@@ -61,7 +61,8 @@ pub fn label_read_back()
 /// has: `_total` for a counter, `_info` for an info, none for a gauge.
 pub fn families()
     ensures instances { (metric : Metric) → IsNamed (type_of metric) (name_of metric) }
-    ensures station { (metric : StationMetric) → IsNamed (station_type metric) (station_name metric) }
+    ensures station { (metric : StationMetric)
+        → IsNamed (station_type metric) (station_name metric) }
     ensures peers { (metric : PeerMetric) → IsNamed Gauge (peer_name metric) }
     ensures targets { (metric : TargetMetric) → IsNamed (target_type metric) (target_name metric) }
 {}

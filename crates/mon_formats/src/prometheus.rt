@@ -29,12 +29,12 @@ use metric::Metric;
 use mon_alarms::{AlarmState, Rule};
 use mon_page::{Extras, Figures, InstanceLabels, is_fresh};
 use mon_rates::is_counter;
-use mon_report::{Alarm, Entry, write_rate};
+use mon_report::{Alarm, Entry};
 use mon_sample::Sample;
 use mon_smi::NameTexts;
 use station::{StationMetric, put_metric_head, put_station};
 use std::alloc::{AllocError, Global};
-use text::{Exposition, put_end, put_head, put_label, put_line};
+use text::{Exposition, put_end, put_head, put_label, put_line, put_thousandths};
 
 /// Instances with what is given for them and the texts of their labels, which all lines of an
 /// instance have, and of a running station in how many rounds each had no new sample.
@@ -290,7 +290,7 @@ fn put_lines(
         Metric::Counted => put_counted(text, labels, entry.samples()),
         Metric::Number => put_number(text, labels, entry.samples()),
         Metric::Samples => put_samples(text, labels, entry.samples()),
-        Metric::Rate => put_rate(alloc, text, labels, entry),
+        Metric::Rate => put_rate(text, labels, entry),
         Metric::Alarm => put_alarms(alloc, text, labels, entry),
         Metric::Speed => put_speed(text, labels, speed_of(labelled.labels)),
     }
@@ -349,23 +349,28 @@ fn put_samples(text: &mut Vec<u8>, labels: &[u8], samples: &[Sample]) -> Result<
 }
 
 /// Adds the line of an instance's rate, if it has one.
-fn put_rate(
-    alloc: Global,
-    text: &mut Vec<u8>,
-    labels: &[u8],
-    entry: &Entry,
-) -> Result<(), AllocError>
+fn put_rate(text: &mut Vec<u8>, labels: &[u8], entry: &Entry) -> Result<(), AllocError>
     ensures { OnOk result (text.new.items ≡ text.old.items ++ rate_line labels.now
         (rate_of entry.now.items)) }
 {
     let Some(thousandths) = entry.totals().thousandths() else {
         return Ok(());
     };
-    let mut rate = Vec::new(alloc);
-    if !write_rate(&mut rate, true, thousandths) {
-        return Err(AllocError);
-    }
-    put_line(text, Metric::Rate.name(), labels, rate.as_slice())
+    put_rate_line(text, labels, thousandths)
+}
+
+/// Adds the line of a rate in thousandths.
+#[tactic(auto, unfolding(crate::specs::Prometheus::metric_line))]
+fn put_rate_line(text: &mut Vec<u8>, labels: &[u8], thousandths: u128) -> Result<(), AllocError>
+    ensures { OnOk result (text.new.items ≡ text.old.items ++ rate_line labels.now
+        (Some thousandths)) }
+{
+    text.extend_from_slice(Metric::Rate.name().as_bytes())?;
+    text.extend_from_slice(b"{")?;
+    text.extend_from_slice(labels)?;
+    text.extend_from_slice(b"} ")?;
+    put_thousandths(text, thousandths)?;
+    text.extend_from_slice(b"\n")
 }
 
 /// Adds a line for each alarm of an instance.
@@ -380,40 +385,33 @@ fn put_alarms(
 {
     let alarms = entry.alarms(alloc)?;
     for alarm in &alarms {
-        put_alarm(alloc, text, labels, alarm)?;
+        put_alarm(text, labels, alarm)?;
     }
     Ok(())
 }
 
 /// Adds the line of an alarm: its rule's thresholds are labels, and its value says whether it is
 /// raised.
-fn put_alarm(
-    alloc: Global,
-    text: &mut Vec<u8>,
-    labels: &[u8],
-    alarm: &Alarm,
-) -> Result<(), AllocError>
+#[tactic(auto, unfolding(crate::specs::Prometheus::metric_line))]
+fn put_alarm(text: &mut Vec<u8>, labels: &[u8], alarm: &Alarm) -> Result<(), AllocError>
     ensures { OnOk result (text.new.items ≡ text.old.items ++ alarm_line labels.now alarm.now) }
 {
-    let labels = alarm_labels(alloc, labels, &alarm.rule)?;
-    let digit = state_digit(alarm.state);
-    put_line(
-        text,
-        Metric::Alarm.name(),
-        labels.as_slice(),
-        digit.as_bytes(),
-    )
+    text.extend_from_slice(Metric::Alarm.name().as_bytes())?;
+    text.extend_from_slice(b"{")?;
+    put_alarm_labels(text, labels, &alarm.rule)?;
+    text.extend_from_slice(b"} ")?;
+    text.extend_from_slice(state_digit(alarm.state).as_bytes())?;
+    text.extend_from_slice(b"\n")
 }
 
-/// The labels of a rule's alarm: those of its instance, and its thresholds.
+/// Adds the labels of a rule's alarm: those of its instance, and its thresholds.
 #[tactic(auto, unfolding(crate::specs::Prometheus::alarm_labels))]
-fn alarm_labels(alloc: Global, labels: &[u8], rule: &Rule) -> Result<Vec<u8>, AllocError>
-    ensures { IfOk result (λ all. all.items ≡ alarm_labels labels.now rule.now) }
+fn put_alarm_labels(text: &mut Vec<u8>, labels: &[u8], rule: &Rule) -> Result<(), AllocError>
+    ensures { OnOk result (text.new.items ≡ text.old.items ++ alarm_labels labels.now rule.now) }
 {
-    let mut all = Vec::from_slice(alloc, labels)?;
-    put_threshold(&mut all, "rising", rule.rising())?;
-    put_threshold(&mut all, "falling", rule.falling())?;
-    Ok(all)
+    text.extend_from_slice(labels)?;
+    put_threshold(text, "rising", rule.rising())?;
+    put_threshold(text, "falling", rule.falling())
 }
 
 /// Adds a threshold in thousandths as one more label.

@@ -43,37 +43,49 @@ end_text (Some date) = time_text date
 abbrev pub annotations_data : List ℕ → Data
 annotations_data summary = object (member (codes "summary") (string summary) no_members)
 
--- the labels of a notice
-abbrev pub labels_of : Notice → List (List ℕ × List ℕ)
-labels_of n = map pair_of n.labels.now
-
--- the alert
-abbrev pub alert_data : Notice → Data
-alert_data n = object
-    (member (codes "annotations") (annotations_data n.summary.now)
-    (member (codes "endsAt") (string (end_text n.ends_at))
-    (member (codes "fingerprint") (string (fingerprint_text (labels_of n)))
+-- the alert of these labels, which began and may have ended
+abbrev pub alert_of : List (List ℕ × List ℕ) → (summary : List ℕ) → Date → Option Date → Data
+alert_of labels summary starts_at ends_at = object
+    (member (codes "annotations") (annotations_data summary)
+    (member (codes "endsAt") (string (end_text ends_at))
+    (member (codes "fingerprint") (string (fingerprint_text labels))
     (member (codes "generatorURL") (string [])
-    (member (codes "labels") (labels_data (labels_of n))
-    (member (codes "startsAt") (string (time_text n.starts_at))
-    (member (codes "status") (string (status_text n.ends_at))
+    (member (codes "labels") (labels_data labels)
+    (member (codes "startsAt") (string (time_text starts_at))
+    (member (codes "status") (string (status_text ends_at))
     no_members)))))))
 
--- the whole object
-abbrev pub message_data : Notice → Data
-message_data n = object
-    (member (codes "alerts") (array (item (alert_data n) no_items))
-    (member (codes "commonAnnotations") (annotations_data n.summary.now)
-    (member (codes "commonLabels") (labels_data (labels_of n))
+-- the whole object of that alert
+abbrev pub object_of : List (List ℕ × List ℕ) → (summary : List ℕ) → Date → Option Date → Data
+object_of labels summary starts_at ends_at = object
+    (member (codes "alerts") (array (item (alert_of labels summary starts_at ends_at) no_items))
+    (member (codes "commonAnnotations") (annotations_data summary)
+    (member (codes "commonLabels") (labels_data labels)
     (member (codes "externalURL") (string [])
-    (member (codes "groupKey") (string (key_text (labels_of n)))
-    (member (codes "groupLabels") (labels_data (labels_of n))
+    (member (codes "groupKey") (string (key_text labels))
+    (member (codes "groupLabels") (labels_data labels)
     (member (codes "receiver") (string (codes "snmpmon"))
-    (member (codes "status") (string (status_text n.ends_at))
+    (member (codes "status") (string (status_text ends_at))
     (member (codes "truncatedAlerts") (number (unsigned 0))
     (member (codes "version") (string (codes "4"))
     no_members))))))))))
 
 -- its text (RFC 8259), with no space
+abbrev pub text_of : List (List ℕ × List ℕ) → (summary : List ℕ) → Date → Option Date → List ℕ
+text_of labels summary starts_at ends_at = compact_text (object_of labels summary starts_at ends_at)
+
+-- the labels of a notice
+abbrev pub labels_of : Notice → List (List ℕ × List ℕ)
+labels_of n = map pair_of n.labels.now
+
+-- the alert of a notice
+abbrev pub alert_data : Notice → Data
+alert_data n = alert_of (labels_of n) n.summary.now n.starts_at n.ends_at
+
+-- the whole object of a notice
+abbrev pub message_data : Notice → Data
+message_data n = object_of (labels_of n) n.summary.now n.starts_at n.ends_at
+
+-- its text
 abbrev pub message_text : Notice → List ℕ
-message_text n = compact_text (message_data n)
+message_text n = text_of (labels_of n) n.summary.now n.starts_at n.ends_at

@@ -8,7 +8,7 @@ use std::alloc::{AllocError, Global};
 
 /// An alarm that was raised or cleared.
 #[derive(Clone, Copy, Debug)]
-pub struct AlarmChange<'a> {
+pub struct AlarmLabels<'a> {
     /// The engine id in hex digits.
     pub engine: &'a str,
     /// The name of the instance.
@@ -31,7 +31,7 @@ pub struct AlarmChange<'a> {
 
 /// A device that is down or up again.
 #[derive(Clone, Copy, Debug)]
-pub struct DeviceChange<'a> {
+pub struct DeviceLabels<'a> {
     /// The address of the target.
     pub target: &'a str,
     /// The name of the device, if it is known.
@@ -69,7 +69,7 @@ fn add_if_known<'a>(
 /// `AllocError` if there is no memory for them.
 pub fn alarm_labels<'a>(
     alloc: Global,
-    change: &AlarmChange<'a>,
+    change: &AlarmLabels<'a>,
 ) -> Result<Vec<Label<'a>>, AllocError>
     ensures { IfOk result (λ labels. map pair_of labels.items ≡ alarm_labels change.now) }
 {
@@ -93,7 +93,7 @@ pub fn alarm_labels<'a>(
 /// `AllocError` if there is no memory for them.
 pub fn device_labels<'a>(
     alloc: Global,
-    change: &DeviceChange<'a>,
+    change: &DeviceLabels<'a>,
 ) -> Result<Vec<Label<'a>>, AllocError>
     ensures { IfOk result (λ labels. map pair_of labels.items ≡ device_labels change.now) }
 {

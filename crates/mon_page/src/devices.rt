@@ -67,7 +67,8 @@ fn has_alarm(rows: &[Row]) -> bool
 
 /// Returns `true` if each target of an engine id is up.
 fn is_up(targets: &[TargetFigures], engine: &[u8]) -> bool
-    ensures { result ≡ list_all (λ t. t.up || not (bytes_eq t.engine.items engine.now)) targets.now }
+    ensures { result
+        ≡ list_all (λ t. t.up || not (bytes_eq t.engine.items engine.now)) targets.now }
 {
     targets.iter().all(|target| is_fine(target, engine))
 }

@@ -19,6 +19,9 @@ pub struct Figures {
     pub failed_saves: u64,
     /// How many datagrams came since its start from an address of no target and no peer.
     pub strangers: u64,
+    /// How many notifications it could not deliver and dropped since its start; `None` where it
+    /// sends none.
+    pub notifications_dropped: Option<u64>,
     /// When its last round ended, in seconds since 1970-01-01 00:00:00 UTC; `None` before the end
     /// of its first one.
     pub round_at: Option<u64>,
@@ -48,6 +51,7 @@ impl Drop for Figures {
             peers: _,
             failed_saves: _,
             strangers: _,
+            notifications_dropped: _,
             round_at: _,
             round_ms: _,
             overruns: _,

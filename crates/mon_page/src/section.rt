@@ -73,7 +73,8 @@ fn put_device_uptime(text: &mut Vec<u8>, device: &[Row]) -> Result<(), AllocErro
 
 /// Adds the words that name a device.
 fn put_naming(alloc: Global, text: &mut Vec<u8>, device: &[Row]) -> Result<(), AllocError>
-    ensures { OnOk result (text.new.items ≡ text.old.items ++ naming_words (naming_row device.now)) }
+    ensures { OnOk result (text.new.items
+        ≡ text.old.items ++ naming_words (naming_row device.now)) }
 {
     match naming_row(device) {
         None => Ok(()),

@@ -393,7 +393,8 @@ fn put_interface_rows(
     text: &mut Vec<u8>,
     interfaces: &[Interface],
 ) -> Result<(), AllocError>
-    ensures { OnOk result (text.new.items ≡ text.old.items ++ flat_map interface_row interfaces.now) }
+    ensures { OnOk result (text.new.items
+        ≡ text.old.items ++ flat_map interface_row interfaces.now) }
 {
     for interface in interfaces {
         put_interface_row(alloc, text, interface.rows())?;
@@ -492,7 +493,8 @@ fn put_name_cell<S: NameTexts>(
     names: &S,
     row: &Row,
 ) -> Result<(), AllocError>
-    ensures { OnOk result (text.new.items ≡ text.old.items ++ name_cell (S.shown names.now) row.now) }
+    ensures { OnOk result (text.new.items
+        ≡ text.old.items ++ name_cell (S.shown names.now) row.now) }
 {
     put_shown(alloc, text, names, row)?;
     put_if_name(text, row)?;
@@ -541,7 +543,8 @@ fn put_other_row<S: NameTexts>(
     names: &S,
     row: &Row,
 ) -> Result<(), AllocError>
-    ensures { OnOk result (text.new.items ≡ text.old.items ++ other_row (S.shown names.now) row.now) }
+    ensures { OnOk result (text.new.items
+        ≡ text.old.items ++ other_row (S.shown names.now) row.now) }
 {
     put_state_start(text, row)?;
     put_name_cell(alloc, text, names, row)?;

@@ -1,13 +1,16 @@
 mod Reached
 pub mod Counting
+pub mod Elements
 pub mod Exchanged
 pub mod Groups
 pub mod Lines
 pub mod Looking
 pub mod Made
+pub mod Networks
 pub mod Peers
 pub mod Percentages
 pub mod Refusals
+pub mod Seated
 pub mod Renewed
 pub mod Sequences
 pub mod Sizes

@@ -11,6 +11,7 @@ use Rattle.mon_smi.specs.declared.definition.Definition.{Definition}
 use Rattle.mon_settings_commands.specs.Appended.{AreOldLabels, IsAlone, IsAppendedOf, IsExisting}
 use Rattle.mon_settings_commands.specs.Appended.{IsLonger}
 use Rattle.mon_settings_commands.specs.Asked.{IsAsked, IsAsking}
+use Rattle.mon_settings_commands.specs.Network.{AreMachines, IsNetworkNoted}
 use Rattle.mon_settings_commands.specs.Notes.{AreSpeedsNoted, Surely}
 use Rattle.mon_settings_commands.specs.Parts.{AreParts}
 use Rattle.mon_settings_commands.specs.Fitting.{AreFitting}
@@ -72,10 +73,32 @@ AreLongerSettings agents words asked path = Then (Quietly (IsAlone words))
     Then (AreOldLabels (option_copied words.labels)) (λ old. Then (IsAsking agents asked) (λ survey.
     IsLongerBy agents (source words asked existing.names survey) existing (string_bytes old)))))
 
+-- the folder of a network's settings and the file that lists its machines, if both are given
+abbrev pub site_in : Option (List ℕ) → Option (List ℕ) → Option (List ℕ × List ℕ)
+site_in None machines = None
+site_in (Some folder) None = None
+site_in (Some folder) (Some machines) = Some (folder, machines)
+
+-- The settings of a network: modules and machines are read, the agent is asked, and files are
+-- written.
+abbrev pub AreNetworkSettings : Agents → SettingsArgs → Asked → List ℕ × List ℕ → List AtHost
+    → Result Unit Failure → Type 0
+AreNetworkSettings agents words asked site = Then (AreNames (map (λ m. m.now) words.modules.now))
+    (λ names. Then (AreMachines site.1 words.stations) (λ machines.
+    Then (IsAsking agents asked) (λ survey.
+    IsNetworkNoted agents (source words asked names survey) site.0 machines.items)))
+
+-- new settings: those of a network if a folder and machines are given
+abbrev pub AreFreshSettings : Agents → SettingsArgs → Asked → Option (List ℕ × List ℕ)
+    → List AtHost → Result Unit Failure → Type 0
+AreFreshSettings agents words asked None = AreNewSettings agents words asked
+AreFreshSettings agents words asked (Some site) = AreNetworkSettings agents words asked site
+
 -- new settings, or those in a file with more targets
 abbrev pub AreSettingsFor : Agents → SettingsArgs → Asked → Option (List ℕ) → List AtHost
     → Result Unit Failure → Type 0
-AreSettingsFor agents words asked None = AreNewSettings agents words asked
+AreSettingsFor agents words asked None = AreFreshSettings agents words asked
+    (site_in (option_copied words.split) (option_copied words.machines))
 AreSettingsFor agents words asked (Some path) = AreLongerSettings agents words asked path
 
 -- settings that are there with the agent's interfaces as they are now, whose polls are tried before

@@ -2,30 +2,36 @@
 use Rattle.std.specs.Prelude.{◌≡◌, ◌⊎◌, ◌<◌, true, false, List, [], ◌∷◌, Result, Ok, Err}
 use Rattle.mon_app.specs.Network.{Agents}
 use Rattle.mon_console.specs.declared.failure.Failure.{Failure}
+use Rattle.mon_placing.specs.Network.{IsSeat}
 use Rattle.mon_survey.specs.declared.longest.Drafted.{Drafted}
 use Rattle.mon_survey.specs.declared.size.TargetSize.{TargetSize}
 use Rattle.mon_survey.specs.declared.size.TargetSize.TheVariants.{Sixteen}
 use Rattle.mon_survey.specs.Size.{sizes_from}
 use Rattle.mon_settings_commands.specs.Appended.{IsAppendedOf}
+use Rattle.mon_settings_commands.specs.Seats.{IsSeatSettings}
 use Rattle.mon_settings_commands.specs.Settings.{IsSettingsOf, up_of}
 use Rattle.mon_settings_commands.specs.Source.{Source}
 use Rattle.mon_settings_commands.specs.Tried.{IsTrial, is_too_big}
 use Rattle.mon_settings_commands.specs.Updated.{IsUpdatedOf}
 use Rattle.mon_settings_commands.specs.declared.settings.Asked.{Asked}
 use Rattle.mon_settings_commands.specs.declared.trying.Wish.{Wish}
-use Rattle.mon_settings_commands.specs.declared.trying.Wish.TheVariants.{Longer, New, Updated}
+use Rattle.mon_settings_commands.specs.declared.trying.Wish.TheVariants.{Longer, New, Placed}
+use Rattle.mon_settings_commands.specs.declared.trying.Wish.TheVariants.{Updated}
 
--- ports can be counted up so far
+-- ports can be counted up so far, or a station's can be written
 abbrev pub IsWish : Wish → Type 0
 IsWish (New group) = up_of group < 65536
 IsWish (Longer existing) = Unit {0}
 IsWish (Updated news) = Unit {0}
+IsWish (Placed s) = IsSeat s
 
--- new settings, or those that are there with more targets, or up to date
+-- new settings, or those that are there with more targets, or up to date, or those of a station of
+-- a network
 abbrev pub IsDraft : Source → Wish → TargetSize → Result Drafted Failure → Type 0
 IsDraft s (New group) size = IsSettingsOf s group size
 IsDraft s (Longer existing) size = IsAppendedOf s existing.now size
 IsDraft s (Updated news) size = IsUpdatedOf s news.existing.now news.known.now size
+IsDraft s (Placed place) size = IsSeatSettings s place size
 
 -- settings by targets of this size were drafted, and their polls came to this when they were tried
 pub record IsDraftTried (agents : Agents) (asked : Asked) (Draft : TargetSize

@@ -6,10 +6,12 @@ pub mod Exchange
 pub mod Fitting
 pub mod Kinds
 pub mod Named
+pub mod Network
 pub mod Notes
 pub mod Parts
 pub mod Percent
 pub mod Refused
+pub mod Seats
 pub mod Settings
 pub mod Source
 pub mod Surveyed

@@ -2,9 +2,12 @@
 
 ghost use Rattle.std.specs.Prelude.{◌≡◌, ◌++◌, IfOk, codes, string_bytes};
 ghost use Rattle.mon_console.specs.Agents.{status_word};
+ghost use Rattle.mon_console.specs.Failure.{IsSaid};
 ghost use Rattle.mon_faults.specs.Fault.{innermost_of};
+ghost use Rattle.mon_faults.specs.declared.fault.Fault.TheVariants.{App};
 ghost use Rattle.mon_survey.specs.Fault.{name_of, number_of};
 ghost use Rattle.mon_oid.specs.Oid.{dotted};
+ghost use Rattle.mon_settings_commands.specs.Network.{IsOfMachines, machines_words, unported_line};
 ghost use Rattle.mon_settings_commands.specs.Parts.{IsTaken};
 ghost use Rattle.mon_settings_commands.specs.Settings.{IsOfLabels, labels_words};
 ghost use Rattle.mon_settings_commands.specs.Tried.{IsUnpolled, advice_for, first_name, poll_text, refused_line, silent_line};
@@ -12,6 +15,7 @@ ghost use Rattle.mon_settings_commands.specs.Tried.{IsUnpolled, advice_for, firs
 use crate::noting::form_of;
 use mon_app::{AppFault, status_name};
 use mon_console::{Failure, Fault, answer_failure};
+use mon_placing::MachinesFault;
 use mon_poller::{Object, Target};
 use mon_station::Innermost;
 use mon_survey::SurveyFault;
@@ -66,6 +70,57 @@ fn labels_text(alloc: Global, path: &str, fault: SurveyFault) -> Result<String, 
             )
         }
     }
+}
+
+/// Why a file lists no machines. The line names the file.
+pub(crate) fn machines_failure(alloc: Global, path: &str, fault: MachinesFault) -> Failure
+    ensures { IsOfMachines path.now fault result }
+{
+    match fault {
+        MachinesFault::OutOfMemory => Failure::from(AllocError),
+        _ => Failure::said(
+            Fault::App(AppFault::BadText),
+            machines_text(alloc, path, fault),
+        ),
+    }
+}
+
+/// Returns the line that names a file of machines and what is wrong in it. Lines are counted from
+/// 1.
+fn machines_text(alloc: Global, path: &str, fault: MachinesFault) -> Result<String, AllocError>
+    ensures { IfOk result (λ text. string_bytes text ≡ path.now ++ machines_words fault) }
+{
+    match fault {
+        MachinesFault::OutOfMemory => format!(in alloc; "{path}: out of memory"),
+        MachinesFault::Malformed(line) => {
+            format!(in alloc; "{path}: line {line}: NAME ADDRESS is wanted, as east-1 192.0.2.11")
+        }
+        MachinesFault::RepeatedName(line) => {
+            format!(in alloc; "{path}: line {line}: a machine above has this name")
+        }
+        MachinesFault::RepeatedAddress(line) => {
+            format!(in alloc; "{path}: line {line}: a machine above has this address")
+        }
+        MachinesFault::TooMany(line) => {
+            format!(in alloc; "{path}: line {line}: more than 1,024 machines")
+        }
+        MachinesFault::NoMachine => format!(in alloc; "{path}: no machine is listed"),
+        MachinesFault::TooFew(count) => {
+            format!(in alloc; "{path}: machines: {count}, fewer than the stations of a group")
+        }
+    }
+}
+
+/// Why a network has no ports for so many groups from its first one on.
+pub(crate) fn unported_failure(alloc: Global, first: u32, groups: u32) -> Failure
+    ensures { IsSaid (App AppFault.BadText) (unported_line first groups) result }
+{
+    Failure::said(
+        Fault::App(AppFault::BadText),
+        format!(in alloc;
+            "--first-group {first}: the ports of {groups} groups from it on exceed 65535"
+        ),
+    )
 }
 
 /// Why a poll of a target was not answered as a station needs it: the line names the poll.

@@ -77,7 +77,11 @@ fn require_part_absent<H: Host>(
 }
 
 /// Requires that nothing is at a path.
-fn require_nothing_at<H: Host>(alloc: Global, host: &mut H, path: &str) -> Result<(), Failure>
+pub(crate) fn require_nothing_at<H: Host>(
+    alloc: Global,
+    host: &mut H,
+    path: &str,
+) -> Result<(), Failure>
     ensures { GoesOnBy (λ log. IsAbsent path.now log result) (H.log host.old) (H.log host.new) }
 {
     match host.is_there(path) {
@@ -149,7 +153,7 @@ fn add_part<N: Opens>(
 }
 
 /// Returns how many groups of counters there are.
-fn groups_of(alloc: Global, ground: &Ground<'_, '_>) -> Result<u32, Failure>
+pub(crate) fn groups_of(alloc: Global, ground: &Ground<'_, '_>) -> Result<u32, Failure>
     ensures few { IfOk result (λ groups. groups ≤ 65536) }
     ensures last { IfOk result (HasGroups (source_in ground.now)) }
     ensures refused { IfErr result (HasNoPlan (source_in ground.now)) }

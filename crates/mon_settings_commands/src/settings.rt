@@ -6,7 +6,8 @@ ghost use Rattle.mon_app.specs.Network.{agents_by};
 ghost use Rattle.mon_host.specs.Log.{GoesOnBy};
 ghost use Rattle.mon_settings_commands.specs.Appended.{IsAlone, IsAppendedOf, IsLonger, IsPutLonger};
 ghost use Rattle.mon_settings_commands.specs.Asked.{IsAsked};
-ghost use Rattle.mon_settings_commands.specs.Command.{AreLongerSettings, AreNewSettings, AreNewTexts, ArePutTexts, AreSettings, AreSettingsFor, IsWhole};
+ghost use Rattle.mon_settings_commands.specs.Command.{AreFreshSettings, AreLongerSettings, AreNewSettings, AreNewTexts, ArePutTexts, AreSettings, AreSettingsFor, IsWhole, site_in};
+ghost use Rattle.mon_settings_commands.specs.Network.{AreNumbers};
 ghost use Rattle.mon_settings_commands.specs.Settings.{IsDraftPrinted, IsSettingsOf, up_of};
 ghost use Rattle.mon_settings_commands.specs.Source.{source_in};
 ghost use Rattle.mon_settings_commands.specs.Texts.{AreTexts, IsOfOptions};
@@ -16,6 +17,7 @@ use crate::asking::{Survey, ask_agent};
 use crate::existing::{Existing, existing_in};
 use crate::failing::{survey_failure, together_failure};
 use crate::labelling::{old_labels, write_labels};
+use crate::network::{Layout, print_network, site_of};
 use crate::noting::{note_speeds, print_noted};
 use crate::parts::write_parts;
 use crate::trying::{Wish, fit};
@@ -37,19 +39,21 @@ use std::alloc::Global;
 const LISTEN: &str = "0.0.0.0:16101";
 
 /// A station's file if the arguments do not say.
-const FILE: &str = "station.mon";
+pub(crate) const FILE: &str = "station.mon";
 
 /// Prints the settings of a station that polls the agent that the arguments name, writes those of
-/// several stations, or prints settings that are there with the agent's targets at their end, or
-/// with its interfaces as they are now. Nothing is printed or written unless all was answered, each
-/// text was read back, and the agent answered a poll of each target that polls it. Of each text a
-/// line on standard error says how long a round takes at most, by what was read back.
+/// several stations or of a network, or prints settings that are there with the agent's targets at
+/// their end, or with its interfaces as they are now. Nothing is printed or written unless all was
+/// answered, each text was read back, and the agent answered a poll of each target that polls it.
+/// Of each text a line on standard error says how long a round takes at most, by what was read
+/// back.
 pub fn print_settings<N: Opens, H: Host>(
     alloc: Global,
     host: &mut H,
     net: &N,
     words: SettingsArgs<'_, '_>,
 ) -> Result<(), Failure>
+    requires { AreNumbers words }
     ensures { GoesOnBy (λ log. AreSettings (agents_by (N.has_opened net.now) (N.has_failed net.now)
         N.Wire.told)
         words.entry log result)
@@ -76,6 +80,7 @@ fn print_others<N: Opens, H: Host>(
     words: &SettingsArgs<'_, '_>,
     asked: Asked<'_>,
 ) -> Result<(), Failure>
+    requires { AreNumbers words.now }
     ensures { GoesOnBy (λ log. AreSettingsFor (agents_by (N.has_opened net.now)
         (N.has_failed net.now) N.Wire.told)
         words.now asked.entry (option_copied words.now.append) log result)
@@ -86,6 +91,27 @@ fn print_others<N: Opens, H: Host>(
             let addition = Addition { words, path };
             print_appended(alloc, host, net, addition, asked)
         }
+        None => print_fresh(alloc, host, net, words, asked),
+    }
+}
+
+/// Prints or writes new settings: those of a network if a folder and machines are given.
+fn print_fresh<N: Opens, H: Host>(
+    alloc: Global,
+    host: &mut H,
+    net: &N,
+    words: &SettingsArgs<'_, '_>,
+    asked: Asked<'_>,
+) -> Result<(), Failure>
+    requires { AreNumbers words.now }
+    ensures { GoesOnBy (λ log. AreFreshSettings (agents_by (N.has_opened net.now)
+        (N.has_failed net.now) N.Wire.told)
+        words.now asked.entry (site_in (option_copied words.now.split)
+        (option_copied words.now.machines)) log result)
+        (H.log host.old) (H.log host.new) }
+{
+    match site_of(words) {
+        Some(site) => print_network(alloc, host, net, Layout { words, site }, asked),
         None => print_new(alloc, host, net, words, asked),
     }
 }
@@ -322,10 +348,10 @@ impl<'m, 'a> Ground<'m, 'a> {
 
 /// The texts that options lend, next to those of the arguments: where a station and its peers are,
 /// and its file.
-struct Texts {
-    listen: String,
-    file: String,
-    peers: Vec<Peer>,
+pub(crate) struct Texts {
+    pub(crate) listen: String,
+    pub(crate) file: String,
+    pub(crate) peers: Vec<Peer>,
 }
 
 // By hand: where one is let go, a proof has one call and not a drop of each field.
@@ -341,7 +367,7 @@ impl Drop for Texts {
 
 impl Texts {
     /// Returns empty texts.
-    fn new(alloc: Global) -> Self
+    pub(crate) fn new(alloc: Global) -> Self
         ensures listen { string_bytes result.listen ≡ [] }
         ensures file { string_bytes result.file ≡ [] }
         ensures peers { result.peers.items ≡ [] }
@@ -381,7 +407,7 @@ fn texts_of(alloc: Global, words: &SettingsArgs<'_, '_>, up: u32) -> Result<Text
 
 /// What options lend, and the size of targets.
 #[derive(Clone, Copy)]
-struct Lent<'p> {
+pub(crate) struct Lent<'p> {
     address: &'p str,
     community: &'p str,
     modules: &'p [&'p str],
@@ -390,7 +416,7 @@ struct Lent<'p> {
 }
 
 /// Lends texts for as long as all of them live.
-fn lend<'p>(
+pub(crate) fn lend<'p>(
     address: &'p str,
     community: &'p str,
     modules: &'p [&'p str],
@@ -413,7 +439,11 @@ fn lend<'p>(
 }
 
 /// The settings' options. This percentage of a speed, up to 100, raises an alarm.
-fn options_of<'p>(words: &SettingsArgs<'_, '_>, percent: u8, lent: Lent<'p>) -> Options<'p>
+pub(crate) fn options_of<'p>(
+    words: &SettingsArgs<'_, '_>,
+    percent: u8,
+    lent: Lent<'p>,
+) -> Options<'p>
     ensures most { result.percent ≤ 100 }
     ensures same { percent ≤ 100 → result.percent ≡ percent }
     ensures station { result.station ≡ words.now.station }

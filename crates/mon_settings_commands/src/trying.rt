@@ -11,9 +11,11 @@ ghost use Rattle.mon_survey.specs.Size.{objects_in, sizes_from};
 use crate::asking::{Asker, exchange, open};
 use crate::existing::Existing;
 use crate::failing::poll_failure;
+use crate::seating::seat_settings;
 use crate::settings::{Asked, Ground, News, appended, settings_of, updated};
 use mon_app::{AppFault, Asking, Opens, Wire};
 use mon_console::{Failure, Fault};
+use mon_placing::Seat;
 use mon_poller::{Target, poll_names};
 use mon_survey::{Drafted, TargetSize};
 use std::alloc::Global;
@@ -30,6 +32,8 @@ pub(crate) enum Wish<'e> {
     Longer(&'e Existing),
     /// Those that are there, with the agent's interfaces as they are now, which had these names.
     Updated(News<'e>),
+    /// Those of a station of a network.
+    Placed(Seat<'e>),
 }
 
 /// Drafts settings and tries their polls: with the largest targets of this size and below that the
@@ -75,6 +79,7 @@ fn draft(
         Wish::New(group) => settings_of(alloc, ground, group, size),
         Wish::Longer(existing) => appended(alloc, ground, existing, size),
         Wish::Updated(news) => updated(alloc, ground, news, size),
+        Wish::Placed(seat) => seat_settings(alloc, ground, seat, size),
     }
 }
 

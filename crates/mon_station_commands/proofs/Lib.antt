@@ -6,6 +6,7 @@ mod Checked
 mod Joined
 mod Keepings
 mod Notes
+mod Notified
 mod Openings
 mod Rounding
 mod Quiets

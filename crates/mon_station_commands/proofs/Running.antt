@@ -10,6 +10,7 @@ use Rattle.mon_host.specs.Log.{GoesOnBy}
 use Rattle.mon_host.specs.Then.{Quietly, Then}
 use Rattle.mon_host.proofs.Promised.{quietly, then_fails, then_follows}
 use Rattle.mon_settings.specs.declared.station.StationSettings.{StationSettings}
+use Rattle.mon_station_commands.specs.Notifying.{Courier, IsCourier}
 use Rattle.mon_station_commands.specs.Places.{IsDoor}
 use Rattle.mon_station_commands.specs.Station.{AreReports, IsRunning, IsSeenIf}
 use Rattle.mon_file_commands.specs.Steps.{OrMemory}
@@ -19,6 +20,9 @@ use Rattle.mon_udp.specs.declared.addr.Addr.{Addr}
 module _ (words : StationArgs) where
   abbrev Gives : Result (Option Addr) Failure → Type 0
   Gives = IsDoor (option_copied words.http)
+
+  abbrev Carries : Result (Option Courier) Failure → Type 0
+  Carries = IsCourier (option_copied words.notify)
 
   abbrev Reads : List AtHost → Result (StationSettings × Printing) Failure → Type 0
   Reads = IsLabelled words.settings.now (option_map (λ l. l.now) words.labels) words.printed
@@ -32,8 +36,11 @@ module _ (words : StationArgs) where
   abbrev AfterSettings : Option Addr → StationSettings × Printing → List AtHost → Result Unit Failure → Type 0
   AfterSettings door both = Then (Quietly (Makes both.0 both.1)) (AfterReports door both.0)
 
+  abbrev AfterCourier : Option Addr → List AtHost → Result Unit Failure → Type 0
+  AfterCourier door = Then Reads (AfterSettings door)
+
   abbrev AfterDoor : Option Addr → List AtHost → Result Unit Failure → Type 0
-  AfterDoor door = Then Reads (AfterSettings door)
+  AfterDoor door = Then (Quietly Carries) (λ (courier : Option Courier). AfterCourier door)
 
   pub no_door : (failure : Failure) (r : Result Unit Failure) (t : Option (List AtHost)) → r ≡ Err failure → Gives (Err failure) → GoesOnBy (λ log. IsRunning words log r) t t
   no_door failure r t is why =
@@ -44,26 +51,40 @@ module _ (words : StationArgs) where
       → GoesOnBy (λ log. IsRunning words log r) t0 t1
   after_door door r t0 t1 given rest = then_follows (Quietly Gives) AfterDoor (Ok door) r t0 t0 t1 (quietly Gives (Ok door) t0 given) rest
 
-  pub no_settings : (door : Option Addr) (failure : Failure) (r : Result Unit Failure) (t0 t1 : Option (List AtHost)) → r ≡ Err failure → Gives (Ok door)
-      → GoesOnBy (λ log. Reads log (Err failure)) t0 t1 → GoesOnBy (λ log. IsRunning words log r) t0 t1
-  no_settings door failure r t0 t1 is given why =
-      subst (λ (e : Result Unit Failure). GoesOnBy (λ log. IsRunning words log e) t0 t1) (sym is)
-      (after_door door (Err failure) t0 t1 given (then_fails Reads (AfterSettings door) failure t0 t1 why))
+  pub no_courier : (door : Option Addr) (failure : Failure) (r : Result Unit Failure) (t : Option (List AtHost)) → r ≡ Err failure → Gives (Ok door) → Carries (Err failure)
+      → GoesOnBy (λ log. IsRunning words log r) t t
+  no_courier door failure r t is given why =
+      subst (λ (e : Result Unit Failure). GoesOnBy (λ log. IsRunning words log e) t t) (sym is)
+      (after_door door (Err failure) t t given (then_fails (Quietly Carries) (λ (courier : Option Courier). AfterCourier door) failure t t (quietly Carries (Err failure) t why)))
 
-  after_settings : (door : Option Addr) (both : StationSettings × Printing) (r : Result Unit Failure) (t0 t1 t2 : Option (List AtHost)) → Gives (Ok door)
+  after_courier : (door : Option Addr) (courier : Option Courier) (r : Result Unit Failure) (t0 t1 : Option (List AtHost)) → Gives (Ok door) → Carries (Ok courier)
+      → GoesOnBy (λ log. AfterCourier door log r) t0 t1 → GoesOnBy (λ log. IsRunning words log r) t0 t1
+  after_courier door courier r t0 t1 given carried rest =
+      after_door door r t0 t1 given
+      (then_follows (Quietly Carries) (λ (courier : Option Courier). AfterCourier door) (Ok courier) r t0 t0 t1 (quietly Carries (Ok courier) t0 carried) rest)
+
+  pub no_settings : (door : Option Addr) (courier : Option Courier) (failure : Failure) (r : Result Unit Failure) (t0 t1 : Option (List AtHost)) → r ≡ Err failure → Gives (Ok door)
+      → Carries (Ok courier) → GoesOnBy (λ log. Reads log (Err failure)) t0 t1 → GoesOnBy (λ log. IsRunning words log r) t0 t1
+  no_settings door courier failure r t0 t1 is given carried why =
+      subst (λ (e : Result Unit Failure). GoesOnBy (λ log. IsRunning words log e) t0 t1) (sym is)
+      (after_courier door courier (Err failure) t0 t1 given carried (then_fails Reads (AfterSettings door) failure t0 t1 why))
+
+  after_settings : (door : Option Addr) (courier : Option Courier) (both : StationSettings × Printing) (r : Result Unit Failure) (t0 t1 t2 : Option (List AtHost)) → Gives (Ok door)
+      → Carries (Ok courier)
       → GoesOnBy (λ log. Reads log (Ok both)) t0 t1 → GoesOnBy (λ log. AfterSettings door both log r) t1 t2 → GoesOnBy (λ log. IsRunning words log r) t0 t2
-  after_settings door both r t0 t1 t2 given read rest = after_door door r t0 t2 given (then_follows Reads (AfterSettings door) (Ok both) r t0 t1 t2 read rest)
+  after_settings door courier both r t0 t1 t2 given carried read rest =
+      after_courier door courier r t0 t2 given carried (then_follows Reads (AfterSettings door) (Ok both) r t0 t1 t2 read rest)
 
-  pub no_reports : (door : Option Addr) (s : StationSettings) (printing : Printing) (failure : Failure) (r : Result Unit Failure) (t0 t1 : Option (List AtHost)) → r ≡ Err failure
-      → Gives (Ok door) → GoesOnBy (λ log. Reads log (Ok (s, printing))) t0 t1 → Makes s printing (Err failure) → GoesOnBy (λ log. IsRunning words log r) t0 t1
-  no_reports door s printing failure r t0 t1 is given read why =
+  pub no_reports : (door : Option Addr) (courier : Option Courier) (s : StationSettings) (printing : Printing) (failure : Failure) (r : Result Unit Failure) (t0 t1 : Option (List AtHost)) → r ≡ Err failure
+      → Gives (Ok door) → Carries (Ok courier) → GoesOnBy (λ log. Reads log (Ok (s, printing))) t0 t1 → Makes s printing (Err failure) → GoesOnBy (λ log. IsRunning words log r) t0 t1
+  no_reports door courier s printing failure r t0 t1 is given carried read why =
       subst (λ (e : Result Unit Failure). GoesOnBy (λ log. IsRunning words log e) t0 t1) (sym is)
-      (after_settings door (s, printing) (Err failure) t0 t1 t1 given read
+      (after_settings door courier (s, printing) (Err failure) t0 t1 t1 given carried read
       (then_fails (Quietly (Makes s printing)) (AfterReports door s) failure t1 t1 (quietly (Makes s printing) (Err failure) t1 why)))
 
-  pub words_run : (door : Option Addr) (s : StationSettings) (printing : Printing) (reports : Reports) (r : Result Unit Failure) (t0 t1 t2 : Option (List AtHost))
-      → Gives (Ok door) → GoesOnBy (λ log. Reads log (Ok (s, printing))) t0 t1 → Makes s printing (Ok reports)
+  pub words_run : (door : Option Addr) (courier : Option Courier) (s : StationSettings) (printing : Printing) (reports : Reports) (r : Result Unit Failure) (t0 t1 t2 : Option (List AtHost))
+      → Gives (Ok door) → Carries (Ok courier) → GoesOnBy (λ log. Reads log (Ok (s, printing))) t0 t1 → Makes s printing (Ok reports)
       → GoesOnBy (λ log. IsSeenIf door words reports s log r) t1 t2 → GoesOnBy (λ log. IsRunning words log r) t0 t2
-  words_run door s printing reports r t0 t1 t2 given read made run =
-      after_settings door (s, printing) r t0 t1 t2 given read
+  words_run door courier s printing reports r t0 t1 t2 given carried read made run =
+      after_settings door courier (s, printing) r t0 t1 t2 given carried read
       (then_follows (Quietly (Makes s printing)) (AfterReports door s) (Ok reports) r t1 t1 t2 (quietly (Makes s printing) (Ok reports) t1 made) run)

@@ -4,6 +4,7 @@ pub mod Figures
 pub mod Following
 pub mod Keeping
 pub mod Limits
+pub mod Notifying
 pub mod Opening
 pub mod Pace
 pub mod Places

@@ -12,6 +12,7 @@ use Rattle.mon_host.specs.Then.{Quietly, Then}
 use Rattle.mon_settings.specs.declared.station.StationSettings.{StationSettings}
 use Rattle.mon_station.specs.State.{State}
 use Rattle.mon_station_commands.specs.Checking.{IsCheck}
+use Rattle.mon_station_commands.specs.Notifying.{IsCourier}
 use Rattle.mon_station_commands.specs.Places.{IsDoor, IsNoSocket, IsShownOpened, IsUnseenOpened}
 use Rattle.mon_station_commands.specs.Rounds.{IsRun, nothing_kept}
 use Rattle.mon_file_commands.specs.Steps.{OrMemory}
@@ -81,14 +82,15 @@ abbrev pub IsSeenIf : Option Addr → StationArgs → Reports → StationSetting
 IsSeenIf None words reports s log result = IsUnseen words reports s log result
 IsSeenIf (Some door) words reports s log result = IsSeen door words reports s log result
 
--- A station is run: the address for HTTP is read, then the settings, the modules and the labels.
--- Then it is opened.
+-- A station is run: the address for HTTP and the URL for notifications are read, then the settings,
+-- the modules and the labels. Then it is opened.
 abbrev pub IsRunning : StationArgs → List AtHost → Result Unit Failure → Type 0
 IsRunning words = Then (Quietly (IsDoor (option_copied words.http))) (λ door.
+    Then (Quietly (IsCourier (option_copied words.notify))) (λ courier.
     Then (IsLabelled words.settings.now (option_map (λ l. l.now) words.labels) words.printed)
     (λ both.
     Then (Quietly (OrMemory (AreReports words both.0 both.1))) (λ reports.
-    IsSeenIf door words reports both.0)))
+    IsSeenIf door words reports both.0))))
 
 -- only what limits a station is printed, or it is run
 abbrev pub IsStationIf : (checks : Bool) → StationArgs → List AtHost → Result Unit Failure → Type 0

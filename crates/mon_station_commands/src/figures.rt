@@ -1,10 +1,12 @@
 //! What a running station says of itself.
 
-ghost use Rattle.std.specs.Prelude.{◌≡◌, IfOk, is_some, length, map};
+ghost use Rattle.std.specs.Prelude.{◌≡◌, IfOk, is_some, length, map, option_map};
 ghost use Rattle.mon_station.specs.State.{state_of};
+ghost use Rattle.mon_station_commands.specs.Notifying.{dropped_of};
 ghost use Rattle.mon_station_commands.specs.Figures.{AreFigures, engine_at, engine_in, engines_for, peer_of, said_in, said_of};
 
 use crate::live::Live;
+use crate::notifying::dropped_in;
 use mon_formats::{Figures, PeerFigures, TargetFigures};
 use mon_rounds::{InstanceAge, PeerAge, Receiver, TargetAge, debts_of};
 use mon_station::{Outbox, StationFault};
@@ -15,9 +17,11 @@ pub(crate) fn make_figures<S: Receiver + Drop, O: Outbox + Drop>(
     alloc: Global,
     live: &Live<S, O>,
 ) -> Result<Figures, AllocError>
-    ensures { IfOk result (AreFigures (state_of live.now.station.life) live.now.course
+    ensures figures { IfOk result (AreFigures (state_of live.now.station.life) live.now.course
         live.now.freshness live.now.transport.peers.items live.now.transport.engines.items
         live.now.ended live.now.kept.round_at live.now.reports) }
+    ensures dropped { IfOk result (λ figures. figures.notifications_dropped
+        ≡ option_map dropped_of live.now.courier) }
 {
     let fresh = &live.freshness;
     let engines = live.transport.engines.as_slice();
@@ -37,6 +41,7 @@ pub(crate) fn make_figures<S: Receiver + Drop, O: Outbox + Drop>(
         ages: ages_of(alloc, fresh.instances())?,
         stale_after: live.reports.stale_after,
         interval: live.reports.interval,
+        notifications_dropped: dropped_in(&live.courier),
     })
 }
 

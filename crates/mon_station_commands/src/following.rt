@@ -35,7 +35,8 @@ pub(crate) fn date_settings<H: Host, S: Receiver + Drop, O: Outbox + Drop>(
 )
     ensures dated { GoesOnBy (λ log. AreDated words.entry log live.new.kept.settings_at)
         (H.log host.old) (H.log host.new) }
-    ensures kept { live.new.kept ≡ record live.old.kept { settings_at = live.new.kept.settings_at } }
+    ensures kept { live.new.kept ≡ record live.old.kept
+        { settings_at = live.new.kept.settings_at } }
     ensures reports { live.new.reports ≡ live.old.reports }
 {
     live.kept.settings_at = host.changed(words.settings).ok();

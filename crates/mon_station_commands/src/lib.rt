@@ -7,6 +7,7 @@ mod following;
 mod keeping;
 mod limits;
 mod live;
+mod notifying;
 mod opening;
 mod pace;
 mod printing;

@@ -9,6 +9,9 @@ ghost use Rattle.mon_rounds.specs.Changes.{changes_between, others_of, told_by, 
 ghost use Rattle.mon_rounds.specs.Kept.{kept_in};
 ghost use Rattle.mon_rounds.specs.Orderly.{begun};
 ghost use Rattle.mon_rounds.specs.Whole.{HasRun, IsWhole, view_of};
+ghost use Rattle.mon_alarms.specs.Announcing.{announced_of};
+ghost use Rattle.mon_rounds.specs.Totals.{changes_since};
+ghost use Rattle.mon_station_commands.specs.Notifying.{AreAlarmsPut, AreTroublesPut, mail_in};
 ghost use Rattle.mon_station_commands.specs.Opening.{IsNoStation, last_of, unsaved_in};
 ghost use Rattle.mon_station_commands.specs.Places.{IsNoSocket};
 ghost use Rattle.mon_station_commands.specs.Rounds.{nothing_kept};
@@ -19,6 +22,7 @@ ghost use Rattle.mon_station_commands.specs.Telling.{IsOpening, announced_notes,
 ghost use Rattle.mon_station.specs.Seen.{seen};
 ghost use Rattle.mon_station.specs.State.{state_of};
 
+use crate::notifying::{Look, notify_alarms, notify_devices, seen_at};
 use crate::opening::{or_socket_failure, unopened};
 use crate::pace::{passed, wall_time};
 use crate::printing::said;
@@ -28,6 +32,7 @@ use crate::telling::{Alarms, tell_alarms, tell_notices, tell_raised, tell_restar
 use crate::troubles::{Facts, tell_troubles as say_troubles};
 use mon_config::Core;
 use mon_console::{Failure, SharedPrinting};
+use mon_courier::Courier;
 use mon_disk::{FileDisk, KeeperFault};
 use mon_host::{Host, Level};
 use mon_poller::Target;
@@ -53,11 +58,15 @@ pub(crate) struct Live<S: Receiver + Drop, O: Outbox + Drop> {
     pub(crate) freshness: Freshness,
     /// What was said to be wrong with targets, peers and instances.
     pub(crate) troubles: Troubles,
+    /// What delivers notifications, if there is a receiver for them.
+    pub(crate) courier: Option<Courier>,
     pub(crate) reports: Reports,
     /// When it was started.
     pub(crate) origin: Instant,
     /// When the last round, or the time after it, ended, in milliseconds since then.
     pub(crate) ended: u64,
+    /// The same in seconds since 1970-01-01 00:00:00 UTC by the wall clock.
+    pub(crate) date: u64,
     pub(crate) kept: Kept,
 }
 
@@ -71,9 +80,11 @@ impl<S: Receiver + Drop, O: Outbox + Drop> Drop for Live<S, O> {
             course: _,
             freshness: _,
             troubles: _,
+            courier: _,
             reports: _,
             origin: _,
             ended: _,
+            date: _,
             kept: _,
         } = self;
     }
@@ -199,11 +210,13 @@ impl Drop for Reports {
     }
 }
 
-/// What a station is set up with: its settings, and how it reports.
+/// What a station is set up with: its settings, how it reports, and what delivers notifications, if
+/// there is a receiver for them.
 #[derive(Drop)]
 pub(crate) struct Setup {
     pub(crate) settings: StationSettings,
     pub(crate) reports: Reports,
+    pub(crate) courier: Option<Courier>,
 }
 
 /// Where a station keeps its windows and is reached, and since when.
@@ -296,10 +309,15 @@ pub(crate) fn start_station<H: Host, S: Receiver + Drop, O: Outbox + Drop>(
         (only (λ live. state_of live.station.life) result)) (H.log host.old) (H.log host.new) }
     ensures reports { IfOk result (λ live. live.reports ≡ setup.reports) }
     ensures kept { IfOk result (λ live. live.kept ≡ nothing_kept) }
+    ensures courier { IfOk result (λ live. live.courier ≡ setup.courier) }
     ensures announcer { IfOk result (λ live. live.course.announcer
         ≡ announcer_of setup.reports.alarm_after (states_of (state_of live.station.life).board)) }
 {
-    let Setup { settings, reports } = setup;
+    let Setup {
+        settings,
+        reports,
+        courier,
+    } = setup;
     let StationSettings { core, file, .. } = settings;
     let Place { disk, at, origin } = place;
     let station = open_station(alloc, core, disk, &file)?;
@@ -312,9 +330,11 @@ pub(crate) fn start_station<H: Host, S: Receiver + Drop, O: Outbox + Drop>(
         course: opened.course,
         freshness: opened.freshness,
         troubles: Troubles::new(alloc),
+        courier,
         reports,
         origin,
         ended: 0,
+        date: 0,
         kept: Kept::nothing(),
     };
     tell_raised(alloc, host, &live)?;
@@ -467,6 +487,7 @@ fn run_timed<H: Host, S: Receiver + Drop, O: Outbox + Drop>(
     );
     live.ended = passed(alloc, host, live.origin)?;
     let date = wall_time(alloc, host)?;
+    live.date = date / 1000;
     live.kept.round_at = round_after(span, date, live.kept.round_at);
     let spell = Spell {
         span,
@@ -609,6 +630,12 @@ fn tell_alarm_changes<H: Host, S: Receiver + Drop, O: Outbox + Drop>(
         (state_of live.old.station.life).board (map (λ w. w.items) live.old.course.windows.items)
         live.old.course.announcer looks) log result)
         (H.log host.old) (H.log host.new) }
+    // Of each a notice is put for the receiver, if there is one.
+    ensures notified { OnOk result (AreAlarmsPut live.old.reports.printing live.old.reports.station
+        live.old.date (state_of live.old.station.life).board
+        (announced_of looks (changes_since (state_of live.old.station.life).board
+        (map (λ w. w.items) live.old.course.windows.items)) live.old.course.announcer)
+        (mail_in live.old.courier) (mail_in live.new.courier)) }
     ensures printing { live.new.reports.printing ≡ live.old.reports.printing }
     ensures paths { live.new.reports.paths ≡ live.old.reports.paths }
     ensures kept { live.new.kept ≡ live.old.kept }
@@ -624,6 +651,12 @@ fn tell_alarm_changes<H: Host, S: Receiver + Drop, O: Outbox + Drop>(
         round: Some(number),
     };
     tell_alarms(alloc, host, alarms, changes.as_slice())?;
+    let look = Look {
+        board,
+        printing: &live.reports.printing,
+        seen: seen_at(live.reports.station, live.date),
+    };
+    notify_alarms(alloc, &mut live.courier, look, changes.as_slice())?;
     Ok(())
 }
 
@@ -664,6 +697,14 @@ fn report_troubles<H: Host, S: Receiver + Drop, O: Outbox + Drop>(
         (others_of live.old.transport.rounds.latest.datagrams.items live.old.freshness.targets.items
         live.old.transport.engines.items (length live.old.freshness.targets.items)) live.old.freshness))
         log result) (H.log host.old) (H.log host.new) }
+    // A notice of each device that is down or up again is put for the receiver, if there is one.
+    ensures notified { OnOk result (AreTroublesPut live.old.reports.printing
+        live.old.reports.station live.old.date live.old.freshness.targets.items
+        (changes_between (told_by live.old.troubles)
+        (troubles_after live.old.reports.stale_after (told_by live.old.troubles)
+        (others_of live.old.transport.rounds.latest.datagrams.items live.old.freshness.targets.items
+        live.old.transport.engines.items (length live.old.freshness.targets.items))
+        live.old.freshness)) (mail_in live.old.courier) (mail_in live.new.courier)) }
     ensures printing { live.new.reports.printing ≡ live.old.reports.printing }
     ensures paths { live.new.reports.paths ≡ live.old.reports.paths }
     ensures kept { live.new.kept ≡ live.old.kept }
@@ -679,14 +720,23 @@ fn report_troubles<H: Host, S: Receiver + Drop, O: Outbox + Drop>(
     let changes = live
         .troubles
         .take_changes(alloc, &live.freshness, others, limit)?;
+    let board = live.station.board();
+    let printing = &live.reports.printing;
     let facts = Facts {
         freshness: &live.freshness,
         engines,
         latest,
-        board: live.station.board(),
-        printing: &live.reports.printing,
+        board,
+        printing,
     };
     say_troubles(alloc, host, facts, number, changes.as_slice())?;
+    let look = Look {
+        board,
+        printing,
+        seen: seen_at(live.reports.station, live.date),
+    };
+    let targets = facts.freshness.targets();
+    notify_devices(alloc, &mut live.courier, targets, look, changes.as_slice())?;
     Ok(())
 }
 

@@ -62,7 +62,8 @@ fn look_at_file<H: Host>(
     host: &mut H,
     settings: &StationSettings,
 ) -> Result<(), Failure>
-    ensures { GoesOnBy (λ log. IsLookedAt settings.now log result) (H.log host.old) (H.log host.new) }
+    ensures { GoesOnBy (λ log. IsLookedAt settings.now log result) (H.log host.old)
+        (H.log host.new) }
 {
     let there = may_be_there(host, &settings.file);
     read_if(alloc, host, settings, there)

@@ -10,6 +10,7 @@ ghost use Rattle.mon_file_commands.specs.Line.{AreNoted};
 ghost use Rattle.mon_station_commands.specs.Telling.{first_line, outrun_lines};
 
 use crate::live::{Live, Transport, run_span};
+use crate::notifying::{deliver, until_turn};
 use crate::snapshot::Snapshot;
 use mon_cli::Timing;
 use mon_console::Failure;
@@ -18,6 +19,7 @@ use mon_rounds::{Receiver, Span, left_of, milliseconds, next_start, phase_of};
 use mon_station::Outbox;
 use mon_web_receiver::Shows;
 use std::alloc::Global;
+use std::net::Net;
 use std::time::{Duration, Instant, UNIX_EPOCH};
 
 /// When rounds begin, in milliseconds since the station was started: at the first start and whole
@@ -33,23 +35,21 @@ pub(crate) struct Pace {
 /// How often a station goes on receiving between two rounds, at most.
 const MAX_RESTS: u32 = u32::MAX;
 
-/// After how many milliseconds of receiving between two rounds what came is reported and shown.
-const TELL_AFTER: u32 = 1000;
-
 /// Returns when the rounds begin, the first one now. With a phase it waits for that by the wall
 /// clock; so does a station with peers for its share of the interval, so that they poll one after
 /// another. Until then it answers its peers.
-pub(crate) fn start_pace<H: Host, S: Shows<Snapshot> + Drop, O: Outbox + Drop>(
-    alloc: Global,
-    host: &mut H,
-    live: &mut Live<S, O>,
-    timing: Timing,
-) -> Result<Pace, Failure>
+pub(crate) fn start_pace<
+    R: Net + AllocGlobal,
+    H: Host,
+    S: Shows<Snapshot> + Drop,
+    O: Outbox + Drop,
+>(rt: &R, host: &mut H, live: &mut Live<S, O>, timing: Timing) -> Result<Pace, Failure>
     ensures quiet { GoesOnBy (λ log. IsWait log result) (H.log host.old) (H.log host.new) }
     ensures printing { live.new.reports.printing ≡ live.old.reports.printing }
     ensures paths { live.new.reports.paths ≡ live.old.reports.paths }
     ensures kept { live.new.kept ≡ live.old.kept }
 {
+    let alloc = rt.alloc();
     let interval = u64::from(timing.interval) * 1000;
     let left = match phase(&live.transport, timing) {
         Some(phase) if interval > 0 => {
@@ -66,7 +66,7 @@ pub(crate) fn start_pace<H: Host, S: Shows<Snapshot> + Drop, O: Outbox + Drop>(
     };
     if left > 0 {
         tell_first(host, left);
-        pause(alloc, host, live, 1, pace)?;
+        pause(rt, host, live, 1, pace)?;
     }
     Ok(pace)
 }
@@ -109,27 +109,28 @@ fn phase<S: Receiver + Drop, O: Outbox + Drop>(
     }
 }
 
-/// Hands the station what comes until the round after this one begins. Returns when that was due.
-pub(crate) fn wait_for_next<H: Host, S: Shows<Snapshot> + Drop, O: Outbox + Drop>(
-    alloc: Global,
-    host: &mut H,
-    live: &mut Live<S, O>,
-    number: u32,
-    pace: Pace,
-) -> Result<Pace, Failure>
+/// Hands the station what comes until the round after this one begins, and delivers notifications
+/// meanwhile. Returns when that round was due.
+pub(crate) fn wait_for_next<
+    R: Net + AllocGlobal,
+    H: Host,
+    S: Shows<Snapshot> + Drop,
+    O: Outbox + Drop,
+>(rt: &R, host: &mut H, live: &mut Live<S, O>, number: u32, pace: Pace) -> Result<Pace, Failure>
     ensures quiet { GoesOnBy (λ log. IsWait log result) (H.log host.old) (H.log host.new) }
     ensures printing { live.new.reports.printing ≡ live.old.reports.printing }
     ensures paths { live.new.reports.paths ≡ live.old.reports.paths }
     ensures kept { live.new.kept ≡ live.old.kept }
 {
     if pace.interval == 0 {
+        deliver(rt, host, live);
         return Ok(pace);
     }
-    let passed = passed(alloc, host, live.origin)?;
+    let passed = passed(rt.alloc(), host, live.origin)?;
     tell_outrun(host, number, pace, passed);
     let due = next_start(passed.max(pace.due), pace.interval, pace.first);
     let pace = Pace { due, ..pace };
-    pause(alloc, host, live, number, pace)?;
+    pause(rt, host, live, number, pace)?;
     Ok(pace)
 }
 
@@ -149,9 +150,9 @@ fn tell_outrun<H: Host>(host: &mut H, number: u32, pace: Pace, passed: u64)
     }
 }
 
-/// Hands the station what comes until the next round is due.
-fn pause<H: Host, S: Shows<Snapshot> + Drop, O: Outbox + Drop>(
-    alloc: Global,
+/// Hands the station what comes until the next round is due, and delivers notifications meanwhile.
+fn pause<R: Net + AllocGlobal, H: Host, S: Shows<Snapshot> + Drop, O: Outbox + Drop>(
+    rt: &R,
     host: &mut H,
     live: &mut Live<S, O>,
     number: u32,
@@ -162,19 +163,16 @@ fn pause<H: Host, S: Shows<Snapshot> + Drop, O: Outbox + Drop>(
     ensures paths { live.new.reports.paths ≡ live.old.reports.paths }
     ensures kept { live.new.kept ≡ live.old.kept }
 {
+    let alloc = rt.alloc();
     let due = Duration::from_millis(pace.due);
     for _ in 0..MAX_RESTS {
         let left = left_of(due, now(alloc, host)?.duration_since(live.origin));
         if left == 0 {
             return Ok(());
         }
-        run_span(
-            alloc,
-            host,
-            live,
-            number,
-            Span::Between(left.min(TELL_AFTER)),
-        )?;
+        let rest = left.min(until_turn(live));
+        run_span(alloc, host, live, number, Span::Between(rest))?;
+        deliver(rt, host, live);
     }
     Ok(())
 }

@@ -20,6 +20,7 @@ use crate::following::{date_settings, look_at_settings};
 use crate::keeping::keep_file;
 use crate::limits::{longest_gap, print_limits};
 use crate::live::{Live, Paths, Place, Reports, Setup, open_transport, run_span, start_station};
+use crate::notifying::courier_of;
 use crate::opening::{open_file, or_no_socket, or_socket_failure, unsaved};
 use crate::pace::{now, start_pace, wait_for_next};
 use crate::printing::{print_between, print_last, write_out};
@@ -87,6 +88,7 @@ fn run_words<R: Clock + Files<File = File> + Net + AllocGlobal, H: Host>(
 {
     let alloc = rt.alloc();
     let door = door_of(alloc, words.http)?;
+    let courier = courier_of(alloc, words.notify)?;
     let (settings, printing) = read_labelled_station(
         alloc,
         host,
@@ -95,7 +97,11 @@ fn run_words<R: Clock + Files<File = File> + Net + AllocGlobal, H: Host>(
         words.printed,
     )?;
     let reports = reports_of(alloc, words, &settings, printing)?;
-    let setup = Setup { settings, reports };
+    let setup = Setup {
+        settings,
+        reports,
+        courier,
+    };
     run_by(rt, host, setup, words, door)
 }
 
@@ -365,7 +371,7 @@ fn door_at(alloc: Global, text: &str) -> Result<Option<Addr>, Failure>
 /// Runs a station through its rounds, and prints its report. If a report between two rounds could
 /// not be printed, the last round's could not be written or its save failed, that is the failure.
 fn run_rounds<
-    R: Files<File = File> + AllocGlobal,
+    R: Files<File = File> + Net + AllocGlobal,
     H: Host,
     S: Shows<Snapshot> + Drop,
     O: Outbox + Drop,
@@ -382,7 +388,7 @@ fn run_rounds<
 /// Runs a station's rounds, and what is between them. If the station follows its settings, and
 /// these changed, the next round is the last one.
 fn run_all<
-    R: Files<File = File> + AllocGlobal,
+    R: Files<File = File> + Net + AllocGlobal,
     H: Host,
     S: Shows<Snapshot> + Drop,
     O: Outbox + Drop,
@@ -396,14 +402,14 @@ fn run_all<
     let alloc = rt.alloc();
     let timing = words.timing;
     date_settings(host, live, words);
-    let mut pace = start_pace(alloc, host, live, timing)?;
+    let mut pace = start_pace(rt, host, live, timing)?;
     for number in 1..timing.rounds {
         if look_at_settings(alloc, host, live, words, number) {
             return run_round(rt, host, live, number, true);
         }
         run_round(rt, host, live, number, is_due(number, timing.save_every))?;
         print_due(alloc, host, live, number, timing.report_every);
-        pace = wait_for_next(alloc, host, live, number, pace)?;
+        pace = wait_for_next(rt, host, live, number, pace)?;
     }
     run_last(rt, host, live, timing.rounds)
 }

@@ -226,7 +226,11 @@ fn silent_at(alloc: Global, facts: Facts<'_>, change: Change) -> Result<String, 
 }
 
 /// Says that a target does not answer, or answers again.
-fn silent_text(alloc: Global, target: &TargetAge, begins: bool) -> Result<String, AllocError>
+pub(crate) fn silent_text(
+    alloc: Global,
+    target: &TargetAge,
+    begins: bool,
+) -> Result<String, AllocError>
     ensures { IfOk result (λ text. IsText (silent_text begins target.now) (string_bytes text)) }
 {
     let mut text = target_text(alloc, target)?;
@@ -431,7 +435,8 @@ fn target_at(targets: &[TargetAge], number: Option<u16>) -> Option<&TargetAge>
 /// Says how many instances of this target have no new sample, and why, or that they have new ones
 /// again.
 fn many_text(alloc: Global, target: &TargetAge, key: &Key, alike: u32) -> Result<String, AllocError>
-    ensures { IfOk result (λ text. string_bytes text ≡ many_text target.now (key_in key.now) alike) }
+    ensures { IfOk result (λ text. string_bytes text
+        ≡ many_text target.now (key_in key.now) alike) }
 {
     let mut text = target_text(alloc, target)?;
     let count: String = format!(in alloc; ": {alike} instances have ")?;

@@ -10,8 +10,8 @@ use Rattle.clap.specs.declared.error.Error.{Error}
 use Rattle.clap.specs.declared.error.kind.ErrorKind.{ErrorKind as UsageKind}
 use Rattle.clap.specs.declared.error.kind.ErrorKind.TheVariants as usage
 use Rattle.mon_app.specs.Network.{Agents, Ports}
-use Rattle.mon_cli.specs.Asked.{AsksFor, LacksColumns, LacksInterval, LacksNumber, LacksRounds}
-use Rattle.mon_cli.specs.Asked.{LacksSource, is_on}
+use Rattle.mon_cli.specs.Asked.{AsksFor, LacksColumns, LacksInterval, LacksMachines, LacksNumber}
+use Rattle.mon_cli.specs.Asked.{LacksRounds, LacksSource, LacksSplit, is_on}
 use Rattle.mon_cli.specs.Program.{IsParseOf, Reads}
 use Rattle.mon_cli.specs.declared.meaning.Asked.{Asked}
 use Rattle.mon_cli.specs.declared.meaning.Asked.TheVariants as asked
@@ -184,11 +184,21 @@ abbrev pub no_number : List ℕ
 no_number =
     codes "snmpmon: report wants SETTINGS with --station-label; see snmpmon report --help\n"
 
+-- what is said of machines that settings are placed on, and no folder for them
+abbrev pub no_split : List ℕ
+no_split =
+    codes "snmpmon: settings wants --split FOLDER with --machines; see snmpmon settings --help\n"
+
+-- what is said of groups of stations, and no machines that they would be on
+abbrev pub no_machines : List ℕ
+no_machines =
+    codes "snmpmon: --stations and --first-group want --machines; see snmpmon settings --help\n"
+
 -- what is said of rows that are to be sorted of a report that is no table
 abbrev pub no_columns : List ℕ
 no_columns = codes "snmpmon: --sort wants --columns; see snmpmon report --help\n"
 
--- The command is run, unless a station or a report lacks something, which one line says.
+-- The command is run, unless a station, a report or settings lack something, which one line says.
 pub record IsStartOf (agents : Agents) (ports : Ports) (saved : Saved) (stations : Stations)
     (asked : Asked) (log : List AtHost) (status : ℕ) : Type 0 where
   pub rounds : LacksRounds asked → IsRefused no_rounds log status
@@ -197,11 +207,17 @@ pub record IsStartOf (agents : Agents) (ports : Ports) (saved : Saved) (stations
       → IsRefused no_source log status
   pub number : ¬ (LacksRounds asked) → ¬ (LacksInterval asked) → ¬ (LacksSource asked)
       → LacksNumber asked → IsRefused no_number log status
+  pub split : ¬ (LacksRounds asked) → ¬ (LacksInterval asked) → ¬ (LacksSource asked)
+      → ¬ (LacksNumber asked) → LacksSplit asked → IsRefused no_split log status
+  pub machines : ¬ (LacksRounds asked) → ¬ (LacksInterval asked) → ¬ (LacksSource asked)
+      → ¬ (LacksNumber asked) → ¬ (LacksSplit asked) → LacksMachines asked
+      → IsRefused no_machines log status
   pub columns : ¬ (LacksRounds asked) → ¬ (LacksInterval asked) → ¬ (LacksSource asked)
-      → ¬ (LacksNumber asked) → LacksColumns asked → IsRefused no_columns log status
+      → ¬ (LacksNumber asked) → ¬ (LacksSplit asked) → ¬ (LacksMachines asked)
+      → LacksColumns asked → IsRefused no_columns log status
   pub run : ¬ (LacksRounds asked) → ¬ (LacksInterval asked) → ¬ (LacksSource asked)
-      → ¬ (LacksNumber asked) → ¬ (LacksColumns asked) → IsRunFor agents ports saved stations asked
-      log status
+      → ¬ (LacksNumber asked) → ¬ (LacksSplit asked) → ¬ (LacksMachines asked)
+      → ¬ (LacksColumns asked) → IsRunFor agents ports saved stations asked log status
 
 -- what arguments ask for, by the rows that the command line makes of them
 pub record IsAskedBy (words : List Text) (a : Asked) : Type 0 where

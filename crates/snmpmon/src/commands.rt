@@ -52,6 +52,14 @@ const NO_SOURCE: &str =
 const NO_NUMBER: &str =
     "snmpmon: report wants SETTINGS with --station-label; see snmpmon report --help\n";
 
+/// The line for machines that settings are placed on, and no folder for them.
+const NO_SPLIT: &str =
+    "snmpmon: settings wants --split FOLDER with --machines; see snmpmon settings --help\n";
+
+/// The line for groups of stations, and no machines that they would be on.
+const NO_MACHINES: &str =
+    "snmpmon: --stations and --first-group want --machines; see snmpmon settings --help\n";
+
 /// The line for rows that are to be sorted of a report that is no table.
 const NO_COLUMNS: &str = "snmpmon: --sort wants --columns; see snmpmon report --help\n";
 
@@ -189,6 +197,12 @@ fn start_command<
     }
     if asked.lacks_number() {
         return refuse(host, NO_NUMBER);
+    }
+    if asked.lacks_split() {
+        return refuse(host, NO_SPLIT);
+    }
+    if asked.lacks_machines() {
+        return refuse(host, NO_MACHINES);
     }
     if asked.lacks_columns() {
         return refuse(host, NO_COLUMNS);

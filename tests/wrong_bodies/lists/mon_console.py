@@ -103,8 +103,28 @@ BUGS = {
     ),
     "a_report_has_no_labels": (
         "src/printing.rt",
-        "            labels: self.labels.as_slice(),",
-        "            labels: &[],",
+        "            station,\n            labels: self.labels.as_slice(),",
+        "            station,\n            labels: &[],",
+    ),
+    "a_notice_has_no_labels": (
+        "src/printing.rt",
+        "            board,\n            labels: self.labels.as_slice(),",
+        "            board,\n            labels: &[],",
+    ),
+    "a_notice_of_another_station": (
+        "src/printing.rt",
+        "            station: seen.station,",
+        "            station: seen.station.saturating_add(1),",
+    ),
+    "a_notice_has_no_line": (
+        "src/printing.rt",
+        "            None => alarm_message(alloc, &InNumbers, scene, change, line.as_str()),",
+        "            None => alarm_message(alloc, &InNumbers, scene, change, \"\"),",
+    ),
+    "a_device_is_always_down": (
+        "src/printing.rt",
+        "device_message(alloc, scene, device.target, device.is_down, summary)",
+        "device_message(alloc, scene, device.target, true, summary)",
     ),
     "an_alarm_is_shown_in_numbers": (
         "src/printing.rt",

@@ -1,6 +1,101 @@
 """Bugs for planted_bugs to plant in mon_formats: a file, what stands in it once, and what stands there then."""
 
 BUGS = {
+    "no_metric_of_dropped_notifications": (
+        "src/prometheus/station.rt",
+        "    put_dropped(format, text, station, figures.notifications_dropped)?;\n",
+        "",
+    ),
+    "dropped_notifications_of_a_station_that_sends_none": (
+        "src/prometheus/station.rt",
+        "    put_dropped(format, text, station, figures.notifications_dropped)?;",
+        "    put_dropped(format, text, station, Some(figures.notifications_dropped.unwrap_or(0)))?;",
+    ),
+    "dropped_notifications_are_strangers": (
+        "src/prometheus/station.rt",
+        "    put_dropped(format, text, station, figures.notifications_dropped)?;",
+        "    put_dropped(format, text, station, figures.notifications_dropped.and(Some(strangers)))?;",
+    ),
+    "dropped_notifications_by_the_name_of_strangers": (
+        "src/prometheus/station.rt",
+        "        Some(count) => put_plain(format, text, station, StationMetric::Dropped, count),",
+        "        Some(count) => put_plain(format, text, station, StationMetric::Strangers, count),",
+    ),
+    "no_metric_before_a_notification_is_dropped": (
+        "src/prometheus/station.rt",
+        "        Some(count) => put_plain(format, text, station, StationMetric::Dropped, count),",
+        "        Some(0) => Ok(()),\n        Some(count) => put_plain(format, text, station, StationMetric::Dropped, count),",
+    ),
+    "dropped_notifications_without_total": (
+        "src/prometheus/station.rt",
+        "\"snmpmon_notifications_dropped_total\"",
+        "\"snmpmon_notifications_dropped\"",
+    ),
+    "dropped_notifications_are_a_gauge": (
+        "src/prometheus/station.rt",
+        "            | StationMetric::Dropped\n            | StationMetric::Overruns => Kind::Counter,\n            StationMetric::Info => Kind::Info,\n            StationMetric::Incarnation\n",
+        "            | StationMetric::Overruns => Kind::Counter,\n            StationMetric::Info => Kind::Info,\n            StationMetric::Incarnation\n            | StationMetric::Dropped\n",
+    ),
+    "a_quote_is_plain": (
+        "src/prometheus/text.rt",
+        "    octet != b'\\\\' && octet != b'\"' && octet != b'\\n'",
+        "    octet != b'\\\\' && octet != b'\\n'",
+    ),
+    "a_line_feed_is_plain": (
+        "src/prometheus/text.rt",
+        "    octet != b'\\\\' && octet != b'\"' && octet != b'\\n'",
+        "    octet != b'\\\\' && octet != b'\"'",
+    ),
+    "plain_if_one_octet_is": (
+        "src/prometheus/text.rt",
+        "    octets.iter().all(|octet| is_plain(*octet))",
+        "    octets.iter().any(|octet| is_plain(*octet))",
+    ),
+    "plain_by_the_first_octet": (
+        "src/prometheus/text.rt",
+        "    octets.iter().all(|octet| is_plain(*octet))",
+        "    octets.first().is_none_or(|octet| is_plain(*octet))",
+    ),
+    "all_values_are_plain": (
+        "src/prometheus/text.rt",
+        "    if are_plain(octets) {",
+        "    if octets.len() < 64 {",
+    ),
+    "plain_values_are_left_out": (
+        "src/prometheus/text.rt",
+        "    text.extend_from_slice(octets)\n}\n\n/// Adds octets one by one",
+        "    let _ = (text, octets);\n    Ok(())\n}\n\n/// Adds octets one by one",
+    ),
+    "thousandths_of_zero": (
+        "src/prometheus/text.rt",
+        "    if write_rate(text, true, thousandths) {",
+        "    if write_rate(text, true, 0) {",
+    ),
+    "thousandths_are_left_out": (
+        "src/prometheus/text.rt",
+        "    if write_rate(text, true, thousandths) {",
+        "    let _ = write_rate(&mut Vec::new(*text.allocator()), true, thousandths);\n    if true {",
+    ),
+    "alarm_without_the_labels_of_its_instance": (
+        "src/prometheus.rt",
+        "    text.extend_from_slice(labels)?;\n    put_threshold(text, \"rising\", rule.rising())?;",
+        "    let _ = labels;\n    put_threshold(text, \"rising\", rule.rising())?;",
+    ),
+    "alarm_with_thresholds_the_other_way_round": (
+        "src/prometheus.rt",
+        "    put_threshold(text, \"rising\", rule.rising())?;",
+        "    put_threshold(text, \"rising\", rule.falling())?;",
+    ),
+    "rate_under_the_name_of_the_number": (
+        "src/prometheus.rt",
+        "    text.extend_from_slice(Metric::Rate.name().as_bytes())?;",
+        "    text.extend_from_slice(Metric::Number.name().as_bytes())?;",
+    ),
+    "target_with_the_labels_of_another_station": (
+        "src/prometheus/target.rt",
+        "    put_target_labels(alloc, text, station, target)?;\n    text.extend_from_slice(b\"} \")?;",
+        "    put_target_labels(alloc, text, 1, target)?;\n    text.extend_from_slice(b\"} \")?;",
+    ),
     "alarm_line_has_the_limit_of_the_other_threshold": (
         "src/changes.rt",
         "        AlarmEvent::Raised { .. } => rule.rising(),",
@@ -84,8 +179,8 @@ BUGS = {
     "json_of_a_value_nothing": ("src/as_json.rt", "    text.extend_from_slice(before)?;\n    text.extend_from_slice(digits.format(number).as_bytes())", "    let _ = (number, &mut digits);\n    text.extend_from_slice(before)"),
     "named_upper_digits": ("src/named.rt", "hex::encode(alloc, entry.engine())?", "hex::encode_upper(alloc, entry.engine())?"),
     "prometheus_raised_alarm_told_as_0": ("src/prometheus.rt", '        AlarmState::Raised { .. } => "1",', '        AlarmState::Raised { .. } => "0",'),
-    "prometheus_alarms_over_the_window": ("src/prometheus.rt", "        put_alarm(alloc, text, labels, alarm)?;", "        let state = mon_alarms::state(&alarm.rule, entry.samples());\n        let alarm = Alarm {\n            rule: alarm.rule,\n            state,\n        };\n        put_alarm(alloc, text, labels, &alarm)?;"),
-    "prometheus_first_alarm_alone": ("src/prometheus.rt", "        put_alarm(alloc, text, labels, alarm)?;", "        put_alarm(alloc, text, labels, &alarms[0])?;\n        let _ = alarm;"),
+    "prometheus_alarms_over_the_window": ("src/prometheus.rt", "        put_alarm(text, labels, alarm)?;", "        let state = mon_alarms::state(&alarm.rule, entry.samples());\n        let alarm = Alarm {\n            rule: alarm.rule,\n            state,\n        };\n        put_alarm(text, labels, &alarm)?;"),
+    "prometheus_first_alarm_alone": ("src/prometheus.rt", "        put_alarm(text, labels, alarm)?;", "        put_alarm(text, labels, &alarms[0])?;\n        let _ = alarm;"),
     "json_raised_of_the_first_alarm": ("src/as_json.rt", "    for alarm in alarms {\n        push_alarm", "    for alarm in &alarms[..alarms.len().min(1)] {\n        push_alarm"),
     "json_alarms_of_the_first_rule": ("src/as_json.rt", 'push_alarm(alloc, &mut values, alarm)?;', 'push_alarm(alloc, &mut values, &alarms[0])?;'),
     "prometheus_polls_given_up_as_taken": ("src/prometheus/station.rt", 'StationMetric::Taken, figures.taken)?;', 'StationMetric::Taken, figures.given_up)?;'),

@@ -663,6 +663,151 @@ BUGS = {
         "    if count == 1 { one } else { many }",
         "    if count == 0 { one } else { many }",
     ),
+    "listens_on_any_machine": (
+        "src/seating.rt",
+        "    put_address(&mut texts.listen, seat.listens())?;",
+        "    put_address(&mut texts.listen, seat.serves())?;",
+    ),
+    "the_file_of_the_first_station": (
+        "src/seating.rt",
+        "put_file(&mut texts.file, given_or(words.file, FILE), seat)?;",
+        "put_file(&mut texts.file, given_or(words.file, FILE), Seat { station: 0, ..seat })?;",
+    ),
+    "always_the_usual_file": (
+        "src/seating.rt",
+        "given_or(words.file, FILE)",
+        "given_or(None, FILE)",
+    ),
+    "numbered_from_0": (
+        "src/seating.rt",
+        "        station: seat.station + 1,\n        ..options_of",
+        "        station: seat.station,\n        ..options_of",
+    ),
+    "the_number_of_the_arguments": (
+        "src/seating.rt",
+        "        station: seat.station + 1,\n        ..options_of",
+        "        station: words.station,\n        ..options_of",
+    ),
+    "counters_of_the_first_group": (
+        "src/seating.rt",
+        "ground.choice(Some(seat.part))",
+        "ground.choice(Some(0))",
+    ),
+    "a_peer_of_itself": (
+        "src/seating.rt",
+        "    if station == seat.station {",
+        "    if station == seat.station && station > 7 {",
+    ),
+    "the_first_station_is_no_peer": (
+        "src/seating.rt",
+        "    if station == seat.station {",
+        "    if station == 0 {",
+    ),
+    "peers_where_the_station_is": (
+        "src/seating.rt",
+        "Seat { station, ..seat }",
+        "Seat { station: seat.station, ..seat }",
+    ),
+    "no_peers": (
+        "src/seating.rt",
+        "    for station in 0..seat.network.stations {",
+        "    for station in 0..seat.network.stations.min(1) {",
+    ),
+    "no_network": (
+        "src/network.rt",
+        "        Some(machines) => Some(Site { folder, machines }),",
+        "        Some(_) => None,",
+    ),
+    "machines_in_the_folder": (
+        "src/network.rt",
+        "        Some(machines) => Some(Site { folder, machines }),",
+        "        Some(_) => Some(Site { folder, machines: folder }),",
+    ),
+    "a_port_less": (
+        "src/network.rt",
+        "const PORT: u16 = 16_101;",
+        "const PORT: u16 = 16_100;",
+    ),
+    "always_group_1": (
+        "src/network.rt",
+        "        first: words.first_group,",
+        "        first: 1,",
+    ),
+    "one_station_a_group": (
+        "src/network.rt",
+        "        stations: words.stations,",
+        "        stations: 1,",
+    ),
+    "replaces_files_of_a_network": (
+        "src/network.rt",
+        "    require_nothing_at(alloc, host, output.path.as_str())",
+        "    if output.path.is_empty() {\n        return require_nothing_at(alloc, host, output.path.as_str());\n    }\n    Ok(())",
+    ),
+    "no_labels_of_a_network": (
+        "src/network.rt",
+        '    write_labels(alloc, host, ground, "")?;',
+        '    if ground.words.up {\n        write_labels(alloc, host, ground, "")?;\n    }',
+    ),
+    "writes_a_path_for_a_text": (
+        "src/network.rt",
+        "output.text.as_bytes())?;",
+        "output.path.as_bytes())?;",
+    ),
+    "says_no_round": (
+        "src/network.rt",
+        "        Some(longest) => print_noted(alloc, host, line, path, longest),",
+        "        Some(_) => print(alloc, host, line),",
+    ),
+    "ports_above_65535": (
+        "src/network.rt",
+        "const MAX_SUM: u64 = 65_537;",
+        "const MAX_SUM: u64 = 65_538;",
+    ),
+    "no_port_is_too_high": (
+        "src/network.rt",
+        "    if !have_ports(network, groups) {",
+        "    if !have_ports(network, groups) && groups > 70_000 {",
+    ),
+    "settings_of_the_first_place": (
+        "src/network.rt",
+        "    let seat = files.network.seat(place);",
+        "    let seat = files.network.seat(place / 2);",
+    ),
+    "a_list_without_its_number": (
+        "src/network.rt",
+        "    if first == 1 {",
+        "    if first != 0 {",
+    ),
+    "units_for_targets": (
+        "src/network.rt",
+        "    let text = targets_text(alloc, files.network, groups)?;",
+        "    let text = units_text(alloc, files.network, groups)?;",
+    ),
+    "targets_of_a_group_less": (
+        "src/network.rt",
+        "    let text = targets_text(alloc, files.network, groups)?;",
+        "    let text = targets_text(alloc, files.network, groups - 1)?;",
+    ),
+    "enough_machines_for_one": (
+        "src/machines.rt",
+        "    match machines_in(alloc, text, stations) {",
+        "    match machines_in(alloc, text, stations.min(1)) {",
+    ),
+    "machines_of_no_file": (
+        "src/failing.rt",
+        'format!(in alloc; "{path}: no machine is listed")',
+        'format!(in alloc; "no machine is listed")',
+    ),
+    "a_line_too_many_is_a_name": (
+        "src/failing.rt",
+        '"{path}: line {line}: more than 1,024 machines"',
+        '"{path}: line {line}: a machine above has this name"',
+    ),
+    "another_first_group": (
+        "src/failing.rt",
+        '"--first-group {first}: the ports',
+        '"--first-group {groups}: the ports',
+    ),
 }
 
 # Those that break a promise as a whole, each with its function: tests/bodies tries them in the gate.
@@ -679,4 +824,6 @@ PROMISES = {
     "counts_the_interfaces_with_a_speed": "noting::note_speeds",
     "refuses_an_address_for_its_community": "settings::asked_of",
     "asks_after_the_start_again": "asking::step",
+    "counters_of_the_first_group": "seating::seat_settings_by",
+    "replaces_files_of_a_network": "network::require_output_free",
 }

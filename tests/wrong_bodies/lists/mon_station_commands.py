@@ -703,6 +703,76 @@ BUGS = {
         "    text.push_str(\" has no new sample\")?;\n    text.push_str(&key.words)?;",
         "    text.push_str(\" has no new sample\")?;",
     ),
+    "notifications_never_get_a_turn": (
+        "src/notifying.rt",
+        "        if let Some(news) = courier.turn(rt, now) {\n            tell_news(host, news);\n        }",
+        "        let _ = (rt, now, host, courier);",
+    ),
+    "says_nothing_of_deliveries": (
+        "src/notifying.rt",
+        "        if let Some(news) = courier.turn(rt, now) {\n            tell_news(host, news);\n        }",
+        "        let _ = courier.turn(rt, now);\n        let _ = host;",
+    ),
+    "notifies_no_alarm": (
+        "src/notifying.rt",
+        "        Some(courier) => put_alarms(alloc, courier, look, changes),",
+        "        Some(_) => {\n            let _ = (alloc, look, changes);\n            Ok(())\n        }",
+    ),
+    "notifies_but_the_first_alarm": (
+        "src/notifying.rt",
+        "        if let Err(error) = put_alarm(alloc, courier, look, &changes[place]) {",
+        "        if place == 0 {\n            continue;\n        }\n        if let Err(error) = put_alarm(alloc, courier, look, &changes[place]) {",
+    ),
+    "notifies_no_device": (
+        "src/notifying.rt",
+        "        Some(courier) => put_devices(alloc, courier, targets, look, changes),",
+        "        Some(_) => {\n            let _ = (alloc, targets, look, changes);\n            Ok(())\n        }",
+    ),
+    "notifies_of_each_trouble_as_of_a_device": (
+        "src/notifying.rt",
+        "    if is_silence(change.trouble) {",
+        "    if true {",
+    ),
+    "a_device_that_is_up_is_down": (
+        "src/notifying.rt",
+        "        target: target.address,\n        is_down,",
+        "        target: target.address,\n        is_down: true,",
+    ),
+    "takes_no_url": (
+        "src/notifying.rt",
+        "        Some(url) => courier_to(alloc, url),",
+        "        Some(url) => {\n            let _ = (alloc, url);\n            Ok(None)\n        }",
+    ),
+    "any_bad_url_is_of_https": (
+        "src/notifying.rt",
+        "        Err(fault) => Err(Failure::text(alloc, url, wanted_of(fault))),",
+        "        Err(_) => Err(Failure::text(alloc, url, wanted_of(TargetFault::Https))),",
+    ),
+    "a_turn_each_second": (
+        "src/notifying.rt",
+        "        Some(courier) => courier.rest(live.ended).unwrap_or(TELL_AFTER),",
+        "        Some(_) => TELL_AFTER,",
+    ),
+    "no_notification_is_dropped": (
+        "src/notifying.rt",
+        "        Some(courier) => Some(courier.dropped()),",
+        "        Some(_) => Some(0),",
+    ),
+    "a_notice_of_1970": (
+        "src/notifying.rt",
+        "    HttpDate::from_unix_secs(seconds.min(LAST_SECOND)).unwrap()",
+        "    let _ = seconds;\n    HttpDate::from_unix_secs(0).unwrap()",
+    ),
+    "alarms_are_said_and_not_notified": (
+        "src/live.rt",
+        "    notify_alarms(alloc, &mut live.courier, look, changes.as_slice())?;\n",
+        "    let _ = look;\n",
+    ),
+    "devices_are_said_and_not_notified": (
+        "src/live.rt",
+        "    notify_devices(alloc, &mut live.courier, targets, look, changes.as_slice())?;\n",
+        "    let _ = (look, targets);\n",
+    ),
 }
 
 # Those that break a promise as a whole, each with its function: tests/bodies tries them in the gate.

@@ -16,6 +16,16 @@ BUGS = {
         "    if asked.lacks_columns() {\n        return refuse(host, NO_COLUMNS);\n    }\n",
         "",
     ),
+    "places_settings_without_a_folder": (
+        "src/commands.rt",
+        "    if asked.lacks_split() {\n        return refuse(host, NO_SPLIT);\n    }\n",
+        "",
+    ),
+    "numbers_groups_without_machines": (
+        "src/commands.rt",
+        "    if asked.lacks_machines() {\n        return refuse(host, NO_MACHINES);\n    }\n",
+        "",
+    ),
     "labels_a_file_without_a_number": (
         "src/commands.rt",
         "    if asked.lacks_number() {\n        return refuse(host, NO_NUMBER);\n    }\n",

@@ -12,6 +12,9 @@ use mon_report::Entry;
 use mon_smi::NameTexts;
 use std::alloc::{AllocError, Global};
 
+/// How many octets the labels of an instance mostly have at most.
+const USUAL: usize = 256;
+
 /// An instance with its labels, if any are given.
 #[derive(Clone, Copy)]
 pub(crate) struct Labelled<'a, 'e> {
@@ -33,7 +36,7 @@ pub(crate) fn labels_of<S: NameTexts>(
 {
     let engine = hex::encode(alloc, labelled.instance.engine())?;
     let name = names.text(alloc, labelled.instance.name())?;
-    let mut labels = Vec::new(alloc);
+    let mut labels = Vec::with_capacity(alloc, USUAL)?;
     put_before(&mut labels, station)?;
     put_label(&mut labels, "engine", engine.as_bytes())?;
     put_more(&mut labels, "name", name.as_bytes())?;

@@ -1,7 +1,7 @@
 //! What a station says of itself.
 
 ghost use Rattle.std.specs.Prelude.{◌≡◌, ◌++◌, OnOk};
-ghost use Rattle.mon_formats.specs.Prometheus.{debt_line, debts_text, duration_text, info_text};
+ghost use Rattle.mon_formats.specs.Prometheus.{debt_line, debts_text, dropped_if, duration_text, info_text};
 ghost use Rattle.mon_formats.specs.Prometheus.{last_round_if, plain_metric, rounds_text, station_head, station_help};
 ghost use Rattle.mon_formats.specs.Prometheus.{station_line, station_name, station_text, station_type};
 
@@ -31,6 +31,8 @@ pub(crate) enum StationMetric {
     FailedSaves,
     /// How many datagrams came from an address of no target and no peer.
     Strangers,
+    /// How many notifications it could not deliver and dropped.
+    Dropped,
     /// How long its last round took.
     Duration,
     /// How long a round takes at least.
@@ -56,6 +58,7 @@ impl StationMetric {
             StationMetric::Debt => "snmpmon_debt",
             StationMetric::FailedSaves => "snmpmon_saves_failed_total",
             StationMetric::Strangers => "snmpmon_strangers_total",
+            StationMetric::Dropped => "snmpmon_notifications_dropped_total",
             StationMetric::Duration => "snmpmon_round_duration_seconds",
             StationMetric::Interval => "snmpmon_round_interval_seconds",
             StationMetric::Overruns => "snmpmon_rounds_overrun_total",
@@ -83,6 +86,8 @@ impl StationMetric {
                 "Saves that failed since the station began. Look at its disk and the rights of its file where it rises.",
             StationMetric::Strangers =>
                 "Datagrams since the station began from an address of no target and no peer. Find the sender where it rises.",
+            StationMetric::Dropped =>
+                "Notifications that the station could not deliver and dropped since it began. Look at the receiver of --notify where it rises.",
             StationMetric::Duration =>
                 "How long the last round took. Rounds begin late where it exceeds snmpmon_round_interval_seconds.",
             StationMetric::Interval =>
@@ -105,6 +110,7 @@ impl StationMetric {
             | StationMetric::GivenUp
             | StationMetric::FailedSaves
             | StationMetric::Strangers
+            | StationMetric::Dropped
             | StationMetric::Overruns => Kind::Counter,
             StationMetric::Info => Kind::Info,
             StationMetric::Incarnation
@@ -139,8 +145,24 @@ pub(crate) fn put_station(
     put_peers(format, text, station, figures.peers.as_slice())?;
     put_plain(format, text, station, StationMetric::FailedSaves, failed)?;
     put_plain(format, text, station, StationMetric::Strangers, strangers)?;
+    put_dropped(format, text, station, figures.notifications_dropped)?;
     put_rounds(format, text, figures)?;
     put_targets(format, text, station, figures.targets.as_slice())
+}
+
+/// Adds how many notifications the station dropped, if it sends any.
+fn put_dropped(
+    format: Exposition,
+    text: &mut Vec<u8>,
+    station: u32,
+    dropped: Option<u64>,
+) -> Result<(), AllocError>
+    ensures { OnOk result (text.new.items ≡ text.old.items ++ dropped_if format station dropped) }
+{
+    match dropped {
+        None => Ok(()),
+        Some(count) => put_plain(format, text, station, StationMetric::Dropped, count),
+    }
 }
 
 /// Adds what a station says of its rounds.
@@ -249,7 +271,8 @@ fn put_last_round(
     station: u32,
     round_at: Option<u64>,
 ) -> Result<(), AllocError>
-    ensures { OnOk result (text.new.items ≡ text.old.items ++ last_round_if format station round_at) }
+    ensures { OnOk result (text.new.items
+        ≡ text.old.items ++ last_round_if format station round_at) }
 {
     match round_at {
         None => Ok(()),

@@ -127,6 +127,7 @@ fn put_target_metric(
 }
 
 /// Adds the line of a metric for a target.
+#[tactic(auto, unfolding(crate::specs::Prometheus::metric_line))]
 fn put_target(
     alloc: Global,
     text: &mut Vec<u8>,
@@ -137,10 +138,13 @@ fn put_target(
     ensures { OnOk result (text.new.items
         ≡ text.old.items ++ target_line station metric target.now) }
 {
-    let labels = target_labels(alloc, station, target)?;
     let mut buffer = Buffer::new();
-    let number = buffer.format(metric.value(target));
-    put_line(text, metric.name(), labels.as_slice(), number.as_bytes())
+    text.extend_from_slice(metric.name().as_bytes())?;
+    text.extend_from_slice(b"{")?;
+    put_target_labels(alloc, text, station, target)?;
+    text.extend_from_slice(b"} ")?;
+    text.extend_from_slice(buffer.format(metric.value(target)).as_bytes())?;
+    text.extend_from_slice(b"\n")
 }
 
 /// The labels of a target: the station's number, the target's address and number, and its engine id

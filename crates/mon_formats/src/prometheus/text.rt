@@ -1,13 +1,15 @@
 //! The parts of Prometheus' text format and of OpenMetrics.
 
-ghost use Rattle.std.specs.Prelude.{◌≡◌, ◌≤◌, ◌++◌, OnOk};
-ghost use Rattle.std.specs.List.{flat_map};
+ghost use Rattle.std.specs.Prelude.{◌≡◌, ◌≤◌, ◌++◌, OnOk, Some, true};
+ghost use Rattle.std.specs.List.{flat_map, list_all};
 ghost use Rattle.mon_formats.specs.declared.prometheus.text.Kind.TheVariants as kinds;
 ghost use Rattle.mon_formats.specs.Prometheus.{escaped, label_text, metric_line, head_text, comment_line};
 ghost use Rattle.mon_formats.specs.Prometheus.{end_text, family_name, suffix_length, type_word};
-ghost use Rattle.mon_formats.specs.Prometheus.{more_label, station_label};
+ghost use Rattle.mon_formats.specs.Prometheus.{is_plain, more_label, station_label};
+ghost use Rattle.mon_report.specs.Report.{rate_text};
 
 use itoa::Buffer;
+use mon_report::write_rate;
 use std::alloc::AllocError;
 
 /// A format that Prometheus reads.
@@ -142,6 +144,17 @@ pub(crate) fn put_line(
     text.extend_from_slice(b"\n")
 }
 
+/// Adds a number of thousandths with three digits after the point.
+pub(crate) fn put_thousandths(text: &mut Vec<u8>, thousandths: u128) -> Result<(), AllocError>
+    ensures { OnOk result (text.new.items ≡ text.old.items ++ rate_text (Some thousandths)) }
+{
+    if write_rate(text, true, thousandths) {
+        Ok(())
+    } else {
+        Err(AllocError)
+    }
+}
+
 /// Adds a label with its value.
 #[tactic(auto, unfolding(crate::specs::Prometheus::label_text))]
 pub(crate) fn put_label(text: &mut Vec<u8>, label: &str, value: &[u8]) -> Result<(), AllocError>
@@ -173,6 +186,40 @@ pub(crate) fn put_station_label(text: &mut Vec<u8>, station: u32) -> Result<(), 
 
 /// Adds octets, of which a backslash, a quote and a line feed get a backslash before them.
 fn put_escaped(text: &mut Vec<u8>, octets: &[u8]) -> Result<(), AllocError>
+    ensures { OnOk result (text.new.items ≡ text.old.items ++ flat_map escaped octets.now) }
+{
+    if are_plain(octets) {
+        put_plain(text, octets)
+    } else {
+        put_octets(text, octets)
+    }
+}
+
+/// Returns `true` if none of these octets gets a backslash before it.
+fn are_plain(octets: &[u8]) -> bool
+    ensures { result ≡ list_all is_plain octets.now }
+{
+    octets.iter().all(|octet| is_plain(*octet))
+}
+
+/// Returns `true` if an octet gets no backslash before it.
+fn is_plain(octet: u8) -> bool
+    ensures { result ≡ is_plain octet }
+{
+    octet != b'\\' && octet != b'"' && octet != b'\n'
+}
+
+/// Adds octets of which none gets a backslash before it, all at once.
+#[tactic(auto, using(crate::proofs::Plain::added))]
+fn put_plain(text: &mut Vec<u8>, octets: &[u8]) -> Result<(), AllocError>
+    requires { list_all is_plain octets.now ≡ true }
+    ensures { OnOk result (text.new.items ≡ text.old.items ++ flat_map escaped octets.now) }
+{
+    text.extend_from_slice(octets)
+}
+
+/// Adds octets one by one, those that need it with a backslash before them.
+fn put_octets(text: &mut Vec<u8>, octets: &[u8]) -> Result<(), AllocError>
     ensures { OnOk result (text.new.items ≡ text.old.items ++ flat_map escaped octets.now) }
 {
     for octet in octets {

@@ -13,4 +13,4 @@ returns-in-Some g c =
 pub returns-in-None : goal.returns-in-None
 returns-in-None g c =
     let agents = agents_by (g.N.Opens.has_opened c.args.net.now) (g.N.Opens.has_failed c.args.net.now) g.N.Wire.Wire.told in
-    subst (λ (p : Option (Bor (List ℕ))). GoesOnBy (λ log. AreSettingsFor agents c.args.words.now c.args.asked (option_copied p) log c.print_new.result) (g.H.Host.log c.args.host.now) (g.H.Host.log c.print_new.new.host)) (sym c.in-None.is) c.print_new.ensures
+    subst (λ (p : Option (Bor (List ℕ))). GoesOnBy (λ log. AreSettingsFor agents c.args.words.now c.args.asked (option_copied p) log c.print_fresh.result) (g.H.Host.log c.args.host.now) (g.H.Host.log c.print_fresh.new.host)) (sym c.in-None.is) c.print_fresh.ensures

@@ -12,3 +12,6 @@ returns-in-Longer c = subst (λ (w : Wish). IsDraft (source_in c.args.ground.now
 
 pub returns-in-Updated : goal.returns-in-Updated
 returns-in-Updated c = subst (λ (w : Wish). IsDraft (source_in c.args.ground.now) w c.args.size c.updated.result) (sym c.in-Updated.is) c.updated.ensures
+
+pub returns-in-Placed : goal.returns-in-Placed
+returns-in-Placed c = subst (λ (w : Wish). IsDraft (source_in c.args.ground.now) w c.args.size c.seat_settings.result) (sym c.in-Placed.is) c.seat_settings.ensures

@@ -1,7 +1,9 @@
-use Rattle.std.proofs.Common.{◌∙◌, List, length, refl}
+use Rattle.std.proofs.Common.{◌∙◌, List, length, refl, subst}
 use Rattle.mon_rounds.specs.Changes.{changes_between, others_of, told_by, troubles_after}
 use Rattle.mon_rounds.specs.declared.changes.Change.{Change}
-use Rattle.mon_station_commands.proofs.Changes.{half_said, untaken, whole_said}
+use Rattle.mon_rounds.specs.declared.freshness.TargetAge.{TargetAge}
+use Rattle.mon_station_commands.specs.Notifying.{AreDevicesPut, mail_in}
+use Rattle.mon_station_commands.proofs.Changes.{half_said, some_said, untaken, whole_said}
 use Rattle.mon_station_commands.proofs.live.report_troubles.Goals as goal
 
 pub returns-in_err-others-clause-said : goal.returns-in_err-others-clause-said
@@ -33,3 +35,28 @@ returns-clause-said g c =
     ∙ (λ i. changes_between (told_by live.troubles) (troubles_after live.reports.stale_after (told_by live.troubles) (others i) live.freshness)) in
     whole_said live.freshness c.args.number changes _ c.in_ok-tell_troubles.field-0 c.as_slice.result.now (g.H.Host.log c.args.host.now) (g.H.Host.log c.tell_troubles.new.host)
     refl (c.as_slice.ensures.value ∙ same) c.in_ok-tell_troubles.ensures
+
+pub returns-in_err-notify_devices-clause-said : goal.returns-in_err-notify_devices-clause-said
+returns-in_err-notify_devices-clause-said g c =
+    let live = c.args.live.now in
+    let changes : List Change = changes_between (told_by live.troubles) (troubles_after live.reports.stale_after (told_by live.troubles) (others_of live.transport.rounds.latest.datagrams.items live.freshness.targets.items live.transport.engines.items (length live.freshness.targets.items)) live.freshness) in
+    let r = c.from_residual-in_err-notify_devices in
+    let start = g.H.Host.log c.args.host.now in
+    let end = g.H.Host.log c.tell_troubles.new.host in
+    half_said live.freshness c.args.number changes r.result start end r.ensures.1 (some_said _ start end c.in_ok-tell_troubles.ensures)
+
+pub returns-clause-notified : goal.returns-clause-notified
+returns-clause-notified g c =
+    let live = c.args.live.now in
+    let before = mail_in live.courier in
+    let after = mail_in c.notify_devices.new.courier in
+    let seen = c.seen_at.result in
+    let others = c.in_ok-others.ensures
+    ∙ (λ i. others_of (c.latest-latest.ensures.latest i).datagrams.items (c.targets.ensures i) (c.as_slice-engines.ensures.value i) (length (c.targets.ensures i))) in
+    let same = c.in_ok-changes.ensures.changes
+    ∙ (λ i. changes_between (told_by live.troubles) (troubles_after live.reports.stale_after (told_by live.troubles) (others i) live.freshness)) in (
+      seen,
+      c.seen_at.ensures,
+      subst (λ (cs : List Change). AreDevicesPut live.reports.printing seen live.freshness.targets.items cs before after) (c.as_slice-2.ensures.value ∙ same)
+          (subst (λ (ts : List TargetAge). AreDevicesPut live.reports.printing seen ts c.as_slice-2.result.now before after) c.targets-targets.ensures c.in_ok-notify_devices.ensures),
+    )

@@ -1,12 +1,14 @@
 use Rattle.mon_host.specs.declared.level.Level.{Level}
 use Rattle.std.proofs.Common.{◌∙◌, List, ℕ, ap, map, subst}
-use Rattle.std.specs.Prelude.{Ok, Result, Some}
+use Rattle.std.specs.Prelude.{Ok, Result, Some, option_map}
 use Rattle.std.specs.declared.alloc.AllocError.{AllocError}
 use Rattle.mon_alarms.specs.Announcing.{announced_of}
 use Rattle.mon_board.specs.declared.board.Board.{Board}
 use Rattle.mon_host.specs.Log.{GoesOnBy}
 use Rattle.mon_rounds.specs.Totals.{changes_since}
 use Rattle.mon_station.specs.State.{state_of}
+use Rattle.mon_console.specs.Notices.{alarm_notice}
+use Rattle.mon_station_commands.specs.Notifying.{all_put, mail_in}
 use Rattle.mon_station_commands.specs.Telling.{AreSaid, alarm_note, announced_notes}
 use Rattle.mon_station_commands.proofs.Accounts.{alarmed, half_alarmed, unalarmed}
 use Rattle.mon_station_commands.proofs.live.tell_alarm_changes.Goals as goal
@@ -30,6 +32,33 @@ returns-in_err-tell_alarms-clause-said g c =
     let r = c.from_residual-in_err-tell_alarms in
     half_alarmed (announced_notes printing c.args.number board seen announcer c.args.looks) c.tell_alarms.result r.result start end r.ensures.1
     (subst (λ (lines : List (Level × List ℕ)). GoesOnBy (λ log. AreSaid lines log c.tell_alarms.result) start end) (λ i. map (alarm_note (Some c.args.number) printing (c.board-board.ensures i)) (changes i)) c.tell_alarms.ensures)
+
+pub returns-in_err-notify_alarms-clause-said : goal.returns-in_err-notify_alarms-clause-said
+returns-in_err-notify_alarms-clause-said g c =
+    let live = c.args.live.now in
+    let start = g.H.Host.log c.args.host.now in
+    let end = g.H.Host.log c.tell_alarms.new.host in
+    let printing = live.reports.printing in
+    let seen = map (λ w. w.items) live.course.windows.items in
+    let announcer = live.course.announcer in
+    let board = (state_of live.station.life).board in
+    let changes = c.as_slice.ensures.value ∙ (c.in_ok-changes.ensures.changes ∙ ap (λ (b : Board). announced_of c.args.looks (changes_since b seen) announcer) c.board-board.ensures) in
+    let r = c.from_residual-in_err-notify_alarms in
+    let told : Result Unit AllocError = Ok c.in_ok-tell_alarms.field-0 in
+    half_alarmed (announced_notes printing c.args.number board seen announcer c.args.looks) told r.result start end r.ensures.1
+    (subst (λ (lines : List (Level × List ℕ)). GoesOnBy (λ log. AreSaid lines log told) start end) (λ i. map (alarm_note (Some c.args.number) printing (c.board-board.ensures i)) (changes i)) c.in_ok-tell_alarms.ensures)
+
+pub returns-clause-notified : goal.returns-clause-notified
+returns-clause-notified g c =
+    let live = c.args.live.now in
+    let seen = map (λ w. w.items) live.course.windows.items in
+    let announcer = live.course.announcer in
+    let changes = c.as_slice-2.ensures.value ∙ (c.in_ok-changes.ensures.changes ∙ ap (λ (b : Board). announced_of c.args.looks (changes_since b seen) announcer) c.board-board.ensures) in (
+      c.seen_at.result,
+      c.seen_at.ensures,
+      c.in_ok-notify_alarms.ensures
+          ∙ (λ i. option_map (all_put (map (alarm_notice live.reports.printing (c.board-board.ensures i) c.seen_at.result) (changes i))) (mail_in live.courier)),
+    )
 
 pub returns-clause-said : goal.returns-clause-said
 returns-clause-said g c =

@@ -20,13 +20,14 @@ loop-preserved g c =
     let after = c.run_span.new.live in
     let round = after.transport.rounds.round in
     let shown = announced_notes c.loop.live.reports.printing c.args.number (state_of after.station.life).board (map (λ w. w.items) c.loop.live.course.windows.items) c.loop.live.course.announcer in
+    let done = g.H.Host.log c.deliver.new.host in
     let inv = c.loop.invariant in (
-      quiet_on start timed end (quiet_on start before timed inv.0 (time before timed _ c.in_ok-now.ensures))
+      quiet_on start end done (quiet_on start timed end (quiet_on start before timed inv.0 (time before timed _ c.in_ok-now.ensures))
           (span_quiet (IsOfRun round.targets round.events after.run) shown c.args.number false c.loop.live.kept after.kept (Ok c.in_ok-run_span.field-0) timed end
-          c.in_ok-run_span.ensures.run),
-      c.run_span.ensures.printing ∙ inv.1,
-      c.run_span.ensures.paths ∙ inv.2,
-      between_kept (IsOfRun round.targets round.events after.run) shown c.args.number c.loop.live.kept after.kept c.run_span.result timed end c.run_span.ensures.run ∙ inv.3,
+          c.in_ok-run_span.ensures.run)) c.deliver.ensures.quiet,
+      c.deliver.ensures.printing ∙ (c.run_span.ensures.printing ∙ inv.1),
+      c.deliver.ensures.paths ∙ (c.run_span.ensures.paths ∙ inv.2),
+      c.deliver.ensures.kept ∙ (between_kept (IsOfRun round.targets round.events after.run) shown c.args.number c.loop.live.kept after.kept c.run_span.result timed end c.run_span.ensures.run ∙ inv.3),
     )
 
 pub returns-in_err-now-clause-quiet : goal.returns-in_err-now-clause-quiet

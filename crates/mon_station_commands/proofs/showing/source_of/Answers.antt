@@ -14,7 +14,7 @@ returns g c =
     c.in_ok-printing.ensures (c.in_ok-board.ensures.watch ∙ (λ i. (c.board.ensures i).watch)) (c.in_ok-board.ensures.windows ∙ (λ i. (c.board.ensures i).windows)) c.in_ok-states.ensures in
     record {
       figures = c.in_ok-figures.figures;
-      holds = c.in_ok-figures.ensures;
+      holds = c.in_ok-figures.ensures.figures;
       metrics = text Prometheus;
       open_metrics = text OpenMetrics;
       report = text Json;

@@ -1,0 +1,5 @@
+mod Fits
+mod Stepping
+mod Turning
+mod Fates
+mod Kept

@@ -1,0 +1,126 @@
+//! The settings of a station of a network, by the machine that it is placed on.
+
+ghost use Rattle.std.specs.Prelude.{◌≡◌, ◌++◌, ◌+◌, ◌<◌, IfOk, OnOk, map, string_bytes};
+ghost use Rattle.mon_placing.specs.Network.{IsSeat, listens};
+ghost use Rattle.mon_settings_commands.specs.Seats.{AreSeatTexts, IsSeatSettings, other_at, others_of, peer_at};
+ghost use Rattle.mon_settings_commands.specs.Source.{source_in};
+ghost use Rattle.mon_udp.specs.Addr.{addr_text};
+
+use crate::failing::survey_failure;
+use crate::settings::{FILE, Ground, Texts, lend, options_of};
+use crate::words::given_or;
+use mon_cli::SettingsArgs;
+use mon_console::Failure;
+use mon_placing::{Seat, put_file};
+use mon_survey::{Drafted, Options, Peer, TargetSize, settings};
+use mon_udp::Addr;
+use std::alloc::{AllocError, Global};
+
+/// The settings of a station of a network that polls the counters of its group, by targets of this
+/// size.
+pub(crate) fn seat_settings(
+    alloc: Global,
+    ground: &Ground<'_, '_>,
+    seat: Seat<'_>,
+    size: TargetSize,
+) -> Result<Drafted, Failure>
+    requires { IsSeat seat }
+    ensures { IsSeatSettings (source_in ground.now) seat.entry size result }
+{
+    let texts = seat_texts(alloc, ground.words, seat)?;
+    seat_settings_by(alloc, ground, seat, size, &texts)
+}
+
+/// The settings of a station of a network, with these texts.
+fn seat_settings_by(
+    alloc: Global,
+    ground: &Ground<'_, '_>,
+    seat: Seat<'_>,
+    size: TargetSize,
+    texts: &Texts,
+) -> Result<Drafted, Failure>
+    requires placed { IsSeat seat }
+    requires texts { AreSeatTexts ground.now.words.now seat texts.now }
+    ensures { IsSeatSettings (source_in ground.now) seat.entry size result }
+{
+    let words = ground.words;
+    let lent = lend(words.address, words.community, words.modules, texts, size);
+    let options = Options {
+        station: seat.station + 1,
+        ..options_of(words, ground.asked.percent, lent)
+    };
+    let choice = ground.choice(Some(seat.part));
+    match settings(alloc, ground.names, &ground.agent(), &options, &choice) {
+        Ok(drafted) => Ok(drafted),
+        Err(fault) => Err(survey_failure(alloc, ground.asked.agent.word, fault)),
+    }
+}
+
+/// Returns where a station of a network listens, its file, and its peers.
+fn seat_texts(
+    alloc: Global,
+    words: &SettingsArgs<'_, '_>,
+    seat: Seat<'_>,
+) -> Result<Texts, AllocError>
+    requires { IsSeat seat }
+    ensures { IfOk result (AreSeatTexts words.now seat.entry) }
+{
+    let mut texts = Texts::new(alloc);
+    put_address(&mut texts.listen, seat.listens())?;
+    put_file(&mut texts.file, given_or(words.file, FILE), seat)?;
+    put_others(alloc, &mut texts.peers, seat)?;
+    Ok(texts)
+}
+
+/// Appends an address.
+fn put_address(text: &mut String, address: Addr) -> Result<(), AllocError>
+    ensures { OnOk result (string_bytes text.new ≡ string_bytes text.old ++ addr_text address) }
+{
+    write!(text, "{address}")
+}
+
+/// Appends the other stations of a station's group as its peers.
+fn put_others(alloc: Global, peers: &mut Vec<Peer>, seat: Seat<'_>) -> Result<(), AllocError>
+    requires { IsSeat seat }
+    ensures { OnOk result (map peer_at peers.new.items ≡ map peer_at peers.old.items
+        ++ others_of seat.entry seat.entry.network.stations) }
+{
+    for station in 0..seat.network.stations {
+        put_other(alloc, peers, seat, station)?;
+    }
+    Ok(())
+}
+
+/// Appends a station of a station's group as its peer, unless it is the station itself.
+fn put_other(
+    alloc: Global,
+    peers: &mut Vec<Peer>,
+    seat: Seat<'_>,
+    station: u32,
+) -> Result<(), AllocError>
+    requires placed { IsSeat seat }
+    requires inside { station < seat.network.stations }
+    ensures { OnOk result (map peer_at peers.new.items ≡ map peer_at peers.old.items
+        ++ other_at seat.entry station) }
+{
+    if station == seat.station {
+        return Ok(());
+    }
+    let peer = peer_of(alloc, Seat { station, ..seat })?;
+    Ok(peers.push(peer)?)
+}
+
+/// Returns a station of a network as a peer.
+fn peer_of(alloc: Global, seat: Seat<'_>) -> Result<Peer, AllocError>
+    requires { IsSeat seat }
+    ensures station { IfOk result (λ peer. peer.station ≡ seat.entry.station + 1) }
+    ensures address { IfOk result (λ peer. string_bytes peer.address
+        ≡ addr_text (listens seat.entry)) }
+{
+    let mut address = String::new(alloc);
+    put_address(&mut address, seat.listens())?;
+    Ok(Peer {
+        station: seat.station + 1,
+        address,
+    })
+}

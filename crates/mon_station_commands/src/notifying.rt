@@ -1,0 +1,302 @@
+//! Notifications of a running station: what is put for the receiver, and its delivery.
+
+ghost use Rattle.std.specs.Prelude.{◌≡◌, ◌∷◌, [], OnOk, Some, option_copied, option_map};
+ghost use Rattle.mon_host.specs.Log.{GoesOnBy};
+ghost use Rattle.mon_file_commands.specs.Line.{AreNoted};
+ghost use Rattle.mon_notify.specs.Mail.{after_put};
+ghost use Rattle.mon_station_commands.specs.Notifying.{AreDevicesPut, ArePut, HasTurn, IsCourier, IsDateAt, IsDevicePut, IsPut, IsSeenAt, alarm_notice_at, alarm_texts, all_put, dropped_of, is_silence, mail_in, news_level, news_line, until_turn, wanted_of};
+ghost use Rattle.mon_station_commands.specs.Quiet.{AreQuiet};
+
+use crate::live::Live;
+use crate::troubles::silent_text;
+use httpdate::HttpDate;
+use mon_alarms::AlarmChange;
+use mon_board::Board;
+use mon_console::{DeviceSeen, Failure, Seen, SharedPrinting};
+use mon_courier::{Courier, News};
+use mon_host::{Host, Level};
+use mon_http_client::{TargetFault, parse_target};
+use mon_rounds::{Change, Receiver, TargetAge, Trouble};
+use mon_station::Outbox;
+use std::alloc::{AllocError, Global};
+use std::net::Net;
+
+/// The last second of the year 9999, in seconds since 1970-01-01 00:00:00 UTC.
+const LAST_SECOND: u64 = 253_402_300_799;
+
+/// After how many milliseconds of receiving between two rounds what came is reported and shown, at
+/// most.
+const TELL_AFTER: u64 = 1000;
+
+/// Returns what delivers notifications to the URL that `--notify` gives, if it is given.
+pub(crate) fn courier_of(alloc: Global, url: Option<&str>) -> Result<Option<Courier>, Failure>
+    ensures { IsCourier (option_copied url.entry) result }
+{
+    match url {
+        Some(url) => courier_to(alloc, url),
+        None => Ok(None),
+    }
+}
+
+/// Returns what delivers notifications to this URL.
+fn courier_to(alloc: Global, url: &str) -> Result<Option<Courier>, Failure>
+    ensures { IsCourier (Some url.now) result }
+{
+    match parse_target(url) {
+        Ok(target) => Ok(Some(Courier::new(alloc, &target)?)),
+        Err(fault) => Err(Failure::text(alloc, url, wanted_of(fault))),
+    }
+}
+
+/// Returns what is wanted in place of a URL that has this fault.
+fn wanted_of<'a>(fault: TargetFault) -> &'a str
+    ensures { result.now ≡ wanted_of fault }
+{
+    match fault {
+        TargetFault::Https => "http://, and a proxy for HTTPS,",
+        _ => "http://a.b.c.d:port/path",
+    }
+}
+
+/// What the notices of a look at a station are made of.
+#[derive(Clone, Copy)]
+pub(crate) struct Look<'a> {
+    pub(crate) board: &'a Board,
+    pub(crate) printing: &'a SharedPrinting,
+    pub(crate) seen: Seen,
+}
+
+/// Returns that this station sees something at this time, in seconds since 1970-01-01 00:00:00 UTC.
+pub(crate) fn seen_at(station: u32, seconds: u64) -> Seen
+    ensures { IsSeenAt station seconds result }
+{
+    Seen {
+        station,
+        date: date_of(seconds),
+    }
+}
+
+/// Returns the date at this time; a time after the year 9999 counts as its end.
+fn date_of(seconds: u64) -> HttpDate
+    ensures { IsDateAt seconds result }
+{
+    HttpDate::from_unix_secs(seconds.min(LAST_SECOND)).unwrap()
+}
+
+/// Puts a notice of each of these changes of alarms, in order, if there is a receiver. If there is
+/// no memory for one, it and those after it are counted as dropped.
+pub(crate) fn notify_alarms(
+    alloc: Global,
+    courier: &mut Option<Courier>,
+    look: Look<'_>,
+    changes: &[AlarmChange],
+) -> Result<(), AllocError>
+    ensures { OnOk result (mail_in courier.new
+        ≡ option_map (all_put (alarm_texts look.entry changes.now)) (mail_in courier.old)) }
+{
+    match courier {
+        Some(courier) => put_alarms(alloc, courier, look, changes),
+        None => Ok(()),
+    }
+}
+
+/// Puts a notice of each of these changes of alarms, in order.
+fn put_alarms(
+    alloc: Global,
+    courier: &mut Courier,
+    look: Look<'_>,
+    changes: &[AlarmChange],
+) -> Result<(), AllocError>
+    ensures { OnOk result (courier.new.mail ≡ all_put (alarm_texts look.entry changes.now)
+        courier.old.mail) }
+{
+    for place in 0..changes.len() {
+        if let Err(error) = put_alarm(alloc, courier, look, &changes[place]) {
+            lose(courier, changes.len() - place);
+            return Err(error);
+        }
+    }
+    Ok(())
+}
+
+/// Counts this many texts as dropped, for which there was no memory.
+fn lose(courier: &mut Courier, count: usize) {
+    for _ in 0..count {
+        courier.lose();
+    }
+}
+
+/// Puts a notice of a change of an alarm.
+fn put_alarm(
+    alloc: Global,
+    courier: &mut Courier,
+    look: Look<'_>,
+    change: &AlarmChange,
+) -> Result<(), AllocError>
+    ensures { OnOk result (courier.new.mail ≡ after_put (alarm_notice_at look.entry change.now)
+        courier.old.mail) }
+{
+    let text = look
+        .printing
+        .alarm_message(alloc, look.board, look.seen, change)?;
+    courier.put(text.as_slice());
+    Ok(())
+}
+
+/// Puts a notice of each of these changes in which a target gives no answer or answers again, in
+/// order, if there is a receiver. If there is no memory for one, it and those after it are counted
+/// as dropped.
+pub(crate) fn notify_devices(
+    alloc: Global,
+    courier: &mut Option<Courier>,
+    targets: &[TargetAge],
+    look: Look<'_>,
+    changes: &[Change],
+) -> Result<(), AllocError>
+    ensures { OnOk result (AreDevicesPut look.entry.printing.now look.entry.seen targets.now
+        changes.now
+        (mail_in courier.old) (mail_in courier.new)) }
+{
+    match courier {
+        Some(courier) => put_devices(alloc, courier, targets, look, changes),
+        None => Ok(()),
+    }
+}
+
+/// Puts a notice of each of these changes in which a target gives no answer or answers again.
+fn put_devices(
+    alloc: Global,
+    courier: &mut Courier,
+    targets: &[TargetAge],
+    look: Look<'_>,
+    changes: &[Change],
+) -> Result<(), AllocError>
+    ensures { OnOk result (ArePut look.entry.printing.now look.entry.seen targets.now changes.now
+        courier.old.mail courier.new.mail) }
+{
+    for place in 0..changes.len() {
+        if let Err(error) = put_device(alloc, courier, targets, look, changes[place]) {
+            lose(courier, changes.len() - place);
+            return Err(error);
+        }
+    }
+    Ok(())
+}
+
+/// Puts a notice of a change if in it a target gives no answer or answers again.
+fn put_device(
+    alloc: Global,
+    courier: &mut Courier,
+    targets: &[TargetAge],
+    look: Look<'_>,
+    change: Change,
+) -> Result<(), AllocError>
+    ensures { OnOk result (IsPut look.entry.printing.now look.entry.seen targets.now change
+        courier.old.mail courier.new.mail) }
+{
+    if is_silence(change.trouble) {
+        return put_silence(
+            alloc,
+            courier,
+            targets.get(change.number),
+            look,
+            change.begins,
+        );
+    }
+    Ok(())
+}
+
+/// Returns `true` if a trouble is that a target gives no answer.
+fn is_silence(trouble: Trouble) -> bool
+    ensures { result ≡ is_silence trouble }
+{
+    matches!(trouble, Trouble::SilentTarget)
+}
+
+/// Puts a notice that the device at a target gives no answer, or answers again, if there is such a
+/// target.
+fn put_silence(
+    alloc: Global,
+    courier: &mut Courier,
+    target: Option<&TargetAge>,
+    look: Look<'_>,
+    is_down: bool,
+) -> Result<(), AllocError>
+    ensures { OnOk result (IsDevicePut look.entry.printing.now look.entry.seen is_down
+        (option_map (λ t. t.now) target.entry) courier.old.mail courier.new.mail) }
+{
+    let Some(target) = target else {
+        return Ok(());
+    };
+    let line = silent_text(alloc, target, is_down)?;
+    let device = DeviceSeen {
+        target: target.address,
+        is_down,
+    };
+    let text = look
+        .printing
+        .device_message(alloc, look.board, look.seen, device, line.as_str())?;
+    courier.put(text.as_slice());
+    Ok(())
+}
+
+/// Has the courier take a turn, if there is one, and says what is new of its deliveries.
+pub(crate) fn deliver<R: Net, H: Host, S: Receiver + Drop, O: Outbox + Drop>(
+    rt: &R,
+    host: &mut H,
+    live: &mut Live<S, O>,
+)
+    ensures quiet { GoesOnBy AreQuiet (H.log host.old) (H.log host.new) }
+    ensures turn { HasTurn live.old.ended live.old.courier live.new.courier }
+    ensures printing { live.new.reports.printing ≡ live.old.reports.printing }
+    ensures paths { live.new.reports.paths ≡ live.old.reports.paths }
+    ensures kept { live.new.kept ≡ live.old.kept }
+{
+    let now = live.ended;
+    if let Some(courier) = &mut live.courier {
+        if let Some(news) = courier.turn(rt, now) {
+            tell_news(host, news);
+        }
+    }
+}
+
+/// Says what is new of the deliveries.
+fn tell_news<H: Host>(host: &mut H, news: News)
+    ensures { GoesOnBy (AreNoted (news_line news ∷ [])) (H.log host.old) (H.log host.new) }
+{
+    host.note(
+        news_level(news),
+        format_args!("snmpmon: notifications: {news}\n"),
+    );
+}
+
+/// Returns how grave it is.
+fn news_level(news: News) -> Level
+    ensures { result ≡ news_level news }
+{
+    match news {
+        News::Again => Level::Notice,
+        News::Fails(_) | News::Refused(_) => Level::Warning,
+    }
+}
+
+/// Returns in how many milliseconds the courier wants its next turn, at least 1 and at most 1,000.
+pub(crate) fn until_turn<S: Receiver + Drop, O: Outbox + Drop>(live: &Live<S, O>) -> u32
+    ensures { result ≡ until_turn live.now.ended live.now.courier }
+{
+    let rest = match &live.courier {
+        Some(courier) => courier.rest(live.ended).unwrap_or(TELL_AFTER),
+        None => TELL_AFTER,
+    };
+    rest.min(TELL_AFTER).max(1) as u32
+}
+
+/// Returns how many notifications were not delivered and will not be, if there is a receiver.
+pub(crate) fn dropped_in(courier: &Option<Courier>) -> Option<u64>
+    ensures { result ≡ option_map dropped_of courier.now }
+{
+    match courier {
+        Some(courier) => Some(courier.dropped()),
+        None => None,
+    }
+}
