@@ -92,6 +92,88 @@ BUGS = {
     ),
     "june_is_july": ("src/time.rt", "        *b\"06\"", "        *b\"07\""),
     "day_for_month": ("src/time.rt", "b'-', m0, m1, b'-', t[5], t[6], b'T'", "b'-', t[5], t[6], b'-', m0, m1, b'T'"),
+    "of_another_alarm": ("src/alarms.rt", "    rule_message(alloc, names, scene, rule, turn)\n", "    Ok(Vec::new(alloc))\n"),
+    "begins_with_its_end": (
+        "src/alarms.rt",
+        "        AlarmEvent::Raised { .. } => None,",
+        "        AlarmEvent::Raised { .. } => Some(date),",
+    ),
+    "never_cleared": (
+        "src/alarms.rt",
+        "        AlarmEvent::Cleared { .. } | AlarmEvent::Lapsed => Some(date),",
+        "        AlarmEvent::Cleared { .. } => Some(date),\n        AlarmEvent::Lapsed => None,",
+    ),
+    "labels_of_the_first": ("src/alarms.rt", "scene.labels.get(place)", "scene.labels.first()"),
+    "of_the_first_instance": (
+        "src/alarms.rt",
+        "scene.board.watch().instances().get(place)",
+        "scene.board.watch().instances().get(0)",
+    ),
+    "both_thresholds_rise": (
+        "src/alarms.rt",
+        "        falling: threshold_text(alloc, rule.falling())?,",
+        "        falling: threshold_text(alloc, rule.rising())?,",
+    ),
+    "named_by_the_engine": (
+        "src/alarms.rt",
+        "        name: names.text(alloc, &instance.name)?,",
+        "        name: hex::encode(alloc, instance.engine.as_slice())?,",
+    ),
+    "a_threshold_in_units": ("src/alarms.rt", "    write!(text, \"{threshold}\")?;", "    write!(text, \"{}\", threshold / 1000)?;"),
+    "the_alias_twice": (
+        "src/alarms.rt",
+        "        if_name: if_name_of(labels),",
+        "        if_name: if_alias_of(labels),",
+    ),
+    "no_line_for_people": ("src/alarms.rt", "            summary: turn.summary,", "            summary: \"\","),
+    "a_threshold_is_the_station": (
+        "src/alarms.rt",
+        "        station: texts.station.as_str(),",
+        "        station: texts.rising.as_str(),",
+    ),
+    "station_zero": ("src/scene.rt", "    write!(text, \"{station}\")?;", "    write!(text, \"0\")?;"),
+    "an_address_without_port": ("src/devices.rt", "    write!(text, \"{address}\")?;", "    write!(text, \"{}\", address.port)?;"),
+    "the_first_device": (
+        "src/devices.rt",
+        "        if has_address(known, address) {\n            return device_of(Some(known));",
+        "        if true {\n            return device_of(Some(known));",
+    ),
+    "no_device_is_known": (
+        "src/devices.rt",
+        "            return device_of(Some(known));",
+        "            return None;",
+    ),
+    "a_rule_of_station_zero": ("src/alarms.rt", "        station: scene.station,", "        station: 0,"),
+    "down_for_ever": (
+        "src/devices.rt",
+        "    if is_down { None } else { Some(date) }",
+        "    if is_down { None } else { None }",
+    ),
+    "up_is_down": (
+        "src/devices.rt",
+        "    if is_down { None } else { Some(date) }",
+        "    if is_down { Some(date) } else { None }",
+    ),
+    "each_address_is_its": (
+        "src/known.rt",
+        "        Some(target) => target.as_str() == address,",
+        "        Some(_) => true,",
+    ),
+    "no_target_is_each": (
+        "src/known.rt",
+        "        None => false,\n        Some(target)",
+        "        None => true,\n        Some(target)",
+    ),
+    "the_address_as_the_device": (
+        "src/known.rt",
+        "        Some(labels) => labels.device.as_deref(),",
+        "        Some(labels) => labels.target.as_deref(),",
+    ),
+    "an_alias_is_unknown": (
+        "src/known.rt",
+        "        Some(labels) => labels.if_alias.as_deref(),",
+        "        Some(_) => None,",
+    ),
 }
 
 # Those that break a promise as a whole, each with its function: tests/bodies tries them in the gate.
@@ -104,4 +186,11 @@ PROMISES = {
     "rising_for_falling": "changes::alarm_labels",
     "names_and_values_run_together": "fingerprint::label_hashed",
     "june_is_july": "time::month_digits",
+    "never_cleared": "alarms::end_of",
+    "both_thresholds_rise": "alarms::texts_of",
+    "the_alias_twice": "alarms::labels_in",
+    "labels_of_the_first": "alarms::rule_message",
+    "the_first_device": "devices::device_at",
+    "down_for_ever": "devices::end_if_up",
+    "each_address_is_its": "known::has_address",
 }
