@@ -416,5 +416,5 @@ BUGS = {
 # Those that break a promise as a whole, each with its function: tests/bodies tries them in the gate.
 PROMISES = {
     "bulk_in_place_goes_on_after_what_does_not_fit": "bulk_in_place::put_round",
-    "bulk_cuts_at_whole_rounds": "growing::ResponseBuilder::push",
+    "bulk_cuts_at_whole_rounds": "response_builder::ResponseBuilder::push",
 }

@@ -201,7 +201,7 @@ BUGS = {
 
 # Those that break a promise as a whole, each with its function: the gate tries them.
 PROMISES = {
-    "keeps_no_datagram": "latest::keep_newest",
-    "gives_no_reason": "latest::NewestDatagrams::reason",
-    "knows_no_other_engine": "latest::NewestDatagrams::other_engine",
+    "keeps_no_datagram": "newest_datagrams::keep_newest",
+    "gives_no_reason": "newest_datagrams::NewestDatagrams::reason",
+    "knows_no_other_engine": "newest_datagrams::NewestDatagrams::other_engine",
 }

@@ -1237,7 +1237,7 @@ BUGS = {
 
 # Those that break a promise as a whole, each with its function: tests/bodies tries them in the gate.
 PROMISES = {
-    "says_all_changes_though_they_must_hold": "course::Totals::take_changes",
+    "says_all_changes_though_they_must_hold": "totals::Totals::take_changes",
     "the_first_wrong_engine_stays": "changes::put_engine_change",
     "keeps_no_datagram_of_a_target": "source::Rounds::keep_latest",
     "begins_a_round_before_it_lends_the_receiver": "source::Rounds::receiver_mut",
