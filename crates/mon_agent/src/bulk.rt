@@ -46,7 +46,8 @@ pub(crate) fn bulk<D: Device + Drop>(
 /// The variable bindings that are answered once, and those that are answered in each round.
 fn split(request: &Bulk) -> (&[Binding], &[Binding])
     ensures once { result.0.now ≡ take (count_of request.now.non_repeaters) request.now.bindings }
-    ensures repeated { result.1.now ≡ drop (count_of request.now.non_repeaters) request.now.bindings }
+    ensures repeated { result.1.now ≡ drop (count_of request.now.non_repeaters)
+        request.now.bindings }
 {
     let asked = request.bindings.as_slice();
     asked.split_at(count(request.non_repeaters).min(asked.len()))

@@ -82,7 +82,8 @@ pub(crate) fn read_names(alloc: Global, octets: &[u8], names: &mut Vec<Oid>) -> 
 fn read_name<'b>(alloc: Global, octets: &'b [u8], names: &mut Vec<Oid>) -> Option<&'b [u8]>
     ensures named { IfSome result (λ rest. (text : List ℕ) × (asked : AnyBinding)
         × IsBinding text asked
-        × (octets.now ≡ text ++ rest.now) × (names.new.items ≡ names.old.items ++ asked.name ∷ [])) }
+        × (octets.now ≡ text ++ rest.now)
+        × (names.new.items ≡ names.old.items ++ asked.name ∷ [])) }
     ensures shorter { IfSome result (λ rest. length rest.now < length octets.now) }
 {
     let (name, rest) = asked_name(alloc, octets)?;

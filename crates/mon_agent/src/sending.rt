@@ -180,7 +180,8 @@ fn write_listed(
     list: usize,
     size: usize,
 ) -> Result<Reply, AllocError>
-    requires measured { list ≡ size_counted (length (list_contents (bindings_of message.now.body))) }
+    requires measured { list ≡ size_counted
+        (length (list_contents (bindings_of message.now.body))) }
     requires length { HasLength message.now }
     requires size { length (written_message message.now) ≤ size }
     ensures { IfOk result (IsSending message.now) }

@@ -59,7 +59,8 @@ impl<'a, R: Ticks + Net, S: Binds + Receives + Sends> WireBy<'a, R, S> {
     /// # Errors
     /// `SocketFault` if the system gives no socket, `OutOfMemory`.
     pub fn open_by(rt: &'a R, agent: Addr) -> Result<Self, AppFault>
-        ensures bound { IfOk result (λ w. IsBound (S.bound w.socket) (S.stands w.socket) free_port) }
+        ensures bound { IfOk result (λ w. IsBound (S.bound w.socket) (S.stands w.socket)
+            free_port) }
         ensures agent { IfOk result (λ w. w.agent ≡ agent) }
         ensures failures { IfOk result (λ w. w.failures ≡ 0) }
     {

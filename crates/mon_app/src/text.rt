@@ -24,7 +24,8 @@ fn put_value(text: &mut String, kind: Kind, value: u64) -> Result<(), AllocError
 
 #[tactic(auto, unfolding(crate::specs::Text::sample_line))]
 fn put_sample(text: &mut String, sample: &Sample) -> Result<(), AllocError>
-    ensures { OnOk result (string_bytes text.new ≡ string_bytes text.old ++ sample_line sample.now) }
+    ensures { OnOk result (string_bytes text.new
+        ≡ string_bytes text.old ++ sample_line sample.now) }
 {
     let (boots, time, discontinuity) = (sample.boots(), sample.time(), sample.discontinuity());
     write!(text, "  {boots} {time} {discontinuity} ")?;

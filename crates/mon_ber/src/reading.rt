@@ -82,7 +82,8 @@ pub fn value_at(alloc: Global, octets: &[u8]) -> Result<(Value, &[u8]), BerFault
 /// The value that the octets begin with, and how many octets it takes (RFC 3417 section 8).
 pub fn read_value(alloc: Global, octets: &[u8]) -> Result<(Value, usize), BerFault>
     // What is read is spelled so.
-    ensures found { IfOk result (λ x. (x.1 ≤ length octets.now) × Spells (take x.1 octets.now) x.0) }
+    ensures found { IfOk result (λ x. (x.1 ≤ length octets.now)
+        × Spells (take x.1 octets.now) x.0) }
     // What is spelled so is read, unless memory runs out.
     ensures only { (v : Value) (k : ℕ) → k ≤ length octets.now → Spells (take k octets.now) v
         → Gives (λ x. x) result (Ok (v, k)) }

@@ -57,5 +57,6 @@ pub fn taken_in_turn()
         → ((i : ℕ) → IsWhole watch old i) → IsTaken watch old new pair.0 pair.1
         → (i : ℕ) → new i ≡ joined watch old (pair ∷ []) i }
     ensures more { (watch : Watch) (windows : ℕ → Samples) (pairs more : List (ℕ × ℕ)) (i : ℕ)
-        → joined watch (joined watch windows pairs) more i ≡ joined watch windows (pairs ++ more) i }
+        → joined watch (joined watch windows pairs) more i
+        ≡ joined watch windows (pairs ++ more) i }
 {}

@@ -18,7 +18,8 @@ pub fn device_text(
     label: Option<&str>,
 ) -> Result<String, AllocError>
     ensures { IfOk result (λ text. string_bytes text
-        ≡ device_text (option_map (λ t. t.now) address.entry) (option_map (λ t. t.now) label.entry)) }
+        ≡ device_text (option_map (λ t. t.now) address.entry)
+        (option_map (λ t. t.now) label.entry)) }
 {
     let mut text = String::new(alloc);
     match (address, label) {

@@ -46,7 +46,8 @@ impl Peers {
     pub fn new(alloc: Global, own: u32, numbers: &[u32]) -> Result<Self, AllocError>
         requires own { 1 ≤ own }
         requires few { length numbers.now ≤ 15 }
-        ensures peers { IfOk result (λ p. p ≡ record { own = own; peers = map unheard numbers.now }) }
+        ensures peers { IfOk result (λ p. p
+            ≡ record { own = own; peers = map unheard numbers.now }) }
         ensures numbers { IfOk result (λ p. peer_numbers p.peers ≡ numbers.now) }
         ensures unknown { IfOk result (λ p. (y : ℕ) → known_incarnation p.peers y ≡ None) }
     {

@@ -62,7 +62,8 @@ pub fn saved_in<H: Host>(
     host: &mut H,
     settings: &StationSettings,
 ) -> Result<Board, Failure>
-    ensures { GoesOnBy (λ log. IsSavedIn settings.now log result) (H.log host.old) (H.log host.new) }
+    ensures { GoesOnBy (λ log. IsSavedIn settings.now log result) (H.log host.old)
+        (H.log host.new) }
 {
     let octets = read_saved(alloc, host, &settings.file, MORE_READS)?;
     board_of(alloc, settings, octets.as_slice())

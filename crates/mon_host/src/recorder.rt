@@ -81,7 +81,8 @@ impl Recorder {
     /// Returns what was done, or None if that is lost.
     pub fn steps(&self) -> Option<&[Step]>
         ensures some { IfSome result
-            (λ steps. recorded self.now.is_lost self.now.steps.items ≡ Some (map step_of steps.now)) }
+            (λ steps. recorded self.now.is_lost self.now.steps.items
+            ≡ Some (map step_of steps.now)) }
         ensures none { IfNone result (recorded self.now.is_lost self.now.steps.items ≡ None) }
     {
         if self.is_lost {

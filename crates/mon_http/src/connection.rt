@@ -91,7 +91,8 @@ fn response(
     request: Request,
     answer: Answer<'_>,
 ) -> Result<Vec<u8>, AllocError>
-    ensures { IfOk result (λ text. text.items ≡ response_text date request (reply_of answer.entry)) }
+    ensures { IfOk result (λ text. text.items
+        ≡ response_text date request (reply_of answer.entry)) }
 {
     let body = answer.body();
     let mut out = Vec::with_capacity(alloc, HEAD_CAPACITY)?;

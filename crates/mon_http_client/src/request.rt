@@ -10,7 +10,8 @@ use std::alloc::AllocError;
 fn put(text: &mut Vec<u8>, octets: &[u8]) -> Result<(), AllocError>
     ensures added { OnOk result (text.new.items ≡ text.old.items ++ octets.now) }
     ensures capacity { vec_capacity text.old ≤ vec_capacity text.new }
-    ensures full { OnErr result (vec_capacity text.old < length text.old.items + length octets.now) }
+    ensures full { OnErr result (vec_capacity text.old
+        < length text.old.items + length octets.now) }
 {
     text.extend_from_slice(octets)
 }
@@ -79,7 +80,8 @@ pub fn put_get(text: &mut Vec<u8>, host: &[u8], path: &[u8]) -> Result<(), Alloc
 fn put_type(text: &mut Vec<u8>) -> Result<(), AllocError>
     ensures added { OnOk result (text.new.items ≡ text.old.items ++ type_field) }
     ensures capacity { vec_capacity text.old ≤ vec_capacity text.new }
-    ensures full { OnErr result (vec_capacity text.old < length text.old.items + length type_field) }
+    ensures full { OnErr result (vec_capacity text.old
+        < length text.old.items + length type_field) }
 {
     put_field(text, b"Content-Type", b"application/json")
 }

@@ -138,7 +138,8 @@ fn path_in(rest: &[u8]) -> Result<&[u8], TargetFault>
 
 /// Returns the target of a URL whose scheme was read: `rest` is what follows `http://`.
 fn target_in(rest: &[u8]) -> Result<Target<'_>, TargetFault>
-    ensures target { IfOk result (λ t. target_in rest.now ≡ Ok (t.host.now, t.address, t.path.now)) }
+    ensures target { IfOk result (λ t. target_in rest.now
+        ≡ Ok (t.host.now, t.address, t.path.now)) }
     ensures fault { IfErr result (λ fault. target_in rest.now ≡ Err fault) }
 {
     let host = before_slash(rest);
@@ -161,7 +162,8 @@ fn target_in(rest: &[u8]) -> Result<Target<'_>, TargetFault>
 /// # Errors
 /// The first [`TargetFault`] that it has.
 pub fn parse_target(text: &str) -> Result<Target<'_>, TargetFault>
-    ensures target { IfOk result (λ t. target_of text.now ≡ Ok (t.host.now, t.address, t.path.now)) }
+    ensures target { IfOk result (λ t. target_of text.now
+        ≡ Ok (t.host.now, t.address, t.path.now)) }
     ensures fault { IfErr result (λ fault. target_of text.now ≡ Err fault) }
 {
     let octets = text.as_bytes();

@@ -85,7 +85,8 @@ fn read_entry_after(
     done: &[InterfaceLabels],
     value: &Value,
 ) -> Read<InterfaceLabels>
-    ensures { Reads described (entry_after number (map described done.now) (view value.now)) result }
+    ensures { Reads described (entry_after number (map described done.now) (view value.now))
+        result }
 {
     let labels = read_entry(alloc, number, value)?;
     unless_twice(number, done, labels)

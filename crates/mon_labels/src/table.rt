@@ -24,7 +24,8 @@ pub(crate) struct Reader<'t> {
 
 /// Returns the value at a key, if there is one.
 pub(crate) fn find(table: &Table, key: Key) -> Option<&Value>
-    ensures { option_map (λ v. view v.now) result ≡ get_member (key_name key) (table_view table.now) }
+    ensures { option_map (λ v. view v.now) result
+        ≡ get_member (key_name key) (table_view table.now) }
 {
     table.get(key.name())
 }
@@ -80,7 +81,8 @@ impl<'t> Reader<'t> {
         ensures there { IfOk result (λ v. get_member (key_name key) (table_view self.now.table.now)
             ≡ Some (view v.now)) }
         ensures missing { IfErr result (λ e. (get_member (key_name key)
-            (table_view self.now.table.now) ≡ None) × (e ≡ LabelsFault.Missing self.now.place key)) }
+            (table_view self.now.table.now) ≡ None)
+            × (e ≡ LabelsFault.Missing self.now.place key)) }
     {
         find(self.table, key).ok_or(LabelsFault::Missing(self.place, key))
     }

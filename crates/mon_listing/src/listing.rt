@@ -110,7 +110,8 @@ fn found_of<'a>(
     names: &[&'a str],
 ) -> Result<Vec<(Oid, &'a str)>, ListFault<'a>>
     requires { IsSorted text_cmp names.now }
-    ensures same { IfOk result (λ rows. map (λ r. r.1.now) rows.items ≡ map (λ n. n.now) names.now) }
+    ensures same { IfOk result (λ rows. map (λ r. r.1.now) rows.items
+        ≡ map (λ n. n.now) names.now) }
     ensures meant { IfOk result (λ rows. All (λ r. IsMeant known.now (seen r)) rows.items) }
     ensures fault { IfErr result (IsListFault known.now (map (λ n. n.now) names.now)) }
 {

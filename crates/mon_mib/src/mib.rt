@@ -148,7 +148,8 @@ impl<D: Device + Drop> Mib<D> {
 
     /// The least instance of an object from a start on.
     pub(crate) fn next_instance(&self, object: Object, start: Start) -> Option<u32>
-        ensures { IsLeastOf (instances (D.held (map_device self.now)) object) (IsFrom start) result }
+        ensures { IsLeastOf (instances (D.held (map_device self.now)) object) (IsFrom start)
+            result }
     {
         match start {
             Start::First => self.instance_above(object, None),
@@ -159,7 +160,8 @@ impl<D: Device + Drop> Mib<D> {
 
     /// The least instance of an object above another, or of all.
     fn instance_above(&self, object: Object, after: Option<u32>) -> Option<u32>
-        ensures { IsLeastOf (instances (D.held (map_device self.now)) object) (IsAbove after) result }
+        ensures { IsLeastOf (instances (D.held (map_device self.now)) object) (IsAbove after)
+            result }
     {
         match object {
             Object::Column(_) => self.device.next_index(after),

@@ -1,5 +1,6 @@
 -- The texts of what became of a board's alarms, and of devices.
-use Rattle.std.specs.Prelude.{ℕ, Bool, false, true, List, [], Option, Some, None, decimal, option_map}
+use Rattle.std.specs.Prelude.{ℕ, Bool, false, true, List, [], Option, Some, None, decimal}
+use Rattle.std.specs.Prelude.{option_map}
 use Rattle.std.specs.Prelude.{option_and_then, slice_get, string_bytes}
 use Rattle.std.specs.Fmt.{signed_decimal}
 use Rattle.std.specs.List.{find}
@@ -138,5 +139,6 @@ end_if_up false date = Some date
 abbrev pub device_text : List InstanceLabels → (station : ℕ) → (summary : List ℕ) → Date
     → (target : Addr) → (is_down : Bool) → List ℕ
 device_text labels station summary date target is_down =
-    text_of (device_pairs (addr_text target) (device_at (addr_text target) labels) (decimal station))
+    text_of (device_pairs (addr_text target) (device_at (addr_text target) labels)
+    (decimal station))
     summary date (end_if_up is_down date)

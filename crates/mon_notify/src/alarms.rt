@@ -47,9 +47,9 @@ struct Subject<'a> {
 
 /// Returns the text of a change of an alarm of the scene's board: the object of `message`, as JSON.
 /// The labels are the engine id in hex digits, the name as it is shown, the thresholds in
-/// thousandths, the station's number, and the device, target, ifName and ifAlias if the instance has
-/// them. The summary is a line for people. It starts at the scene's date, and ends at it unless the
-/// alarm was raised.
+/// thousandths, the station's number, and the device, target, ifName and ifAlias if the instance
+/// has them. The summary is a line for people. It starts at the scene's date, and ends at it unless
+/// the alarm was raised.
 ///
 /// The text is empty if the watch has no such rule or does not have the rule's instance.
 ///

@@ -58,7 +58,8 @@ fn lengths_of(frame: &Frame<'_>, list: usize) -> Lengths
     ensures body { (octets : List ℕ) → list ≡ size_counted (length octets)
         → result.body ≡ size_counted (length (contents_of_body (framed frame.now []).body octets)) }
     ensures message { (octets : List ℕ) → list ≡ size_counted (length octets)
-        → result.message ≡ size_counted (length (contents_of_message (framed frame.now []) octets)) }
+        → result.message ≡ size_counted (length
+        (contents_of_message (framed frame.now []) octets)) }
 {
     lengths_from(frame.community.len(), numbers_len(frame), list)
 }

@@ -354,7 +354,8 @@ fn put_message(out: &mut Vec<u8>, message: &Message, lengths: Lengths, list: &Li
     requires list { lengths.list ≡ size_counted (length (octets_of list.now)) }
     requires room { vec_len out.old + length (message_around message.now (octets_of list.now))
         ≤ vec_capacity out.old }
-    ensures items { out.new.items ≡ out.old.items ++ message_around message.now (octets_of list.now) }
+    ensures items { out.new.items ≡ out.old.items
+        ++ message_around message.now (octets_of list.now) }
     ensures len { vec_len out.new ≡ vec_len out.old + length
         (message_around message.now (octets_of list.now)) }
     ensures capacity { vec_capacity out.old ≤ vec_capacity out.new }
@@ -405,7 +406,8 @@ pub fn write_within(out: &mut Vec<u8>, message: &Message)
 /// Writes what `write_within` writes. The message's variable bindings take `list` octets, as
 /// `list_len` counts them, and are measured once, to be written.
 pub fn write_measured(out: &mut Vec<u8>, message: &Message, list: usize)
-    requires measured { list ≡ size_counted (length (list_contents (bindings_of message.now.body))) }
+    requires measured { list ≡ size_counted
+        (length (list_contents (bindings_of message.now.body))) }
     requires fits { HasLength message.now }
     requires room { vec_len out.old + length (written_message message.now) ≤ vec_capacity out.old }
     ensures items { out.new.items ≡ out.old.items ++ written_message message.now }
@@ -422,7 +424,8 @@ pub fn write_measured(out: &mut Vec<u8>, message: &Message, list: usize)
 #[tactic(auto, using(crate::proofs::Lengths::message_length))]
 pub fn write_message(alloc: Global, message: &Message) -> Result<Vec<u8>, PduFault>
     ensures valid { IsValid message.now }
-    ensures ok { IfOk result (λ v. HasLength message.now × (v.items ≡ written_message message.now)) }
+    ensures ok { IfOk result (λ v. HasLength message.now
+        × (v.items ≡ written_message message.now)) }
     // What is written is a spelling of the message.
     ensures spelled { IfOk result (λ v. IsMessage v.items message.now) }
     ensures err { IfErr result (λ e. (e ≡ OutOfMemory) ⊎ ((e ≡ BadLength)

@@ -46,7 +46,8 @@ pub fn machines_in(alloc: Global, text: &str, stations: u32) -> Result<Vec<Machi
 fn require_enough(machines: &[Machine], stations: u32) -> Result<(), MachinesFault>
     ensures enough { IfOk result (λ _. enough stations (map listed machines.now)
         ≡ Ok (map listed machines.now)) }
-    ensures refused { IfErr result (λ fault. enough stations (map listed machines.now) ≡ Err fault) }
+    ensures refused { IfErr result (λ fault. enough stations (map listed machines.now)
+        ≡ Err fault) }
 {
     if machines.is_empty() {
         return Err(MachinesFault::NoMachine);

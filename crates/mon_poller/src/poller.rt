@@ -258,7 +258,8 @@ impl Poller {
     fn offered_in_place(&mut self, alloc: Global, from: Addr, octets: &[u8]) -> Option<Offered>
         ensures offered { IfSome result (λ o. (m : AnyMessage) × BeginsWithMessage octets.now m
             × (response_verdict self.old.targets self.old.polls.open_polls from (Some m) ≡ Ok o)
-            × (self.new ≡ record self.old { polls = after_response true (Some m) self.old.polls })) }
+            × (self.new ≡ record self.old
+            { polls = after_response true (Some m) self.old.polls })) }
         ensures other { IfNone result (self.new ≡ self.old) }
     {
         let (key, _poll, offered) = in_place(alloc, &self.targets, &self.polls, from, octets)?;

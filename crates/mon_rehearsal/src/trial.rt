@@ -337,7 +337,8 @@ fn write_board(alloc: Global, board: &Board) -> Result<Vec<u8>, StationFault>
 fn same(saved: Vec<u8>, text: Vec<u8>) -> Result<Vec<u8>, TrialFault>
     ensures text { IfOk result (λ one. one.items ≡ text.items) }
     ensures same { OnOk result (saved.items ≡ text.items) }
-    ensures fault { IfErr result (λ fault. (fault ≡ trial.Unexpected) × (saved.items ≢ text.items)) }
+    ensures fault { IfErr result (λ fault. (fault ≡ trial.Unexpected)
+        × (saved.items ≢ text.items)) }
 {
     if saved.as_slice() == text.as_slice() {
         Ok(text)

@@ -42,7 +42,8 @@ fn put_octet<W: Write>(writer: &mut W, ok: bool, octet: u8) -> bool
 
 /// Writes the sub-identifiers in decimal, with dots between them.
 pub(crate) fn put_name<W: Write>(writer: &mut W, ok: bool, name: &Oid) -> bool
-    ensures { AppendsIf (W.contents writer.old) ok (W.contents writer.new) result (dotted name.now) }
+    ensures { AppendsIf (W.contents writer.old) ok (W.contents writer.new) result
+        (dotted name.now) }
 {
     let [first, others @ ..] = name.parts() else {
         return ok;
@@ -168,7 +169,8 @@ pub(crate) fn put_window<W: Write>(
 
 /// Writes an alarm's state.
 fn put_state<W: Write>(writer: &mut W, ok: bool, alarm: AlarmState) -> bool
-    ensures { AppendsIf (W.contents writer.old) ok (W.contents writer.new) result (state_text alarm) }
+    ensures { AppendsIf (W.contents writer.old) ok (W.contents writer.new) result
+        (state_text alarm) }
 {
     match alarm {
         AlarmState::Clear => put(writer, ok, b"clear"),

@@ -23,7 +23,8 @@ pub(crate) fn put<W: Write>(writer: &mut W, ok: bool, octets: &[u8]) -> bool
 /// nothing. An interrupted write is tried again; the turns are counted, so that the loop ends.
 fn send<W: Write>(writer: &mut W, octets: &[u8]) -> usize
     ensures bound { result ≤ length octets.now }
-    ensures taken { Appends (W.contents writer.old) (W.contents writer.new) (take result octets.now) }
+    ensures taken { Appends (W.contents writer.old) (W.contents writer.new)
+        (take result octets.now) }
 {
     let mut sent = 0;
     'writes: for _ in 0..u64::MAX {

@@ -39,7 +39,8 @@ impl Addresses {
     /// Returns the addresses of a core's targets and, in the order of its peers, those of the
     /// peers.
     pub fn of(alloc: Global, core: &Core, peers: &[Addr]) -> Result<Self, AllocError>
-        ensures targets { IfOk result (λ a. a.targets.items ≡ map (λ t. t.address) core.now.targets) }
+        ensures targets { IfOk result (λ a. a.targets.items
+            ≡ map (λ t. t.address) core.now.targets) }
         ensures peers { IfOk result (λ a. a.peers.items ≡ core.now.peers) }
         ensures peer_addresses { IfOk result (λ a. a.peer_addresses.items ≡ peers.now) }
     {

@@ -136,7 +136,8 @@ impl Troubles {
 
     /// Returns what changed from this to what is wrong now.
     fn changes_to(&self, alloc: Global, now: &Troubles) -> Result<Vec<Change>, AllocError>
-        ensures { IfOk result (λ v. v.items ≡ changes_between (told_by self.now) (told_by now.now)) }
+        ensures { IfOk result (λ v. v.items
+            ≡ changes_between (told_by self.now) (told_by now.now)) }
     {
         let mut changes = Vec::new(alloc);
         let (was, is) = (
@@ -185,7 +186,8 @@ fn put_change(
     was: bool,
     is: bool,
 ) -> Result<(), AllocError>
-    ensures { OnOk result (changes.new.items ≡ changes.old.items ++ change_at trouble number was is) }
+    ensures { OnOk result (changes.new.items
+        ≡ changes.old.items ++ change_at trouble number was is) }
 {
     if was != is {
         changes.push(Change {

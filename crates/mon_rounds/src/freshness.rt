@@ -244,8 +244,10 @@ impl Freshness {
             self.old.instances.items }
         ensures failed_saves { self.new.failed_saves ≡ counted_on self.old.failed_saves
             report.now.failed_saves }
-        ensures strangers { self.new.strangers ≡ counted_on self.old.strangers report.now.strangers }
-        ensures round_ms { self.new.round_ms ≡ length_after spell.span spell.took self.old.round_ms }
+        ensures strangers { self.new.strangers
+            ≡ counted_on self.old.strangers report.now.strangers }
+        ensures round_ms { self.new.round_ms
+            ≡ length_after spell.span spell.took self.old.round_ms }
         ensures overruns { self.new.overruns ≡ overruns_after spell.span spell.took spell.interval
             self.old.overruns }
     {

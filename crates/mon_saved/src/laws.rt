@@ -35,7 +35,8 @@ pub fn read_back()
         → SpellsImage (written_image board incarnation) (instances_of board.watch.instances)
         (image_of board incarnation)
         → IsRestored watch (written_image board incarnation) again read
-        → (read ≡ incarnation) × ((i : ℕ) → window_of again i ≡ kept_by watch i (window_of board i)) }
+        → (read ≡ incarnation) × ((i : ℕ)
+        → window_of again i ≡ kept_by watch i (window_of board i)) }
     ensures same { (board again : AnyBoard) (incarnation read : ℕ)
         → ((i : ℕ) → IsWhole board.watch (window_of board) i)
         → SpellsImage (written_image board incarnation) (instances_of board.watch.instances)

@@ -189,7 +189,8 @@ fn entry_at(
     reader: &mut Reader<'_>,
 ) -> Result<Entry, ImageFault>
     requires { length instance.now.engine < 256 }
-    ensures { Gives (λ entry. (entry, reader.new)) result (entry_at window instance.now reader.old) }
+    ensures { Gives (λ entry. (entry, reader.new)) result
+        (entry_at window instance.now reader.old) }
 {
     let sizes = sizes_at(window, reader)?;
     instance_is(instance, reader)?;
@@ -222,7 +223,8 @@ fn entries_at(
     reader: &mut Reader<'_>,
 ) -> Result<Vec<Entry>, ImageFault>
     requires { AreInstances watched.now }
-    ensures { Gives (λ v. v.items) result (all_entries window (instances_of watched.now) reader.old) }
+    ensures { Gives (λ v. v.items) result
+        (all_entries window (instances_of watched.now) reader.old) }
 {
     let mut entries = Vec::with_capacity(alloc, watched.len())?;
     for one in watched {
@@ -238,7 +240,8 @@ fn entries_at(
 /// Reads the image of the watch's instances that all of the octets spell.
 #[tactic(auto, unfolding(crate::specs::Reading::image_at))]
 fn image_at(alloc: Global, watch: &Watch, octets: &[u8]) -> Result<Image, ImageFault>
-    ensures { Gives (λ image. image) result (image_at (instances_of watch.now.instances) octets.now) }
+    ensures { Gives (λ image. image) result
+        (image_at (instances_of watch.now.instances) octets.now) }
 {
     let watched = watch.instances();
     let mut reader = Reader::new(octets);

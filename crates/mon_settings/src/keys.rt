@@ -13,7 +13,8 @@ use toml::{Table, Value};
 
 /// Returns the value at a key, if there is one.
 pub fn find(table: &Table, key: Key) -> Option<&Value>
-    ensures { option_map (λ v. view v.now) result ≡ get_member (key_name key) (table_view table.now) }
+    ensures { option_map (λ v. view v.now) result
+        ≡ get_member (key_name key) (table_view table.now) }
 {
     table.get(key.name())
 }

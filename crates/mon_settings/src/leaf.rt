@@ -55,7 +55,8 @@ impl<'t> Reader<'t> {
 
     /// Returns the number at a key, from 1 to most, or another number if the key is left out.
     pub(crate) fn size_or(&self, key: Key, default: usize, most: usize) -> Read<usize>
-        ensures { result ≡ default_at key default (number_in 1 most) (table_view self.now.table.now) }
+        ensures { result ≡ default_at key default (number_in 1 most)
+            (table_view self.now.table.now) }
     {
         match find(self.table, key) {
             Some(_) => Ok(given!(self.number(key, 1, most as u64)) as usize),

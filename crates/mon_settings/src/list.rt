@@ -70,7 +70,8 @@ fn between(values: &[Value], least: usize, most: usize) -> Option<&[Value]>
 
 /// The values of a list of least to most.
 pub(crate) fn list_between(value: &Value, least: usize, most: usize) -> Option<&[Value]>
-    ensures { option_map (λ vs. items_view vs.now) result ≡ list_between least most (view value.now) }
+    ensures { option_map (λ vs. items_view vs.now) result
+        ≡ list_between least most (view value.now) }
 {
     between(value.as_array()?.as_slice(), least, most)
 }

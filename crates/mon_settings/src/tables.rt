@@ -232,7 +232,8 @@ fn rise(interfaces: &[Interface]) -> bool
 /// The list of the interfaces, whose indexes rise.
 #[tactic(auto, unfolding(crate::specs::Interfaces::interfaces_in, crate::specs::Interfaces::rising))]
 pub(crate) fn read_interfaces(reader: &Reader<'_>) -> Read<Vec<Interface>>
-    ensures gives { Reads (λ ps. ps.items) (interfaces_in (table_view reader.now.table.now)) result }
+    ensures gives { Reads (λ ps. ps.items) (interfaces_in (table_view reader.now.table.now))
+        result }
     ensures indexes { IfOk result (λ ps. AreIndexes (indexes_of ps.items)) }
 {
     let interfaces: Vec<Interface> = given!(reader.list(Key::Interface));

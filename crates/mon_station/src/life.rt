@@ -276,7 +276,8 @@ impl Life {
     /// The samples of a claim with the number of its instance, where that is watched.
     fn pairs(&self, alloc: Global, claim: &Claim) -> Result<InstanceSamples, AllocError>
         ensures pairs { IfOk result (λ pairs. (n : Option ℕ)
-            → IsNumbered self.now.board.watch claim.now n → pairs ≡ claim_pairs n claim.now.samples) }
+            → IsNumbered self.now.board.watch claim.now n
+            → pairs ≡ claim_pairs n claim.now.samples) }
         ensures numbered { (n : Option ℕ) × IsNumbered self.now.board.watch claim.now n }
     {
         match self.board.find(claim.engine.as_slice(), &claim.name) {

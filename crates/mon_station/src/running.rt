@@ -57,7 +57,8 @@ pub trait Source {
         polls: &Poller,
         last: Option<Answer>,
     ) -> Result<Option<OwnedEvent>, SourceFault>
-        ensures gives { gives (view self.old) polls.now.polls.open_polls last result (view self.new) }
+        ensures gives { gives (view self.old) polls.now.polls.open_polls last result
+            (view self.new) }
         ensures failures { failures self.new ≡ failed_after result (failures self.old) };
 }
 

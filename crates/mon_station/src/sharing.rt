@@ -98,7 +98,8 @@ impl Life {
         requires { IsPortion (length self.now.board.watch.instances) portion.now }
         ensures sent { IfOk result (λ out. out ≡ to_peer peer
             (offer_of (state_of self.now) serial portion.now)) }
-        ensures claim { IfOk result (λ _. IsClaim (offer_of (state_of self.now) serial portion.now)) }
+        ensures claim { IfOk result (λ _. IsClaim
+            (offer_of (state_of self.now) serial portion.now)) }
     {
         let watched = &self.board.watch().instances()[usize::from(portion.instance)];
         let instance = &watched.instance;

@@ -229,8 +229,10 @@ impl<D: Disk + Drop> Station<D> {
         ensures there { IfSome result (λ id. IsTrue (map.contains_key
             (state_of self.now.life).poller.polls.open_polls id)) }
         ensures least { IfSome result (λ id. (other : ℕ) → IsTrue
-            (map.contains_key (state_of self.now.life).poller.polls.open_polls other) → id ≤ other) }
-        ensures none { IfNone result ((state_of self.now.life).poller.polls.open_polls ≡ map.empty) }
+            (map.contains_key (state_of self.now.life).poller.polls.open_polls other)
+            → id ≤ other) }
+        ensures none { IfNone result ((state_of self.now.life).poller.polls.open_polls
+            ≡ map.empty) }
     {
         self.life.poller.oldest()
     }

@@ -159,7 +159,8 @@ fn read_appended(
         × IsAppended wanted.now.options.now wanted.now.engine.now wanted.now.answers.now
         wanted.now.planned.now (station_view existing.now.station.now) station
         × (reading.longest ≡ longest_of station) × (reading.targets.items
-        ≡ drop (length (station_view existing.now.station.now).core.targets) station.core.targets)) }
+        ≡ drop (length (station_view existing.now.station.now).core.targets)
+        station.core.targets)) }
     ensures fault { IfErr result (IsMisread existing.now.names.now wanted.now.options.now
         wanted.now.engine.now wanted.now.answers.now wanted.now.planned.now
         (station_view existing.now.station.now) text.now) }

@@ -112,7 +112,8 @@ fn add_unless_there(
     indexes: &[u32],
     one: Planned,
 ) -> Result<(), AllocFailed<Planned>>
-    ensures { OnOk result (counters.new.items ≡ counters.old.items ++ unless_there indexes.now one) }
+    ensures { OnOk result (counters.new.items
+        ≡ counters.old.items ++ unless_there indexes.now one) }
 {
     if has_index(indexes, one.index) {
         return Ok(());
@@ -138,7 +139,8 @@ pub(crate) fn new_counters(
     choice: &Choice<'_>,
     instances: &[Watched],
 ) -> Result<Vec<Planned>, AllocError>
-    ensures { IfOk result (λ v. v.items ≡ new_counters choice.now (at_of places.now) instances.now) }
+    ensures { IfOk result (λ v. v.items ≡ new_counters choice.now (at_of places.now)
+        instances.now) }
 {
     let left = indexes_left(alloc, places, instances)?;
     let Ok(all) = counters_of(alloc, places.answers, choice) else {
@@ -254,7 +256,8 @@ fn added_line(alloc: Global, places: &Places<'_>, index: u32) -> Result<String, 
 
 /// The line of an interface that is gone.
 fn gone_line(alloc: Global, places: &Places<'_>, index: u32) -> Result<String, AllocError>
-    ensures { IfOk result (λ t. string_bytes t ≡ change_line (at_of places.now) (Change.Gone index)) }
+    ensures { IfOk result (λ t. string_bytes t
+        ≡ change_line (at_of places.now) (Change.Gone index)) }
 {
     let name = called(alloc, old_name(places, index), index)?;
     format!(in alloc; "- {name}\n")

@@ -145,7 +145,8 @@ fn is_agent(wanted: &Wanted<'_>, target: &Target) -> bool
 }
 
 fn are_agents(wanted: &Wanted<'_>, targets: &[Target]) -> bool
-    ensures { IsTrue result ↔ All (IsAgent wanted.now.options.now wanted.now.engine.now) targets.now }
+    ensures { IsTrue result ↔ All (IsAgent wanted.now.options.now wanted.now.engine.now)
+        targets.now }
 {
     targets.iter().all(|target| is_agent(wanted, target))
 }

@@ -214,7 +214,8 @@ fn put_step(out: &mut Vec<u8>, swap: Swap<'_>, first: u8, rest: &[u8]) -> Result
 
 /// A text with another part in place of each that is this one.
 fn replaced(alloc: Global, text: &[u8], swap: Swap<'_>) -> Result<Vec<u8>, AllocError>
-    ensures { IfOk result (λ v. v.items ≡ replaced swap.entry.from.now swap.entry.to.now 0 text.now) }
+    ensures { IfOk result (λ v. v.items ≡ replaced swap.entry.from.now swap.entry.to.now 0
+        text.now) }
 {
     let mut out = Vec::new(alloc);
     let mut rest = text;

@@ -118,7 +118,8 @@ fn known_by(
     ensures gives { IfOk result (λ v. (items : Items) × (option_map (λ v. items_view v.now)
         values.entry ≡ Some items) × (v.items ≡ known_in engine.now items)) }
     ensures fault { IfErr result (λ e. (e ≡ SurveyFault.OutOfMemory)
-        ⊎ ((e ≡ SurveyFault.BadLabels) × (option_map (λ v. items_view v.now) values.entry ≡ None))) }
+        ⊎ ((e ≡ SurveyFault.BadLabels) ×
+        (option_map (λ v. items_view v.now) values.entry ≡ None))) }
 {
     let Some(values) = values else {
         return Err(SurveyFault::BadLabels);
@@ -166,7 +167,8 @@ fn indexes_then(
     choice: &Choice<'_>,
     instances: &[Watched],
 ) -> Result<Vec<u32>, AllocError>
-    ensures { IfOk result (λ v. v.items ≡ indexes_then choice.now (at_of places.now) instances.now) }
+    ensures { IfOk result (λ v. v.items ≡ indexes_then choice.now (at_of places.now)
+        instances.now) }
 {
     let mut indexes = indexes_left(alloc, places, instances)?;
     let counters = new_counters(alloc, places, choice, instances)?;
@@ -189,7 +191,8 @@ fn are_rest_in(engine: &str, old: &[Value], new: Option<&[Value]>) -> bool
 
 /// Returns `true` if the text is read as those of the old tables that are of other engines.
 fn reads_rest(alloc: Global, engine: &str, before: &[Value], text: &str) -> Result<bool, AllocError>
-    ensures { IfOk result (λ is. IsTrue is ↔ ReadsRest engine.now (items_view before.now) text.now) }
+    ensures { IfOk result (λ is. IsTrue is
+        ↔ ReadsRest engine.now (items_view before.now) text.now) }
 {
     let read = match tree(alloc, text) {
         Ok(read) => read,
@@ -228,7 +231,8 @@ fn rest_after(
 ) -> Result<String, SurveyFault>
     requires { interfaces_in old.now ≡ Some (items_view before.now) }
     ensures is { IfOk result (λ t. string_bytes t ≡ text_without (quoted engine.now) old.now) }
-    ensures reads { IfOk result (λ t. ReadsRest engine.now (items_view before.now) (string_bytes t)) }
+    ensures reads { IfOk result (λ t. ReadsRest engine.now (items_view before.now)
+        (string_bytes t)) }
     ensures fault { IfErr result (λ e. (e ≡ SurveyFault.OutOfMemory)
         ⊎ IsNoRest old.now engine.now e) }
 {

@@ -102,7 +102,8 @@ fn put_line(
 
 /// Adds the line of a key, where there are octets, as a text.
 fn put_text(alloc: Global, text: &mut Vec<u8>, key: &str, octets: &[u8]) -> Result<(), AllocError>
-    ensures { OnOk result (text.new.items ≡ text.old.items ++ line_of key.now (text_of octets.now)) }
+    ensures { OnOk result (text.new.items
+        ≡ text.old.items ++ line_of key.now (text_of octets.now)) }
 {
     let value = text_of(alloc, octets)?;
     put_line(alloc, text, key, &value)

@@ -41,7 +41,8 @@ pub(crate) fn shown(octet: u8) -> u8
 
 /// Adds an octet as a comment shows it.
 fn put_shown(text: &mut String, octet: u8) -> Result<(), AllocError>
-    ensures { OnOk result (string_bytes text.new ≡ string_bytes text.old ++ map shown (octet ∷ [])) }
+    ensures { OnOk result (string_bytes text.new
+        ≡ string_bytes text.old ++ map shown (octet ∷ [])) }
 {
     text.push(char::from(shown(octet)))
 }
@@ -214,7 +215,8 @@ fn put_module(text: &mut String, path: &str) -> Result<(), AllocError>
 
 /// Adds the list of the modules' files, where there are some.
 pub(crate) fn put_modules(text: &mut String, paths: &[&str]) -> Result<(), AllocError>
-    ensures { OnOk result (string_bytes text.new ≡ string_bytes text.old ++ modules_text paths.now) }
+    ensures { OnOk result (string_bytes text.new
+        ≡ string_bytes text.old ++ modules_text paths.now) }
 {
     if paths.is_empty() {
         return Ok(());

@@ -66,7 +66,8 @@ fn lone_cells<S: NameTexts>(
     listing: &Listing,
     row: Row,
 ) -> Result<Cells, AllocError>
-    ensures { IfOk result (λ cells. texts_of cells ≡ lone_cells (S.shown names.now) listing.now row) }
+    ensures { IfOk result (λ cells. texts_of cells
+        ≡ lone_cells (S.shown names.now) listing.now row) }
 {
     let place = row.place;
     Ok(Cells {
@@ -301,7 +302,8 @@ fn name_of<S: NameTexts>(
     listing: &Listing,
     row: Row,
 ) -> Result<String, AllocError>
-    ensures { IfOk result (λ text. string_bytes text ≡ name_of (S.shown names.now) listing.now row) }
+    ensures { IfOk result (λ text. string_bytes text
+        ≡ name_of (S.shown names.now) listing.now row) }
 {
     let interface = interface_at(alloc, listing.labels(row.place))?;
     let name = name_at(alloc, names, listing, row.place)?;

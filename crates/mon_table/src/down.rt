@@ -51,7 +51,8 @@ fn put_place(text: &mut String, target: &TargetFigures) -> Result<(), AllocError
 /// Adds for how long a target did not answer.
 #[tactic(auto, unfolding(crate::specs::Table::silence_text))]
 fn put_silence(text: &mut String, target: &TargetFigures) -> Result<(), AllocError>
-    ensures { OnOk result (string_bytes text.new ≡ string_bytes text.old ++ silence_text target.now) }
+    ensures { OnOk result (string_bytes text.new
+        ≡ string_bytes text.old ++ silence_text target.now) }
 {
     let (rounds, seconds) = (target.rounds, target.seconds);
     write!(text, " is down: no answer in {rounds} rounds, {seconds} s")
@@ -59,7 +60,8 @@ fn put_silence(text: &mut String, target: &TargetFigures) -> Result<(), AllocErr
 
 /// Adds why a target's last response was refused, if one was.
 fn put_reason(text: &mut String, reason: &Option<String>) -> Result<(), AllocError>
-    ensures { OnOk result (string_bytes text.new ≡ string_bytes text.old ++ reason_text reason.now) }
+    ensures { OnOk result (string_bytes text.new
+        ≡ string_bytes text.old ++ reason_text reason.now) }
 {
     match reason {
         None => Ok(()),

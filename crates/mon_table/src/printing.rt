@@ -269,7 +269,8 @@ fn put_figures(
 
 /// Adds the cell of an age, if there is a column of ages.
 fn put_age_if(alloc: Global, text: &mut String, is_aged: bool, age: &str) -> Result<(), AllocError>
-    ensures { OnOk result (string_bytes text.new ≡ string_bytes text.old ++ age_if is_aged age.now) }
+    ensures { OnOk result (string_bytes text.new
+        ≡ string_bytes text.old ++ age_if is_aged age.now) }
 {
     if !is_aged {
         return Ok(());
@@ -295,7 +296,8 @@ fn put_right_if(
 
 /// Adds a cell at the right end of its column, and the two spaces before the next.
 fn put_right(alloc: Global, text: &mut String, width: usize, cell: &str) -> Result<(), AllocError>
-    ensures { OnOk result (string_bytes text.new ≡ string_bytes text.old ++ to_right width cell.now) }
+    ensures { OnOk result (string_bytes text.new
+        ≡ string_bytes text.old ++ to_right width cell.now) }
 {
     let spaces = " ".repeat(alloc, width.saturating_sub(cell.len()))?;
     write!(text, "{spaces}{cell}  ")
@@ -303,7 +305,8 @@ fn put_right(alloc: Global, text: &mut String, width: usize, cell: &str) -> Resu
 
 /// Adds a cell at the left end of its column, and the two spaces before the next.
 fn put_left(alloc: Global, text: &mut String, width: usize, cell: &str) -> Result<(), AllocError>
-    ensures { OnOk result (string_bytes text.new ≡ string_bytes text.old ++ to_left width cell.now) }
+    ensures { OnOk result (string_bytes text.new
+        ≡ string_bytes text.old ++ to_left width cell.now) }
 {
     let spaces = " ".repeat(alloc, width.saturating_sub(cell.len()))?;
     write!(text, "{cell}{spaces}  ")

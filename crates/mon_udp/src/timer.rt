@@ -58,7 +58,8 @@ impl Timer {
 
 /// Returns what is left now of this many milliseconds that began then.
 fn left_of(milliseconds: u64, began: Instant, now: Instant) -> Duration
-    ensures { as_nanos result ≡ milliseconds * 1_000_000 - (instant_nanos now - instant_nanos began) }
+    ensures { as_nanos result ≡ milliseconds * 1_000_000
+        - (instant_nanos now - instant_nanos began) }
 {
     Duration::from_millis(milliseconds).saturating_sub(now.duration_since(began))
 }

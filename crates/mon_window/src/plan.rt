@@ -36,7 +36,8 @@ pub(crate) fn leaving(
     requires fits { Fits boots_of size epoch items.now }
     requires place { IsPlace nat_cmp items.now sample.now at }
     ensures none { IfNone result (HasRoom boots_of size epoch (boots_of sample.now) items.now) }
-    ensures some { IfSome result (IsLeaving boots_of size epoch (boots_of sample.now) items.now at) }
+    ensures some { IfSome result (IsLeaving boots_of size epoch (boots_of sample.now) items.now
+        at) }
 {
     let boots = sample.boots();
     if epoch >= size {
@@ -62,7 +63,8 @@ fn full_epoch(
     requires fits { Fits boots_of size epoch items.now }
     requires place { IsPlace nat_cmp items.now sample.now at }
     ensures none { IfNone result (length (part boots_of (boots_of sample.now) items.now) < epoch) }
-    ensures some { IfSome result (IsLeaving boots_of size epoch (boots_of sample.now) items.now at) }
+    ensures some { IfSome result (IsLeaving boots_of size epoch (boots_of sample.now) items.now
+        at) }
 {
     let boots = sample.boots();
     if at >= epoch && items[at - epoch].boots() == boots {

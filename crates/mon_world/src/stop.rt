@@ -33,7 +33,8 @@ pub(crate) fn stop_at(
     ensures found { IfOk result (λ left. FindsStopped (nat_lt calls (calls_of_save keep))
         (state_in station.now) (memory_octets (device_of station.now.keeper)) (memory_octets left)) }
     ensures crash { IfOk result (λ left. Only (memory_octets left) (memory_leaves left)) }
-    ensures fault { IfErr result (IsFaultOfBeginning (memory_octets (device_of station.now.keeper))) }
+    ensures fault { IfErr result (IsFaultOfBeginning
+        (memory_octets (device_of station.now.keeper))) }
 {
     let board = station.board();
     // Proof: an image fits.
