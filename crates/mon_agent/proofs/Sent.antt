@@ -29,7 +29,7 @@ use Rattle.mon_mib.specs.declared.set_fault.SetFault.{SetFault}
 use Rattle.mon_mib.specs.declared.set_fault.SetFault.TheVariants.{OutOfMemory, Refused}
 use Rattle.mon_mib.specs.declared.set_status.SetStatus.{SetStatus}
 use Rattle.mon_mib.specs.Commit.{IsCommitted, failures_by_then}
-use Rattle.mon_mib.specs.declared.step.Step.{Step}
+use Rattle.mon_mib.specs.declared.planned_change.PlannedChange.{PlannedChange}
 use Rattle.mon_mib.specs.Assignment.{IsNumberedAssignment, IsSetPlan}
 use Rattle.mon_mib.specs.Refusal.{IsAccepted, IsSetFault}
 use Rattle.mon_mib.specs.SetStatus.{status_number}
@@ -239,7 +239,7 @@ module _ {D : Type 0} (held : D → Held) (failed : D → ℕ) (refuses : D → 
   )
 
   -- a Set of which no variable binding is refused is to be assigned
-  pub planned : (plan : List Step) (response : Message) (size : ℕ) (result : Result Ready AgentFault) → response ≡ greatest m
+  pub planned : (plan : List PlannedChange) (response : Message) (size : ℕ) (result : Result Ready AgentFault) → response ≡ greatest m
       → IsWithinLimit k.settings.limit (greatest m) → All (IsAccepted k sees) (bindings_of m.body) → IsSetPlan k (bindings_of m.body) plan
       → IfOk result (IsAssigning plan response size) → IfOk result (IsReadyToSet held failed refuses k sees device m)
   planned plan response size (Err e) is fits accepted right made = tt
@@ -263,14 +263,14 @@ pub numbered : (k : Known) (sees : List ℕ → Type 0) (bindings : List Binding
 numbered k sees bindings OutOfMemory is = tt
 numbered k sees bindings (Refused status index) is = omega (arith, is.number, is.within)
 
-pub roomy : (k : Known) (m : Message) (plan : List Step) (response : Message) (size : ℕ) (result : Result Ready AgentFault) → response ≡ greatest m
+pub roomy : (k : Known) (m : Message) (plan : List PlannedChange) (response : Message) (size : ℕ) (result : Result Ready AgentFault) → response ≡ greatest m
     → length (bindings_of m.body) < 2 ^ 31 → IsSetPlan k (bindings_of m.body) plan → size ≡ length (written_message response) → size < 2 ^ 32
     → IfOk result (IsAssigning plan response size) → IfOk result IsRoomy
 roomy k m plan response size (Err e) is few right size_is small made = tt
 roomy k m plan response size (Ok (Answer r)) is few right size_is small made = absurd made
 roomy k m plan response size (Ok (Assign a)) is few right size_is small made =
     let same : a.response ≡ greatest m = made.1 ∙ is in
-    let within : (s : Step) → IsNumberedAssignment k (bindings_of m.body) s → s.index ≤ length (bindings_of m.body) = λ s at. omega (arith, at.number, at.last.within) in
+    let within : (s : PlannedChange) → IsNumberedAssignment k (bindings_of m.body) s → s.index ≤ length (bindings_of m.body) = λ s at. omega (arith, at.number, at.last.within) in
     let long : length (written_message a.response) ≡ size = ap (λ (r : Message). length (written_message r)) made.1 ∙ sym size_is in
     record {
       greatest_is = same ∙ sym (ap greatest same);

@@ -14,7 +14,7 @@ use Rattle.mon_mib.specs.declared.commit.Commit.{Commit}
 use Rattle.mon_mib.specs.declared.commit.Commit.TheVariants.{Done, CommitFailed, UndoFailed}
 use Rattle.mon_mib.specs.declared.set_status.SetStatus.{SetStatus}
 use Rattle.mon_mib.specs.declared.set_status.SetStatus.TheVariants.{NoAccess, WrongType, WrongLength, WrongValue, NoCreation, NotWritable}
-use Rattle.mon_mib.specs.declared.step.Step.{Step}
+use Rattle.mon_mib.specs.declared.planned_change.PlannedChange.{PlannedChange}
 use Rattle.mon_mib.specs.Commit.{IsCommitted, IsFailedAfter}
 use Rattle.mon_mib.specs.Held.{Held}
 use Rattle.mon_mib.specs.SetStatus.{status_number}
@@ -82,15 +82,15 @@ module _ (shrinks : (community : List ℕ) (p : Pdu) (status index other most : 
 
 -- the assignment that failed is one of the plan's
 module _ {D : Type 0} (held : D → Held) (refuses : D → Change → Type 0) where
-  number_within : (count : ℕ) (done steps : List Step) (before : Held) (number : ℕ) → All (λ (s : Step). s.index ≤ count) steps
+  number_within : (count : ℕ) (done steps : List PlannedChange) (before : Held) (number : ℕ) → All (λ (s : PlannedChange). s.index ≤ count) steps
       → IsFailedAfter held refuses done steps before number → number ≤ count
   number_within count done steps before number all stopped =
-      let numbers = subst (All (λ (s : Step). s.index ≤ count)) stopped.order all in
-      let one : stopped.failed.index ≤ count = All-contains (λ (s : Step). s.index ≤ count) (done ++ stopped.failed ∷ stopped.others) stopped.failed numbers
+      let numbers = subst (All (λ (s : PlannedChange). s.index ≤ count)) stopped.order all in
+      let one : stopped.failed.index ≤ count = All-contains (λ (s : PlannedChange). s.index ≤ count) (done ++ stopped.failed ∷ stopped.others) stopped.failed numbers
       (Contains-append_right done (stopped.failed ∷ stopped.others) stopped.failed (0, omega arith, refl)) in
       omega (arith, one, stopped.is)
 
-  pub place_within : (count : ℕ) (steps : List Step) (before after : Held) (outcome : Commit) → All (λ (s : Step). s.index ≤ count) steps
+  pub place_within : (count : ℕ) (steps : List PlannedChange) (before after : Held) (outcome : Commit) → All (λ (s : PlannedChange). s.index ≤ count) steps
       → IsCommitted held refuses steps before after outcome → place_of outcome ≤ count
   place_within count steps before after Done all committed = omega arith
   place_within count steps before after (CommitFailed failed) all committed = number_within count committed.done steps before failed all committed.failed

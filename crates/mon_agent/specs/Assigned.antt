@@ -6,7 +6,7 @@ use Rattle.mon_mib.specs.declared.change.Change.{Change}
 use Rattle.mon_mib.specs.declared.commit.Commit.{Commit}
 use Rattle.mon_mib.specs.declared.commit.Commit.TheVariants.{Done, CommitFailed, UndoFailed}
 use Rattle.mon_mib.specs.declared.set_status.SetStatus.{SetStatus}
-use Rattle.mon_mib.specs.declared.step.Step.{Step}
+use Rattle.mon_mib.specs.declared.planned_change.PlannedChange.{PlannedChange}
 use Rattle.mon_mib.specs.Assignment.{IsSetPlan}
 use Rattle.mon_mib.specs.Commit.{IsCommitted, failures_by_then}
 use Rattle.mon_mib.specs.Held.{Held}
@@ -58,7 +58,7 @@ module _ {D : Type 0} (held : D → Held) (failed : D → ℕ) (refuses : D → 
   -- were undone
   pub record IsAssigned (k : Known) (sees : List ℕ → Type 0) (before after : D) (m reply : Message)
       : Type 0 where
-    pub steps : List Step
+    pub steps : List PlannedChange
     pub outcome : Commit
     pub fits : IsWithinLimit k.settings.limit (greatest m)
     pub accepted : All (IsAccepted k sees) (bindings_of m.body)

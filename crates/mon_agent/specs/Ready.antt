@@ -12,7 +12,7 @@ use Rattle.mon_vacm.specs.View.{IsInView}
 use Rattle.mon_mib.specs.declared.change.Change.{Change}
 use Rattle.mon_mib.specs.declared.set_fault.SetFault.{SetFault}
 use Rattle.mon_mib.specs.declared.set_fault.SetFault.TheVariants.{OutOfMemory, Refused}
-use Rattle.mon_mib.specs.declared.step.Step.{Step}
+use Rattle.mon_mib.specs.declared.planned_change.PlannedChange.{PlannedChange}
 use Rattle.mon_mib.specs.Assignment.{IsSetPlan}
 use Rattle.mon_mib.specs.Held.{Held}
 use Rattle.mon_mib.specs.Known.{Known}
@@ -65,7 +65,7 @@ ready_of (Ok reply) = Ok (Answer reply)
 ready_of (Err e) = Err faults.OutOfMemory
 
 -- to assign by this plan, with this response, and room for so many octets
-abbrev pub IsAssigning : List Step → Message → ℕ → Ready → Type 0
+abbrev pub IsAssigning : List PlannedChange → Message → ℕ → Ready → Type 0
 IsAssigning plan response size (Answer reply) = ⊥
 IsAssigning plan response size (Assign a) = (a.plan ≡ plan) × (a.response ≡ response)
     × (a.room.items ≡ []) × (size ≤ vec_capacity a.room)

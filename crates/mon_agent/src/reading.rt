@@ -11,7 +11,7 @@ ghost use Rattle.mon_mib.specs.Search.{IsSeenIn, known_in};
 ghost use Rattle.mon_agent.specs.Answer.{IsReading, is_answered, is_request, need_of, need_of_kind};
 ghost use Rattle.mon_agent.specs.Bulk.{IsStepper};
 ghost use Rattle.mon_agent.specs.Sent.{IsReadOut, IsSentFor};
-ghost use Rattle.mon_agent.specs.Step.{AreFor, IsGetAnswer, IsNextAnswer, got_value};
+ghost use Rattle.mon_agent.specs.PlannedChange.{AreFor, IsGetAnswer, IsNextAnswer, got_value};
 
 use crate::bulk::{bulk, extend};
 use crate::laws;
@@ -162,7 +162,7 @@ fn bulk_response<D: Device + Drop>(
     let head = make_response(community, request.request_id, Vec::new(alloc));
     let mut reply = ResponseBuilder::new(alloc, head, search.settings().limit);
     bulk(alloc, search, &mut reply, &request)?;
-    reply.look();
+    reply.invariants();
     Ok(reply)
 }
 

@@ -98,7 +98,7 @@ impl ResponseBuilder {
 
     /// Looks at the response, which then is known to be within its limit, or to have no variable
     /// bindings.
-    pub(crate) fn look(&self)
+    pub(crate) fn invariants(&self)
         ensures { (self.now.bindings ≡ []) ⊎ FitsWith self.now self.now.bindings }
     {
         // Proof: so says the invariant.

@@ -18,7 +18,7 @@ use Rattle.mon_app.specs.declared.fault.AppFault.TheVariants as faults
 use Rattle.mon_app.specs.declared.wire.Heard.{Heard as AnyHeard}
 use Rattle.mon_app.specs.Asking.{AreUnanswered, HoldsNone, HoldsReply, IsAsked, IsStrange, IsWait, EndsWith, request_octets}
 use Rattle.mon_app.specs.AtWire.{AtWire, Heard, Quiet, Sent, heard_as, hearing}
-use Rattle.mon_app.specs.Question.{Asked, is_reply, request_of}
+use Rattle.mon_app.specs.Question.{QuestionParts, is_reply, request_of}
 
 -- what a wire states
 abbrev pub Log : Type 0
@@ -46,13 +46,13 @@ fails_not m (pdu.BadVersion v) not fails = cc
 fails_not m (pdu.UnknownPdu t) not fails = cc
 
 -- what was read is a reply, or it is none
-pub holds_reply : (q : Asked) (octets : List ℕ) (read : Message) (r : Option Message) → BeginsWithMessage octets read
+pub holds_reply : (q : QuestionParts) (octets : List ℕ) (read : Message) (r : Option Message) → BeginsWithMessage octets read
     → IfSome r (λ m. (m ≡ read) × (is_reply q read ≡ true)) → IfSome r (HoldsReply q octets)
 holds_reply q octets read None begins some = tt
 holds_reply q octets read (Some m) begins some = subst (λ (n : Message). HoldsReply q octets n) (sym some.0) (begins, some.1)
 
 module _ (again : (bytes : List ℕ) (m : Message) → BeginsWithMessage bytes m → message_at bytes ≡ Ok m) where
-  pub holds_none : (q : Asked) (octets : List ℕ) (read : Message) (r : Option Message) → BeginsWithMessage octets read
+  pub holds_none : (q : QuestionParts) (octets : List ℕ) (read : Message) (r : Option Message) → BeginsWithMessage octets read
       → IfNone r (is_reply q read ≡ false) → IfNone r (HoldsNone q octets)
   holds_none q octets read None begins none = λ m holds.
       let same : m ≡ read = let given = again octets m holds.0 in let found = again octets read begins in cc in
@@ -60,31 +60,31 @@ module _ (again : (bytes : List ℕ) (m : Message) → BeginsWithMessage bytes m
       let yes_it_is : is_reply q m ≡ true = holds.1 in cc
   holds_none q octets read (Some m) begins none = tt
 
-  pub unread_holds_none : (q : Asked) (octets : List ℕ) (fault : PduFault) (r : Result (Option Message) AllocError) → Fails fault (message_at octets)
+  pub unread_holds_none : (q : QuestionParts) (octets : List ℕ) (fault : PduFault) (r : Result (Option Message) AllocError) → Fails fault (message_at octets)
       → IfOk r (λ found. (found ≡ None) × (fault ≢ pdu.OutOfMemory)) → IfOk r (λ found. IfNone found (HoldsNone q octets))
   unread_holds_none q octets fault (Err e) fails is = tt
   unread_holds_none q octets fault (Ok None) fails is = λ m holds. fails_not m fault is.1 (subst (λ (r : Result Message PduFault). Fails fault r) (again octets m holds.0) fails)
   unread_holds_none q octets fault (Ok (Some m)) fails is = tt
 
 -- of octets that could not be read no reply is given
-pub unread_gives_none : (q : Asked) (octets : List ℕ) (fault : PduFault) (r : Result (Option Message) AllocError)
+pub unread_gives_none : (q : QuestionParts) (octets : List ℕ) (fault : PduFault) (r : Result (Option Message) AllocError)
     → IfOk r (λ found. (found ≡ None) × (fault ≢ pdu.OutOfMemory)) → IfOk r (λ found. IfSome found (HoldsReply q octets))
 unread_gives_none q octets fault (Err e) is = tt
 unread_gives_none q octets fault (Ok None) is = tt
 unread_gives_none q octets fault (Ok (Some m)) is = let not : Some m ≡ None = is.0 in absurd (let never : ⊥ = cc in never)
 
 -- this many were received, and none of them is a reply
-pub record AreHeard (q : Asked) (n : ℕ) (before after : Log) : Type 0 where
+pub record AreHeard (q : QuestionParts) (n : ℕ) (before after : Log) : Type 0 where
   pub strange : List AtWire
   pub none : All (IsStrange q) strange
   pub count : length strange ≡ n
   pub told : after ≡ extended before strange
 
-pub nothing_heard : (q : Asked) (told : Log) → AreHeard q 0 told told
+pub nothing_heard : (q : QuestionParts) (told : Log) → AreHeard q 0 told told
 nothing_heard q told = record { strange = []; none = All-nil (IsStrange q); count = refl; told = sym (extended_by_none told) }
 
 -- one thing more
-pub one_heard : (q : Asked) (n : ℕ) (before between after : Log) (e : AtWire) → AreHeard q n before between → IsStrange q e
+pub one_heard : (q : QuestionParts) (n : ℕ) (before between after : Log) (e : AtWire) → AreHeard q n before between → IsStrange q e
     → after ≡ extended between (e ∷ []) → AreHeard q (n + 1) before after
 one_heard q n before between after e heard strange told = record {
   strange = heard.strange ++ e ∷ [];
@@ -94,7 +94,7 @@ one_heard q n before between after e heard strange told = record {
 }
 
 -- the wait's end
-pub quiet : (q : Asked) (n : ℕ) (before between after : Log) → AreHeard q n before between → n < 65 → after ≡ extended between (Quiet ∷ [])
+pub quiet : (q : QuestionParts) (n : ℕ) (before between after : Log) → AreHeard q n before between → n < 65 → after ≡ extended between (Quiet ∷ [])
     → GoesOnBy (λ log. IsWait q log (Ok None)) before after
 quiet q n before between after heard few told = record {
   more = heard.strange ++ Quiet ∷ [];
@@ -102,7 +102,7 @@ quiet q n before between after heard few told = record {
   told = extended_on before between after heard.strange (Quiet ∷ []) heard.told told;
 }
 
-pub too_many : (q : Asked) (before after : Log) → AreHeard q 65 before after → GoesOnBy (λ log. IsWait q log (Ok None)) before after
+pub too_many : (q : QuestionParts) (before after : Log) → AreHeard q 65 before after → GoesOnBy (λ log. IsWait q log (Ok None)) before after
 too_many q before after heard = record {
   more = heard.strange;
   holds = record { strange = heard.strange; none = heard.none; ended = inr (heard.count, refl) };
@@ -110,7 +110,7 @@ too_many q before after heard = record {
 }
 
 -- the reply
-pub reply_heard : (q : Asked) (n : ℕ) (before between after : Log) (octets : List ℕ) (m : Message) → AreHeard q n before between → n < 65
+pub reply_heard : (q : QuestionParts) (n : ℕ) (before between after : Log) (octets : List ℕ) (m : Message) → AreHeard q n before between → n < 65
     → HoldsReply q octets m → after ≡ extended between (Heard octets ∷ []) → GoesOnBy (λ log. IsWait q log (Ok (Some m))) before after
 reply_heard q n before between after octets m heard few holds told = record {
   more = heard.strange ++ Heard octets ∷ [];
@@ -119,7 +119,7 @@ reply_heard q n before between after octets m heard few holds told = record {
 }
 
 -- no memory for the message
-pub no_room : (q : Asked) (n : ℕ) (before between after : Log) (octets : List ℕ) → AreHeard q n before between → n < 65
+pub no_room : (q : QuestionParts) (n : ℕ) (before between after : Log) (octets : List ℕ) → AreHeard q n before between → n < 65
     → after ≡ extended between (Heard octets ∷ []) → GoesOnBy (λ log. IsWait q log (Err faults.OutOfMemory)) before after
 no_room q n before between after octets heard few told = record {
   more = heard.strange ++ Heard octets ∷ [];
@@ -128,7 +128,7 @@ no_room q n before between after octets heard few told = record {
 }
 
 -- a wire that failed
-pub failed : (reason : SocketReason) (q : Asked) (n : ℕ) (before between after : Log) → AreHeard q n before between → n < 65 → after ≡ extended between []
+pub failed : (reason : SocketReason) (q : QuestionParts) (n : ℕ) (before between after : Log) → AreHeard q n before between → n < 65 → after ≡ extended between []
     → GoesOnBy (λ log. IsWait q log (Err (faults.SocketFault reason))) before after
 failed reason q n before between after heard few told = record {
   more = heard.strange;
@@ -137,10 +137,10 @@ failed reason q n before between after heard few told = record {
 }
 
 -- this many sendings were not answered
-abbrev pub AreSent : Asked → ℕ → Log → Log → Type 0
+abbrev pub AreSent : QuestionParts → ℕ → Log → Log → Type 0
 AreSent q n before after = GoesOnBy (AreUnanswered q n) before after
 
-pub nothing_sent : (q : Asked) (told : Log) → AreSent q 0 told told
+pub nothing_sent : (q : QuestionParts) (told : Log) → AreSent q 0 told told
 nothing_sent q told = record { more = []; holds = refl; told = sym (extended_by_none told) }
 
 -- a sending, and what was received after it
@@ -149,7 +149,7 @@ then_heard : (before between sent after : Log) (some heard : List AtWire) (octet
 then_heard before between sent after some heard octets first second third =
     extended_on before between after some (Sent octets ∷ heard) first (extended_on between sent after (Sent octets ∷ []) heard second third)
 
-pub one_sent : (q : Asked) (n : ℕ) (before between sent after : Log) (octets : List ℕ) → AreSent q n before between → octets ≡ request_octets q
+pub one_sent : (q : QuestionParts) (n : ℕ) (before between sent after : Log) (octets : List ℕ) → AreSent q n before between → octets ≡ request_octets q
     → sent ≡ extended between (Sent octets ∷ []) → GoesOnBy (λ log. IsWait q log (Ok None)) sent after → AreSent q (n + 1) before after
 one_sent q n before between sent after octets earlier are told wait =
     let told_then : sent ≡ extended between (Sent (request_octets q) ∷ []) = subst (λ (o : List ℕ). sent ≡ extended between (Sent o ∷ [])) are told in
@@ -160,7 +160,7 @@ one_sent q n before between sent after octets earlier are told wait =
     })
 
 -- the last sending
-pub last_sent : (q : Asked) (n : ℕ) (before between sent after : Log) (octets : List ℕ) (last : Result (Option Message) AppFault) → AreSent q n before between → n < 3
+pub last_sent : (q : QuestionParts) (n : ℕ) (before between sent after : Log) (octets : List ℕ) (last : Result (Option Message) AppFault) → AreSent q n before between → n < 3
     → octets ≡ request_octets q → sent ≡ extended between (Sent octets ∷ []) → GoesOnBy (λ log. IsWait q log last) sent after
     → GoesOnBy (λ log. EndsWith q log last) before after
 last_sent q n before between sent after octets last earlier few are told wait =
@@ -172,7 +172,7 @@ last_sent q n before between sent after octets last earlier few are told wait =
     }
 
 -- a fault of the last wait is that of asking
-pub fault_of_wait : (q : Asked) (before after : Log) (fault : AppFault) → GoesOnBy (λ log. EndsWith q log (Err fault)) before after
+pub fault_of_wait : (q : QuestionParts) (before after : Log) (fault : AppFault) → GoesOnBy (λ log. EndsWith q log (Err fault)) before after
     → GoesOnBy (λ log. IsAsked q log (Err fault)) before after
 fault_of_wait q before after fault wait = record { more = wait.more; holds = by_cases fault wait.more wait.holds; told = wait.told }
   where
@@ -186,7 +186,7 @@ fault_of_wait q before after fault wait = record { more = wait.more; holds = by_
     by_cases faults.BadText log ends = absurd ends.wait
 
 -- a sending that failed
-pub unsent : (reason : SocketReason) (q : Asked) (n : ℕ) (before between after : Log) → AreSent q n before between → n < 3 → after ≡ extended between []
+pub unsent : (reason : SocketReason) (q : QuestionParts) (n : ℕ) (before between after : Log) → AreSent q n before between → n < 3 → after ≡ extended between []
     → GoesOnBy (λ log. IsAsked q log (Err (faults.SocketFault reason))) before after
 unsent reason q n before between after earlier few told = record {
   more = earlier.more;
@@ -195,7 +195,7 @@ unsent reason q n before between after earlier few told = record {
 }
 
 -- no memory for the request
-pub no_request : (q : Asked) (told : Log) → GoesOnBy (λ log. IsAsked q log (Err faults.OutOfMemory)) told told
+pub no_request : (q : QuestionParts) (told : Log) → GoesOnBy (λ log. IsAsked q log (Err faults.OutOfMemory)) told told
 no_request q told = record {
   more = [];
   holds = inr (record { sendings = 0; few = omega arith; unanswered = refl });
@@ -203,7 +203,7 @@ no_request q told = record {
 }
 
 -- no octets for the request
-pub unwritable : (q : Asked) (told : Log) (m : Message) (fault : PduFault) → m ≡ request_of q
+pub unwritable : (q : QuestionParts) (told : Log) (m : Message) (fault : PduFault) → m ≡ request_of q
     → (fault ≡ pdu.OutOfMemory) ⊎ ((fault ≡ pdu.BadLength) × (2 ^ 32 ≤ length (message_contents m))) → GoesOnBy (λ log. IsAsked q log (Err (of_message fault))) told told
 unwritable q told m fault is (inl memory) =
     subst (λ (f : PduFault). GoesOnBy (λ log. IsAsked q log (Err (of_message f))) told told) (sym memory) (no_request q told)

@@ -16,18 +16,18 @@ use Rattle.mon_app.specs.declared.fault.WalkFault.TheVariants.{App, Output}
 use Rattle.mon_app.specs.declared.question.Asking.{Asking}
 use Rattle.mon_app.specs.AtWire.{AtWire}
 use Rattle.mon_app.specs.Printed.{IsQuestionAnswered}
-use Rattle.mon_app.specs.Question.{Asked}
+use Rattle.mon_app.specs.Question.{QuestionParts}
 use Rattle.mon_app.specs.Walk.{AreTurns, EndsAt, EndsInLines, Follows, HasWalked, IsAlong, IsNotedAfter, IsOfLines, IsSaid, IsTurn, IsUnsaid, IsWalk, IsWalkStep, SaysWhether, has_some, name_in, walk_failures}
-use Rattle.mon_app.specs.declared.walking.Step.TheVariants.{On}
+use Rattle.mon_app.specs.declared.walking.WalkStep.TheVariants.{On}
 use Rattle.mon_app.specs.declared.walking.Turned.{Turned}
 use Rattle.mon_app.specs.declared.walking.Turned.TheVariants as turned
 use Rattle.mon_app.proofs.Askings.{Log}
 
 -- a question of these parts is the walk's
 pub asked_next : (a : Asking) (community name : List ℕ) (names : List (List ℕ)) (id : ℤ) (n : ℕ) → id ≡ pos n → names ≡ name ∷ []
-    → (let q : Asked = record { asking = a; request_id = id; community = community; names = names } in q) ≡ record { asking = a; request_id = pos n; community = community; names = name ∷ [] }
+    → (let q : QuestionParts = record { asking = a; request_id = id; community = community; names = names } in q) ≡ record { asking = a; request_id = pos n; community = community; names = name ∷ [] }
 asked_next a community name names id n is named =
-    let q : ℤ → List (List ℕ) → Asked = λ i ns. record { asking = a; request_id = i; community = community; names = ns } in
+    let q : ℤ → List (List ℕ) → QuestionParts = λ i ns. record { asking = a; request_id = i; community = community; names = ns } in
     ap (λ (i : ℤ). q i names) is ∙ ap (λ (ns : List (List ℕ)). q (pos n) ns) named
 
 -- what a host states of what was done
@@ -90,7 +90,7 @@ module _ (show : List ℕ → List ℕ) where
   prints start last name (Err fault) said (none, is) = absurd (some_is_no_fault is)
 
   -- a fault of the question is the turn's, and nothing is said
-  pub fault_of_turn : (q : Asked) (start last : List ℕ) (before after : Log) (text : Done) (fault : AppFault) → GoesOnBy (λ log. IsQuestionAnswered q log (Err fault)) before after
+  pub fault_of_turn : (q : QuestionParts) (start last : List ℕ) (before after : Log) (text : Done) (fault : AppFault) → GoesOnBy (λ log. IsQuestionAnswered q log (Err fault)) before after
       → Both (λ log said. IsTurn show q start last said log (Err (App fault)) × SaysWhether said (Err (App fault))) before after text text
   fault_of_turn q start last before after text fault asked = record {
     more = asked.more;
@@ -99,7 +99,7 @@ module _ (show : List ℕ → List ℕ) where
   }
 
   -- what is said of the answer is said in the turn
-  pub turn_of : (q : Asked) (start last : List ℕ) (before after : Log) (text more : Done) (found : List Binding) (r : Result Turned WalkFault)
+  pub turn_of : (q : QuestionParts) (start last : List ℕ) (before after : Log) (text more : Done) (found : List Binding) (r : Result Turned WalkFault)
       → GoesOnBy (λ log. IsQuestionAnswered q log (Ok found)) before after
       → host_log.GoesOnBy (λ said. EndsInLines show start last found said (name_in r) × SaysWhether said r) text more
       → Both (λ log said. IsTurn show q start last said log (name_in r) × SaysWhether said r) before after text more
@@ -180,7 +180,7 @@ module _ (show : List ℕ → List ℕ) where
       on = at.on;
     }
 
-  module _ (ask : ℕ → List ℕ → Asked) (start : List ℕ) where
+  module _ (ask : ℕ → List ℕ → QuestionParts) (start : List ℕ) where
     -- so far was walked
     abbrev pub IsAt : ℕ → List ℕ → Log → Log → Done → Done → Type 0
     IsAt n last before after text more = Both (λ log said. HasWalked show ask start n log said last) before after text more

@@ -9,29 +9,29 @@ use Rattle.mon_app.specs.declared.fault.AppFault.TheVariants.{OutOfMemory, Timeo
 use Rattle.mon_app.specs.declared.fault.AppFault.TheVariants.{BadText}
 use Rattle.mon_app.specs.AtWire.{AtWire}
 use Rattle.mon_app.specs.AtWire as wire
-use Rattle.mon_app.specs.Question.{Asked, is_reply, request_of}
+use Rattle.mon_app.specs.Question.{QuestionParts, is_reply, request_of}
 
 -- a datagram that begins with this reply to the question
-abbrev pub HoldsReply : Asked → List ℕ → Message → Type 0
+abbrev pub HoldsReply : QuestionParts → List ℕ → Message → Type 0
 HoldsReply q octets m = BeginsWithMessage octets m × IsTrue (is_reply q m)
 
 -- a datagram that begins with no reply to the question
-abbrev pub HoldsNone : Asked → List ℕ → Type 0
+abbrev pub HoldsNone : QuestionParts → List ℕ → Type 0
 HoldsNone q octets = (m : Message) → ¬ (HoldsReply q octets m)
 
 -- no reply to the question: a datagram that begins with none, or something else
-abbrev pub IsStrange : Asked → AtWire → Type 0
+abbrev pub IsStrange : QuestionParts → AtWire → Type 0
 IsStrange q (wire.Heard octets) = HoldsNone q octets
 IsStrange q wire.Other = Unit {0}
 IsStrange q wire.Quiet = ⊥
 IsStrange q (wire.Sent octets) = ⊥
 
 -- at most 64 of them, and none is a reply
-abbrev pub ArePassedOver : Asked → List AtWire → Type 0
+abbrev pub ArePassedOver : QuestionParts → List AtWire → Type 0
 ArePassedOver q strange = All (IsStrange q) strange × (length strange ≤ 64)
 
 -- a wait in which this reply was received
-pub record HearsReply (q : Asked) (m : Message) (heard : List AtWire) : Type 0 where
+pub record HearsReply (q : QuestionParts) (m : Message) (heard : List AtWire) : Type 0 where
   pub strange : List AtWire
   pub passed_over : ArePassedOver q strange
   pub octets : List ℕ
@@ -39,21 +39,21 @@ pub record HearsReply (q : Asked) (m : Message) (heard : List AtWire) : Type 0 w
   pub reply : HoldsReply q octets m
 
 -- a wait in which no reply was received: it came to its end, or 65 others were received
-pub record HearsNone (q : Asked) (heard : List AtWire) : Type 0 where
+pub record HearsNone (q : QuestionParts) (heard : List AtWire) : Type 0 where
   pub strange : List AtWire
   pub none : All (IsStrange q) strange
   pub ended : ((length strange ≤ 64) × (heard ≡ strange ++ wire.Quiet ∷ []))
       ⊎ ((length strange ≡ 65) × (heard ≡ strange))
 
 -- a wait in which no memory was left for the last datagram
-pub record IsHeardInPart (q : Asked) (heard : List AtWire) : Type 0 where
+pub record IsHeardInPart (q : QuestionParts) (heard : List AtWire) : Type 0 where
   pub strange : List AtWire
   pub passed_over : ArePassedOver q strange
   pub octets : List ℕ
   pub heard_is : heard ≡ strange ++ wire.Heard octets ∷ []
 
 -- what a wait comes to: the reply, or none; or a fault
-abbrev pub IsWait : Asked → List AtWire → Result (Option Message) AppFault → Type 0
+abbrev pub IsWait : QuestionParts → List AtWire → Result (Option Message) AppFault → Type 0
 IsWait q heard (Ok (Some m)) = HearsReply q m heard
 IsWait q heard (Ok None) = HearsNone q heard
 IsWait q heard (Err (SocketFault reason)) = ArePassedOver q heard
@@ -61,18 +61,19 @@ IsWait q heard (Err OutOfMemory) = IsHeardInPart q heard
 IsWait q heard (Err other) = ⊥
 
 -- the octets that ask
-abbrev pub request_octets : Asked → List ℕ
+abbrev pub request_octets : QuestionParts → List ℕ
 request_octets q = written_message (request_of q)
 
 -- this many sendings of the request, and after each a wait in which no reply was received
-abbrev pub AreUnanswered : Asked → ℕ → List AtWire → Type 0
+abbrev pub AreUnanswered : QuestionParts → ℕ → List AtWire → Type 0
 AreUnanswered q zero log = log ≡ []
 AreUnanswered q (suc n) log = (before : List AtWire) × (heard : List AtWire)
     × AreUnanswered q n before × HearsNone q heard
     × (log ≡ before ++ wire.Sent (request_octets q) ∷ heard)
 
 -- the last of at most three sendings, whose wait comes to this; those before it were not answered
-pub record EndsWith (q : Asked) (log : List AtWire) (last : Result (Option Message) AppFault) : Type
+pub record EndsWith (q : QuestionParts) (log : List AtWire)
+    (last : Result (Option Message) AppFault) : Type
     0 where
   pub sendings : ℕ
   pub few : sendings < 3
@@ -83,14 +84,14 @@ pub record EndsWith (q : Asked) (log : List AtWire) (last : Result (Option Messa
   pub log_is : log ≡ before ++ wire.Sent (request_octets q) ∷ heard
 
 -- fewer than three sendings that were not answered; another one failed
-pub record IsCutShort (q : Asked) (log : List AtWire) : Type 0 where
+pub record IsCutShort (q : QuestionParts) (log : List AtWire) : Type 0 where
   pub sendings : ℕ
   pub few : sendings < 3
   pub unanswered : AreUnanswered q sendings log
 
 -- What asking comes to, and what happened at the wire: the reply that was received in the last
 -- wait; no reply in three waits; or a fault.
-abbrev pub IsAsked : Asked → List AtWire → Result Message AppFault → Type 0
+abbrev pub IsAsked : QuestionParts → List AtWire → Result Message AppFault → Type 0
 IsAsked q log (Ok m) = EndsWith q log (Ok (Some m))
 IsAsked q log (Err Timeout) = AreUnanswered q 3 log
 IsAsked q log (Err (SocketFault reason)) = EndsWith q log (Err (SocketFault reason))

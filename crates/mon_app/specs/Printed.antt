@@ -28,7 +28,7 @@ use Rattle.mon_app.specs.declared.fault.AppFault.{AppFault}
 use Rattle.mon_app.specs.declared.fault.AppFault.TheVariants.{OutOfMemory, AgentStatus}
 use Rattle.mon_app.specs.Asking.{IsAsked}
 use Rattle.mon_app.specs.AtWire.{AtWire}
-use Rattle.mon_app.specs.Question.{Asked}
+use Rattle.mon_app.specs.Question.{QuestionParts}
 use Rattle.mon_app.specs.Reading.{is_zero}
 
 -- the octet is a character of ASCII that is seen
@@ -99,7 +99,7 @@ answer_of (Ok reply) = bindings_in reply.body
 answer_of (Err fault) = Err fault
 
 -- The question was asked, this happened at the wire, and this is the answer.
-pub record IsQuestionAnswered (q : Asked) (log : List AtWire)
+pub record IsQuestionAnswered (q : QuestionParts) (log : List AtWire)
     (answer : Result (List Binding) AppFault) : Type 0 where
   pub asked : Result Message AppFault
   pub asking : IsAsked q log asked
@@ -114,7 +114,7 @@ Prints show bytes (Err fault) (Ok text) = ⊥
 Prints show bytes (Err fault) (Err other) = other ≡ fault
 
 -- The question was asked, this happened at the wire, and the answer was printed so.
-pub record IsPrinted {T : Type 0} (show : List ℕ → List ℕ) (bytes : T → List ℕ) (q : Asked)
+pub record IsPrinted {T : Type 0} (show : List ℕ → List ℕ) (bytes : T → List ℕ) (q : QuestionParts)
     (log : List AtWire) (printed : Result T AppFault) : Type 0 where
   pub answer : Result (List Binding) AppFault
   pub answered : IsQuestionAnswered q log answer

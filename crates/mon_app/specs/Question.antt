@@ -42,14 +42,14 @@ asking_body (GetBulk r) id bindings =
 asking_body (Set v) id bindings = plain pdu.Set id bindings
 
 -- a question as its parts
-pub record Asked : Type 0 where
+pub record QuestionParts : Type 0 where
   pub asking : Asking
   pub request_id : ℤ
   pub community : List ℕ
   pub names : List (List ℕ)
 
 -- the parts of a question that is lent
-abbrev pub asked_in : Question → Asked
+abbrev pub asked_in : Question → QuestionParts
 asked_in q = record {
   asking = q.asking;
   request_id = q.request_id;
@@ -70,7 +70,7 @@ abbrev pub asked_for : Value → List ℕ → Binding
 asked_for v name = record { name = name; value = v }
 
 -- the request that asks (RFC 3416 sections 4.2.1 to 4.2.3 and 4.2.5)
-abbrev pub request_of : Asked → Message
+abbrev pub request_of : QuestionParts → Message
 request_of q = record {
   community = q.community;
   body = asking_body q.asking q.request_id (map (asked_for (wanted_value q.asking)) q.names);
@@ -93,7 +93,7 @@ are_answers (Set v) names bindings = same_names names bindings
 
 -- a Response in the question's community, with its request-id, that has an error status or answers
 -- each name
-abbrev pub is_reply : Asked → Message → Bool
+abbrev pub is_reply : QuestionParts → Message → Bool
 is_reply q m = replies m.body
   where
     replies : Body → Bool

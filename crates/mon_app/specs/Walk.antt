@@ -17,8 +17,8 @@ use Rattle.mon_app.specs.declared.fault.WalkFault.{WalkFault}
 use Rattle.mon_app.specs.declared.fault.WalkFault.TheVariants.{App, Output}
 use Rattle.mon_app.specs.declared.question.Asking.{Asking}
 use Rattle.mon_app.specs.declared.question.Asking.TheVariants.{GetNext, GetBulk}
-use Rattle.mon_app.specs.declared.walking.Step.{Step}
-use Rattle.mon_app.specs.declared.walking.Step.TheVariants.{On, Past, Back}
+use Rattle.mon_app.specs.declared.walking.WalkStep.{WalkStep}
+use Rattle.mon_app.specs.declared.walking.WalkStep.TheVariants.{On, Past, Back}
 use Rattle.mon_app.specs.declared.walking.Stride.{Stride}
 use Rattle.mon_app.specs.declared.walking.Stride.TheVariants.{Next, Bulk}
 use Rattle.mon_app.specs.declared.walking.Turned.{Turned}
@@ -26,7 +26,7 @@ use Rattle.mon_app.specs.declared.walking.Turned.TheVariants as turned
 use Rattle.mon_app.specs.declared.walking.WalkPlan.{WalkPlan}
 use Rattle.mon_app.specs.AtWire.{AtWire, socket_failures}
 use Rattle.mon_app.specs.Printed.{IsQuestionAnswered, binding_line}
-use Rattle.mon_app.specs.Question.{Asked}
+use Rattle.mon_app.specs.Question.{QuestionParts}
 
 -- the request of a walk (RFC 3416 sections 4.2.2 and 4.2.3)
 abbrev pub asking_by : Stride → Asking
@@ -34,7 +34,7 @@ asking_by Next = GetNext
 asking_by (Bulk n) = GetBulk (record { non_repeaters = pos 0; max_repetitions = n })
 
 -- the question of a walk for what comes after a name
-abbrev pub question_after : WalkPlan → ℕ → List ℕ → Asked
+abbrev pub question_after : WalkPlan → ℕ → List ℕ → QuestionParts
 question_after w request_id name = record {
   asking = asking_by w.stride;
   request_id = pos
@@ -56,7 +56,7 @@ abbrev pub Exceeds : List ℕ → Binding → Type 0
 Exceeds last b = slice_cmp nat_cmp last b.name ≡ Less
 
 -- what a walk does about a variable binding that answers
-abbrev pub IsWalkStep : List ℕ → List ℕ → Binding → Step → Type 0
+abbrev pub IsWalkStep : List ℕ → List ℕ → Binding → WalkStep → Type 0
 IsWalkStep start last b On = IsUnderStart start b × Exceeds last b
 IsWalkStep start last b Past = IsPast start b
 IsWalkStep start last b Back = IsUnderStart start b × ¬ (Exceeds last b)
@@ -124,7 +124,8 @@ Follows show start last (Err fault) said result = (said ≡ []) × (result ≡ E
 
 -- A turn of a walk: the question was answered so, this happened at the wire, and this was printed.
 -- If the walk goes on, the turn returns the last name; if it ends, None.
-pub record IsTurn (show : List ℕ → List ℕ) (q : Asked) (start last : List ℕ) (said : List AtHost)
+pub record IsTurn (show : List ℕ → List ℕ) (q : QuestionParts) (start last : List ℕ)
+    (said : List AtHost)
     (log : List AtWire)
     (result : Result (Option (List ℕ)) WalkFault) : Type 0 where
   pub answer : Result (List Binding) AppFault
@@ -134,7 +135,7 @@ pub record IsTurn (show : List ℕ → List ℕ) (q : Asked) (start last : List 
 -- After this many turns, by which the walk went on: what happened at the wire, what was printed,
 -- and the last name. The first question is for what comes after the start, and each other one for
 -- what comes after the last name that was answered.
-abbrev pub HasWalked : (List ℕ → List ℕ) → (ℕ → List ℕ → Asked) → List ℕ → ℕ → List AtWire
+abbrev pub HasWalked : (List ℕ → List ℕ) → (ℕ → List ℕ → QuestionParts) → List ℕ → ℕ → List AtWire
     → List AtHost → List ℕ → Type 0
 HasWalked show after start zero log said last = (log ≡ []) × (said ≡ []) × (last ≡ start)
 HasWalked show after start (suc n) log said last =
@@ -150,7 +151,7 @@ last_answer (Err fault) = Err fault
 
 -- The turns of a walk: those by which it went on, and then one that ends it; or 65536 of them. It
 -- may run out of memory before its first turn. If it ends well it says whether a line was printed.
-pub record AreTurns (show : List ℕ → List ℕ) (after : ℕ → List ℕ → Asked) (start : List ℕ)
+pub record AreTurns (show : List ℕ → List ℕ) (after : ℕ → List ℕ → QuestionParts) (start : List ℕ)
     (log : List AtWire)
     (said : List AtHost) (result : Result Bool WalkFault) : Type 0 where
   pub turns : ℕ
@@ -184,7 +185,8 @@ IsNotedAfter name false said result = IsEmptyNoted name said result
 
 -- A whole walk: its turns; if they ended well and printed no line, it is said that nothing is below
 -- its start.
-abbrev pub IsWalk : (List ℕ → List ℕ) → (ℕ → List ℕ → Asked) → List ℕ → List AtWire → List AtHost
+abbrev pub IsWalk : (List ℕ → List ℕ) → (ℕ → List ℕ → QuestionParts) → List ℕ → List AtWire
+    → List AtHost
     → Result Unit WalkFault → Type 0
 IsWalk show after start log = Then (AreTurns show after start log) (IsNotedAfter (show start))
 

@@ -237,9 +237,9 @@ fn print_lines<S: NameTexts, H: Host>(
     let mut printed = false;
     for binding in found {
         match step_of(start, last, binding) {
-            Step::Past => return Ok(Turned::Over(printed)),
-            Step::Back => return Err(WalkFault::App(AppFault::NotIncreasing)),
-            Step::On => print_line(alloc, host, binding, names)?,
+            WalkStep::Past => return Ok(Turned::Over(printed)),
+            WalkStep::Back => return Err(WalkFault::App(AppFault::NotIncreasing)),
+            WalkStep::On => print_line(alloc, host, binding, names)?,
         }
         last = &binding.name;
         printed = true;
@@ -267,7 +267,7 @@ fn print_line<S: NameTexts, H: Host>(
 }
 
 /// What a walk does about a variable binding that answers.
-enum Step {
+enum WalkStep {
     /// It goes on from it.
     On,
     /// It ends, since there is no further variable under the start.
@@ -277,16 +277,16 @@ enum Step {
 }
 
 /// What a walk does about the variable binding that answers after the last name.
-fn step_of(start: &Oid, last: &Oid, found: &Binding) -> Step
+fn step_of(start: &Oid, last: &Oid, found: &Binding) -> WalkStep
     ensures { IsWalkStep start.now last.now found.now result }
 {
     if is_end(&found.value) || !start.is_prefix_of(&found.name) {
-        return Step::Past;
+        return WalkStep::Past;
     }
     if last.compare(&found.name).is_lt() {
-        return Step::On;
+        return WalkStep::On;
     }
-    Step::Back
+    WalkStep::Back
 }
 
 /// Returns `true` if there is no further variable.

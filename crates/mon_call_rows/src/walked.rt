@@ -1,7 +1,7 @@
 //! A walk through an agent whose names do not increase.
 
 use mon_app::{Heard, SocketFault, Stride, WalkFault, WalkPlan, Wire, walk};
-use mon_host::{Given, Host, Recorder, Step};
+use mon_host::{Given, Host, RecordedCall, Recorder};
 use mon_oid::Oid;
 use mon_row_texts::{octets, two};
 use mon_smi::InNumbers;
@@ -100,7 +100,7 @@ fn nothing(alloc: Global) -> Given {
 fn printed_by(alloc: Global, host: &Recorder) -> Option<String> {
     let mut printed = String::new(alloc);
     for step in host.steps()? {
-        if let Step::Print(octets, Ok(())) = step {
+        if let RecordedCall::Print(octets, Ok(())) = step {
             printed
                 .push_str(str::from_utf8(octets.as_slice()).ok()?)
                 .ok()?;

@@ -28,7 +28,7 @@ use Rattle.clap.proofs.WalkLemmas.{both}
 use Rattle.std.proofs.lemmas.Bool.{ne_eqb}
 use Rattle.std.proofs.lemmas.Str.Parse.{digit_from_value}
 use Rattle.clap.proofs.ValueTestLemmas.{accepts-Accepts}
-use Rattle.mon_cli.specs.Asked.{AreAllowed, AreThere, IsAllowed, IsBetween}
+use Rattle.mon_cli.specs.Invocation.{AreAllowed, AreThere, IsAllowed, IsBetween}
 use Rattle.mon_cli.specs.Choice.{choices, word_of}
 use Rattle.mon_cli.specs.Line.{Argument}
 use Rattle.mon_cli.specs.Program.{IsParse, command_app, program}

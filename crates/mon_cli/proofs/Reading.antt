@@ -9,7 +9,7 @@ use Rattle.clap.proofs.WalkLemmas.{first_value-rows, one_text-rows, raw_values-r
 use Rattle.clap.specs.declared.parser.matches.ArgMatches.{ArgMatches}
 use Rattle.std.specs.Str.Parse.{ParsesSigned, ParsesUnsigned}
 use Rattle.std.specs.Int.{w32}
-use Rattle.mon_cli.specs.Asked.{IsIf, IsInteger, IsNumber}
+use Rattle.mon_cli.specs.Invocation.{IsIf, IsInteger, IsNumber}
 
 -- what a text that `from_str` reads gives
 pub spelled : {T E : Type 0} (G : List ℕ → Result T E → Type 0) (P : Type 0) (v : T) (t : Text) (r : Option T)

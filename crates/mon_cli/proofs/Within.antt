@@ -1,7 +1,7 @@
 -- Numbers of options that are within their bounds.
 use Rattle.std.proofs.Common.{◌≡◌, ◌≤◌, ◌<◌, ◌^◌, ◌∙◌, ℕ, List, Option, Some, None, ap, arith, subst, sym, unwrap_or}
 use Rattle.std.specs.Prelude.{IfSome}
-use Rattle.mon_cli.specs.Asked.{IsBetween, IsNumberOr}
+use Rattle.mon_cli.specs.Invocation.{IsBetween, IsNumberOr}
 
 -- the number that an option has, or the one that it has if it is left out
 pub within : (low high other : ℕ) (o : Option (List ℕ)) (n : ℕ) → high < 2 ^ 32 → low ≤ other → other ≤ high → IfSome o (IsBetween low high) → IsNumberOr 32 other o n

@@ -2,5 +2,5 @@ pub mod Choice
 pub mod Line
 pub mod Table
 pub mod Program
-pub mod Asked
+pub mod Invocation
 pub mod SortWord

@@ -12,7 +12,7 @@ mod texts;
 pub use choice::Choice;
 pub use matches::read_command;
 pub use meaning::{
-    AgentArgs, AnswerArgs, Asked, BulkArgs, CarryArgs, HealthzArgs, MibArgs, Named, Printed,
+    AgentArgs, AnswerArgs, BulkArgs, CarryArgs, HealthzArgs, Invocation, MibArgs, Named, Printed,
     RehearseArgs, ReplayArgs, ReportArgs, Request, Scene, SetArgs, SettingsArgs, StationArgs,
     Timing, WalkArgs,
 };

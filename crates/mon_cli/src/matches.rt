@@ -3,16 +3,16 @@
 ghost use Rattle.std.specs.Prelude.{◌≡◌, ◌≢◌, IfNone, IfSome, codes, option_map};
 ghost use Rattle.clap.specs.Words.{first_of, found_of, one_of, rows_of, subcommand_rows_of};
 ghost use Rattle.clap.specs.Walk.{texts};
-ghost use Rattle.mon_cli.specs.Asked.{AreAllowed, AreThere, AsksFor, IsAgent, IsAnswer, IsFormat, IsInteger, IsNamed, IsNumber, IsNumberOr, IsCarry, IsPrinted, IsRequest, IsSaved, IsScene, IsSort, IsStation, IsSurvey, IsTiming, IsTimingIn, IsWithin, Says, all_in, is_on, names_format, numbers_groups, text_in, wants_report};
+ghost use Rattle.mon_cli.specs.Invocation.{AreAllowed, AreThere, AsksFor, IsAgent, IsAnswer, IsFormat, IsInteger, IsNamed, IsNumber, IsNumberOr, IsCarry, IsPrinted, IsRequest, IsSaved, IsScene, IsSort, IsStation, IsSurvey, IsTiming, IsTimingIn, IsWithin, Says, all_in, is_on, names_format, numbers_groups, text_in, wants_report};
 ghost use Rattle.mon_cli.specs.Program.{IsParse};
 ghost use Rattle.mon_cli.specs.SortWord.{sort_word};
 ghost use Rattle.mon_cli.specs.Table.{arguments};
 ghost use Rattle.mon_cli.specs.declared.choice.Choice.TheVariants as commands;
-ghost use Rattle.mon_cli.specs.declared.meaning.Asked.TheVariants as asked;
+ghost use Rattle.mon_cli.specs.declared.meaning.Invocation.TheVariants as asked;
 
 use crate::choice::Choice;
 use crate::meaning::{
-    AgentArgs, AnswerArgs, Asked, BulkArgs, CarryArgs, HealthzArgs, MibArgs, Named, Printed,
+    AgentArgs, AnswerArgs, BulkArgs, CarryArgs, HealthzArgs, Invocation, MibArgs, Named, Printed,
     RehearseArgs, ReplayArgs, ReportArgs, Request, Scene, SetArgs, SettingsArgs, StationArgs,
     Timing, WalkArgs,
 };
@@ -340,42 +340,42 @@ fn walk<'m, 'a>(matches: &'m ArgMatches<'a>) -> WalkArgs<'m, 'a>
 }
 
 /// Returns what the arguments of a command ask for.
-fn asked_by<'m, 'a>(choice: Choice, matches: &'m ArgMatches<'a>) -> Asked<'m, 'a>
+fn asked_by<'m, 'a>(choice: Choice, matches: &'m ArgMatches<'a>) -> Invocation<'m, 'a>
     requires allowed { AreAllowed (arguments choice) (rows_of (found_of matches.now)) }
     requires there { AreThere (arguments choice) (rows_of (found_of matches.now)) }
     ensures says { Says choice (rows_of (found_of matches.now)) result }
     ensures within { IsWithin result }
 {
     match choice {
-        Choice::Replay => Asked::Replay(replay(matches)),
-        Choice::Get => Asked::Get(request(matches)),
-        Choice::Next => Asked::Next(request(matches)),
-        Choice::Bulk => Asked::Bulk(BulkArgs {
+        Choice::Replay => Invocation::Replay(replay(matches)),
+        Choice::Get => Invocation::Get(request(matches)),
+        Choice::Next => Invocation::Next(request(matches)),
+        Choice::Bulk => Invocation::Bulk(BulkArgs {
             request: request(matches),
             non_repeaters: small_number(matches, "non-repeaters").unwrap_or(0),
             max_repetitions: small_number(matches, "max-repetitions").unwrap_or(0),
         }),
-        Choice::Walk => Asked::Walk(walk(matches)),
-        Choice::Set => Asked::Set(SetArgs {
+        Choice::Walk => Invocation::Walk(walk(matches)),
+        Choice::Set => Invocation::Set(SetArgs {
             request: request(matches),
             kind: text(matches, "KIND"),
             value: text(matches, "VALUE"),
         }),
-        Choice::Settings => Asked::Settings(survey(matches)),
-        Choice::Mib => Asked::Mib(MibArgs {
+        Choice::Settings => Invocation::Settings(survey(matches)),
+        Choice::Mib => Invocation::Mib(MibArgs {
             file: text(matches, "FILE"),
             modules: all(matches, "module"),
         }),
-        Choice::SelfTest => Asked::SelfTest,
-        Choice::Agent => Asked::Agent(agent(matches)),
-        Choice::Answer => Asked::Answer(answer(matches)),
-        Choice::Station => Asked::Station(station(matches)),
-        Choice::Report => Asked::Report(saved(matches)),
-        Choice::Carry => Asked::Carry(carry(matches)),
-        Choice::Healthz => Asked::Healthz(HealthzArgs {
+        Choice::SelfTest => Invocation::SelfTest,
+        Choice::Agent => Invocation::Agent(agent(matches)),
+        Choice::Answer => Invocation::Answer(answer(matches)),
+        Choice::Station => Invocation::Station(station(matches)),
+        Choice::Report => Invocation::Report(saved(matches)),
+        Choice::Carry => Invocation::Carry(carry(matches)),
+        Choice::Healthz => Invocation::Healthz(HealthzArgs {
             address: text(matches, "ADDRESS"),
         }),
-        Choice::Rehearse => Asked::Rehearse(RehearseArgs {
+        Choice::Rehearse => Invocation::Rehearse(RehearseArgs {
             settings: text(matches, "SETTINGS"),
             stations: number_or(matches, "K", 1),
         }),
@@ -384,14 +384,14 @@ fn asked_by<'m, 'a>(choice: Choice, matches: &'m ArgMatches<'a>) -> Asked<'m, 'a
 
 /// Returns what the arguments ask for. Without a command they ask for a replay, all of whose
 /// arguments are left out.
-pub fn read_command<'m, 'a>(matches: &'m ArgMatches<'a>) -> Asked<'m, 'a>
+pub fn read_command<'m, 'a>(matches: &'m ArgMatches<'a>) -> Invocation<'m, 'a>
     requires { IsParse matches.now }
     ensures says { AsksFor (is_on (codes "version") (rows_of (found_of matches.now)))
         (rows_of (found_of matches.now)) (subcommand_rows_of matches.now) result }
     ensures within { IsWithin result }
 {
     if is_on(matches, "version") {
-        return Asked::Version;
+        return Invocation::Version;
     }
     match matches.subcommand() {
         Some((name, below)) => match Choice::from_word(name) {
@@ -399,6 +399,6 @@ pub fn read_command<'m, 'a>(matches: &'m ArgMatches<'a>) -> Asked<'m, 'a>
             // The command line knows no other commands.
             None => unreachable!(),
         },
-        None => Asked::Replay(replay(matches)),
+        None => Invocation::Replay(replay(matches)),
     }
 }

@@ -1,7 +1,7 @@
 //! What the arguments ask for.
 
 ghost use Rattle.std.specs.Prelude.{◌↔◌, IsTrue};
-ghost use Rattle.mon_cli.specs.Asked.{LacksColumns, LacksInterval, LacksMachines, LacksNumber, LacksRounds, LacksSource, LacksSplit, SortsNoTable};
+ghost use Rattle.mon_cli.specs.Invocation.{LacksColumns, LacksInterval, LacksMachines, LacksNumber, LacksRounds, LacksSource, LacksSplit, SortsNoTable};
 
 use mon_formats::{Format, Sort};
 
@@ -261,7 +261,7 @@ pub struct RehearseArgs<'a> {
 
 /// What the arguments ask for, by their command.
 #[derive(Clone, Copy)]
-pub enum Asked<'m, 'a> {
+pub enum Invocation<'m, 'a> {
     /// The program's name and version.
     Version,
     Replay(ReplayArgs<'m, 'a>),
@@ -282,13 +282,13 @@ pub enum Asked<'m, 'a> {
     Rehearse(RehearseArgs<'a>),
 }
 
-impl Asked<'_, '_> {
+impl Invocation<'_, '_> {
     /// Returns `true` if a station is to run and the arguments do not say for how many rounds.
     pub fn lacks_rounds(&self) -> bool
         ensures { IsTrue result ↔ LacksRounds self.now }
     {
         match self {
-            Asked::Station(words) => !words.checks && words.timing.rounds == 0,
+            Invocation::Station(words) => !words.checks && words.timing.rounds == 0,
             _ => false,
         }
     }
@@ -298,7 +298,8 @@ impl Asked<'_, '_> {
         ensures { IsTrue result ↔ LacksInterval self.now }
     {
         match self {
-            Asked::Station(words) => words.timing.phase.is_some() && words.timing.interval == 0,
+            Invocation::Station(words) => words.timing.phase.is_some()
+                && words.timing.interval == 0,
             _ => false,
         }
     }
@@ -308,7 +309,7 @@ impl Asked<'_, '_> {
         ensures { IsTrue result ↔ LacksSource self.now }
     {
         match self {
-            Asked::Report(words) => words.settings.is_some() == words.file.is_some(),
+            Invocation::Report(words) => words.settings.is_some() == words.file.is_some(),
             _ => false,
         }
     }
@@ -319,7 +320,7 @@ impl Asked<'_, '_> {
         ensures { IsTrue result ↔ LacksNumber self.now }
     {
         match self {
-            Asked::Report(words) => words.printed.station_label && words.settings.is_none(),
+            Invocation::Report(words) => words.printed.station_label && words.settings.is_none(),
             _ => false,
         }
     }
@@ -330,7 +331,7 @@ impl Asked<'_, '_> {
         ensures { IsTrue result ↔ LacksSplit self.now }
     {
         match self {
-            Asked::Settings(words) => words.machines.is_some() && words.split.is_none(),
+            Invocation::Settings(words) => words.machines.is_some() && words.split.is_none(),
             _ => false,
         }
     }
@@ -341,7 +342,7 @@ impl Asked<'_, '_> {
         ensures { IsTrue result ↔ LacksMachines self.now }
     {
         match self {
-            Asked::Settings(words) => words.numbered && words.machines.is_none(),
+            Invocation::Settings(words) => words.numbered && words.machines.is_none(),
             _ => false,
         }
     }
@@ -351,8 +352,8 @@ impl Asked<'_, '_> {
         ensures { IsTrue result ↔ LacksColumns self.now }
     {
         match self {
-            Asked::Station(words) => words.printed.sorts_no_table(),
-            Asked::Report(words) => words.printed.sorts_no_table(),
+            Invocation::Station(words) => words.printed.sorts_no_table(),
+            Invocation::Report(words) => words.printed.sorts_no_table(),
             _ => false,
         }
     }

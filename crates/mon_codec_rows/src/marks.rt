@@ -65,17 +65,17 @@ fn is_watched(board: &Board, instance: u16) -> bool
 
 /// What a step says of a sample, in its words: the slot of a peer, the instance and the record.
 #[derive(Clone, Copy)]
-struct Step<'a> {
+struct BoardStep<'a> {
     word: &'a str,
     slot: u8,
     instance: u16,
     record: &'a str,
 }
 
-fn step_of(words: &str) -> Option<Step<'_>> {
+fn step_of(words: &str) -> Option<BoardStep<'_>> {
     let (word, slot, rest) = three(words, '/')?;
     let (instance, record) = two(rest, '/')?;
-    Some(Step {
+    Some(BoardStep {
         word,
         slot: parsed(slot)?,
         instance: parsed(instance)?,
@@ -87,7 +87,7 @@ fn step_of(words: &str) -> Option<Step<'_>> {
 fn does(alloc: Global, text: &mut String, board: &mut Board, words: &str) -> Option<()>
     ensures { board.new.watch ≡ board.old.watch }
 {
-    let Step {
+    let BoardStep {
         word,
         slot,
         instance,

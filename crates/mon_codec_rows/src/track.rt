@@ -22,7 +22,7 @@ enum Order {
 
 /// What the arguments ask for.
 #[derive(Clone, Copy)]
-struct Asked {
+struct Arguments {
     order: Order,
     epoch: usize,
     times: u32,
@@ -55,7 +55,7 @@ pub fn time_track<R: Print>(rt: &R, alloc: Global, words: &[String]) -> Option<(
 }
 
 /// Inserts them all into a new track, and returns its totals too.
-fn counted(alloc: Global, asked: Asked) -> Option<(Tally, Totals)> {
+fn counted(alloc: Global, asked: Arguments) -> Option<(Tally, Totals)> {
     if asked.epoch < 1 || asked.epoch > SIZE {
         return None;
     }
@@ -65,11 +65,11 @@ fn counted(alloc: Global, asked: Asked) -> Option<(Tally, Totals)> {
 }
 
 /// Reads the three arguments.
-fn words_of(words: &[String]) -> Option<Asked> {
+fn words_of(words: &[String]) -> Option<Arguments> {
     let order = order_of(words.first()?.as_str())?;
     let epoch = parsed(words.get(1)?.as_str())?;
     let times = parsed(words.get(2)?.as_str())?;
-    Some(Asked {
+    Some(Arguments {
         order,
         epoch,
         times,
@@ -86,7 +86,7 @@ fn order_of(word: &str) -> Option<Order> {
 }
 
 /// Inserts them all.
-fn inserted(track: &mut Track, asked: Asked) -> Tally {
+fn inserted(track: &mut Track, asked: Arguments) -> Tally {
     let mut tally = Tally {
         added: 0,
         known: 0,
@@ -113,7 +113,7 @@ fn inserted(track: &mut Track, asked: Asked) -> Tally {
 
 /// Returns the second at which the sample of this turn was taken: in mixed order up to 63 seconds
 /// early.
-fn second(asked: Asked, turn: u32, random: u64) -> u32 {
+fn second(asked: Arguments, turn: u32, random: u64) -> u32 {
     match asked.order {
         Order::Rising => turn,
         Order::Falling => asked.times.wrapping_sub(turn),

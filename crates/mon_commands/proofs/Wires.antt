@@ -5,20 +5,20 @@ use Rattle.std.specs.Global.{Global}
 use Rattle.mon_app.specs.AtWire.{AtWire}
 use Rattle.mon_app.specs.Network.{Agents, IsUnopened, agents_by}
 use Rattle.mon_app.specs.Printed.{IsPrinted}
-use Rattle.mon_app.specs.Question.{Asked}
+use Rattle.mon_app.specs.Question.{QuestionParts}
 use Rattle.mon_app.specs.declared.fault.AppFault.{AppFault}
 use Rattle.mon_commands.specs.Client.{IsAnswerText}
 use Rattle.mon_udp.specs.Told.{GoesOnBy}
 use Rattle.mon_udp.specs.declared.addr.Addr.{Addr}
 
 -- no wire could be opened
-pub unopened : (agents : Agents) (at : Addr) (show : List ℕ → List ℕ) (q : Asked) (r : Result (String Global) AppFault) (fault : AppFault) → IsErrAnd r (λ f. f ≡ fault)
+pub unopened : (agents : Agents) (at : Addr) (show : List ℕ → List ℕ) (q : QuestionParts) (r : Result (String Global) AppFault) (fault : AppFault) → IsErrAnd r (λ f. f ≡ fault)
     → agents.Unreached at fault → IsUnopened fault → IsAnswerText agents at show q r
 unopened agents at show q (Ok text) fault is not why = absurd is
 unopened agents at show q (Err f) fault is not why = subst (λ (x : AppFault). IsAnswerText agents at show q (Err x)) (sym is) (inl (not, why))
 
 -- the agent was asked by a wire that was opened to it
-pub answered : {W : Type 0} (Opened : Addr → W → Type 0) (Failed : Addr → AppFault → Type 0) (told : W → Option (List AtWire)) (at : Addr) (show : List ℕ → List ℕ) (q : Asked)
+pub answered : {W : Type 0} (Opened : Addr → W → Type 0) (Failed : Addr → AppFault → Type 0) (told : W → Option (List AtWire)) (at : Addr) (show : List ℕ → List ℕ) (q : QuestionParts)
     (r : Result (String Global) AppFault) (before after : W) → Opened at before
     → GoesOnBy (λ at_wire. IsPrinted show string_bytes q at_wire r) (told before) (told after) → IsAnswerText (agents_by Opened Failed told) at show q r
 answered Opened Failed told at show q (Ok text) before after opened happened = record { before = before; opened = opened; after = after; happened = happened }

@@ -5,7 +5,7 @@ use Rattle.std.specs.Global.{Global}
 use Rattle.std.specs.Borrow.{Bor}
 use Rattle.mon_app.specs.Network.{Agents, IsUnopened}
 use Rattle.mon_app.specs.Printed.{IsPrinted}
-use Rattle.mon_app.specs.Question.{Asked}
+use Rattle.mon_app.specs.Question.{QuestionParts}
 use Rattle.mon_app.specs.declared.fault.AppFault.{AppFault}
 use Rattle.mon_app.specs.declared.question.Asking.{Asking}
 use Rattle.mon_app.specs.declared.question.Asking.TheVariants.{Get, GetBulk, GetNext, Set}
@@ -33,7 +33,7 @@ shown_if true known oid = name_text known oid
 shown_if false known oid = dotted oid
 
 -- what is asked of an agent in a query about these variables
-abbrev pub question_about : Query → Asking → List (List ℕ) → Asked
+abbrev pub question_about : Query → Asking → List (List ℕ) → QuestionParts
 question_about query asking names = record {
   asking = asking;
   request_id = pos 1;
@@ -42,12 +42,12 @@ question_about query asking names = record {
 }
 
 -- what is asked of an agent in a query
-abbrev pub question : Query → Asking → Asked
+abbrev pub question : Query → Asking → QuestionParts
 question query asking = question_about query asking query.asked.items
 
 -- The text of the answer of the agent at an address: a wire was opened to it, and what happened
 -- there explains the text, or the fault; or no wire could be opened.
-abbrev pub IsAnswerText : Agents → Addr → (List ℕ → List ℕ) → Asked
+abbrev pub IsAnswerText : Agents → Addr → (List ℕ → List ℕ) → QuestionParts
     → Result (String Global) AppFault → Type 0
 IsAnswerText agents at show q (Ok text) =
     agents.Reached at (λ at_wire. IsPrinted show string_bytes q at_wire

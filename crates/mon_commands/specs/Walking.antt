@@ -2,7 +2,7 @@
 use Rattle.std.specs.Prelude.{◌≡◌, ◌⊎◌, ◌<◌, ◌≤◌, ℕ, pos, List, [], ◌∷◌, IsErrAnd, Result, Ok, Err}
 use Rattle.std.specs.Prelude.{codes}
 use Rattle.mon_app.specs.Network.{Agents, IsUnopened}
-use Rattle.mon_app.specs.Question.{Asked}
+use Rattle.mon_app.specs.Question.{QuestionParts}
 use Rattle.mon_app.specs.Walk.{IsWalk, asking_by}
 use Rattle.mon_app.specs.declared.fault.WalkFault.{WalkFault}
 use Rattle.mon_app.specs.declared.fault.WalkFault.TheVariants as faults
@@ -30,7 +30,7 @@ IsStride bulk Next = (bulk ≡ 0) ⊎ (2147483648 ≤ bulk)
 IsStride bulk (Bulk most) = (most ≡ pos bulk) × (1 ≤ bulk) × (bulk < 2147483648)
 
 -- what a walk asks for by its turn with this number: what comes after a name
-abbrev pub next_question : Stride → List ℕ → ℕ → List ℕ → Asked
+abbrev pub next_question : Stride → List ℕ → ℕ → List ℕ → QuestionParts
 next_question stride community turn name = record {
   asking = asking_by stride;
   request_id = pos turn;

@@ -14,7 +14,7 @@ use Rattle.mon_courier.specs.History.{WasDropped, WasRefused, WasDelivered, IsIn
 use Rattle.mon_courier.specs.Turn.{Connecting, IsBeginning, IsFlight, IsStart, IsTurnWith, after_verdict, begins, fails, flies, in_time, rests, settled}
 use Rattle.mon_courier.specs.Verdict.{verdict_of}
 use Rattle.mon_courier.specs.declared.courier.Line.{Line}
-use Rattle.mon_courier.specs.declared.exchange.Step.{Step}
+use Rattle.mon_courier.specs.declared.exchange.CallOutcome.{CallOutcome}
 use Rattle.mon_courier.specs.declared.exchange.Stop.{Stop}
 use Rattle.mon_courier.specs.declared.exchange.Stop.TheVariants.{Waits, Fails, Responds}
 use Rattle.mon_courier.specs.declared.news.News.{News}
@@ -171,7 +171,7 @@ offer_same : (answer : Result ℕ Error) (e : Parts) → Same e (after_offer ans
 offer_same (Ok n) e = record { host_is = refl; path_is = refl; request_is = refl }
 offer_same (Err error) e = itself e
 
-step_same : {S : Type 0} (Wrote Read : Call S) (s t : S) (e f : Parts) (step : Step) → IsStep Wrote Read s e t f step → Same e f
+step_same : {S : Type 0} (Wrote Read : Call S) (s t : S) (e f : Parts) (step : CallOutcome) → IsStep Wrote Read s e t f step → Same e f
 step_same Wrote Read s t e f step (sends some sent) = subst (λ (p : Parts). Same e p) (sym sent.left) (offer_same sent.answer e)
 step_same Wrote Read s t e f step (receives none came) =
     subst (λ (p : Parts). Same e p) (sym came.came) (record { host_is = refl; path_is = refl; request_is = refl })

@@ -2,7 +2,7 @@
 use native.Mathlib.Omega.{arith}
 use Rattle.std.proofs.Common.{◌≡◌, ◌≢◌, ◌-◌, ℕ, zero, suc, refl, sym, subst}
 use Rattle.mon_courier.specs.Exchange.{AreSteps, Call, IsStep, Parts, spent, stops, goes_on}
-use Rattle.mon_courier.specs.declared.exchange.Step.TheVariants.{GoesOn, Stops}
+use Rattle.mon_courier.specs.declared.exchange.CallOutcome.TheVariants.{GoesOn, Stops}
 use Rattle.mon_courier.specs.declared.exchange.Stop.{Stop}
 use Rattle.mon_courier.specs.declared.exchange.Stop.TheVariants.{Waits}
 

@@ -9,8 +9,8 @@ use Rattle.mon_http_client.specs.Request.{post_text}
 use Rattle.mon_http_client.specs.Response.{IsProgress}
 use Rattle.mon_http_client.specs.declared.response.Progress.{Progress}
 use Rattle.mon_http_client.specs.declared.response.Progress.TheVariants.{More, Refused, Response}
-use Rattle.mon_courier.specs.declared.exchange.Step.{Step}
-use Rattle.mon_courier.specs.declared.exchange.Step.TheVariants.{GoesOn, Stops}
+use Rattle.mon_courier.specs.declared.exchange.CallOutcome.{CallOutcome}
+use Rattle.mon_courier.specs.declared.exchange.CallOutcome.TheVariants.{GoesOn, Stops}
 use Rattle.mon_courier.specs.declared.exchange.Stop.{Stop}
 use Rattle.mon_courier.specs.declared.exchange.Stop.TheVariants.{Waits, Fails, Responds}
 use Rattle.mon_courier.specs.declared.news.Cause.TheVariants.{Send, Receive, Closed, NoResponse}
@@ -94,14 +94,14 @@ after_offer (Ok n) e = with_sent n e
 after_offer (Err error) e = e
 
 -- what an offer comes to: a stream that takes none of the octets is closed
-abbrev pub after_sending : Result ℕ Error → Step
+abbrev pub after_sending : Result ℕ Error → CallOutcome
 after_sending (Ok zero) = Stops (Fails Closed)
 after_sending (Ok (suc n)) = GoesOn
 after_sending (Err error) = Stops (sending_failed (error_kind error))
 
 -- The stream was offered all that is left of the request, and what it took is not left any more.
 pub record IsSending {S : Type 0} (Wrote : Call S) (old : S) (before : Parts) (new : S)
-    (after : Parts) (step : Step) : Type 0 where
+    (after : Parts) (step : CallOutcome) : Type 0 where
   pub answer : Result ℕ Error
   pub asked : Wrote old before.unsent answer new
   pub left : after ≡ after_offer answer before
@@ -122,13 +122,13 @@ pub record IsPiece {S : Type 0} (Read : Call S) (old : S) (before : List ℕ) (n
   pub came : after ≡ before ++ given buffer answer
 
 -- what octets of a response come to
-abbrev pub after_octets : Progress → Step
+abbrev pub after_octets : Progress → CallOutcome
 after_octets More = GoesOn
 after_octets (Response status len) = Stops (Responds status)
 after_octets Refused = Stops (Fails NoResponse)
 
 -- what an answer to a read comes to, where these octets came so far
-abbrev pub IsAfterReading : Result ℕ Error → List ℕ → Step → Type 0
+abbrev pub IsAfterReading : Result ℕ Error → List ℕ → CallOutcome → Type 0
 IsAfterReading (Ok zero) seen step = step ≡ Stops (Fails Closed)
 IsAfterReading (Ok (suc n)) seen step =
     (progress : Progress) × IsProgress seen progress × (step ≡ after_octets progress)
@@ -136,7 +136,7 @@ IsAfterReading (Err error) seen step = step ≡ Stops (receiving_failed (error_k
 
 -- The stream was asked for octets of the response, and all that came is judged.
 pub record IsReceiving {S : Type 0} (Read : Call S) (old : S) (before : Parts) (new : S)
-    (after : Parts) (step : Step) : Type 0 where
+    (after : Parts) (step : CallOutcome) : Type 0 where
   pub answer : Result ℕ Error
   pub seen : List ℕ
   pub piece : IsPiece Read old before.seen new seen answer
@@ -146,7 +146,7 @@ pub record IsReceiving {S : Type 0} (Read : Call S) (old : S) (before : Parts) (
 -- One call of the stream: as long as something of the request is left, that is sent. Only then
 -- octets of the response are received.
 pub data IsStep {S : Type 0} (Wrote Read : Call S) (old : S) (before : Parts) (new : S)
-    (after : Parts) (step : Step) : Type 0 where
+    (after : Parts) (step : CallOutcome) : Type 0 where
   sends : before.unsent ≢ [] → IsSending Wrote old before new after step
       → IsStep Wrote Read old before new after step
   receives : before.unsent ≡ [] → IsReceiving Read old before new after step

@@ -31,7 +31,7 @@ pub(crate) enum Stop {
 
 /// What one call comes to.
 #[derive(Clone, Copy, Debug, PartialEq, Eq)]
-pub(crate) enum Step {
+pub(crate) enum CallOutcome {
     /// Another call may be made at once.
     GoesOn,
     /// No further call is made in this turn.
@@ -133,7 +133,7 @@ impl Exchange {
     }
 
     /// Asks the stream once: to send what is left of the request, or for octets of the response.
-    fn step<S: Stream>(&mut self, stream: &mut S) -> Step
+    fn step<S: Stream>(&mut self, stream: &mut S) -> CallOutcome
         ensures { IsStep S.asked_write S.asked_read stream.old self.old stream.new self.new result }
     {
         if self.sent < self.request.len() {
@@ -144,27 +144,27 @@ impl Exchange {
     }
 
     /// Sends what is left of the request, as much as the stream takes.
-    fn send<S: Stream>(&mut self, stream: &mut S) -> Step
+    fn send<S: Stream>(&mut self, stream: &mut S) -> CallOutcome
         ensures { IsSending S.asked_write stream.old self.old stream.new self.new result }
     {
         match stream.put(&self.request[self.sent..]) {
-            Ok(0) => Step::Stops(Stop::Fails(Cause::Closed)),
+            Ok(0) => CallOutcome::Stops(Stop::Fails(Cause::Closed)),
             Ok(n) => {
                 self.sent += n;
-                Step::GoesOn
+                CallOutcome::GoesOn
             }
-            Err(error) => Step::Stops(sending_failed(error.kind())),
+            Err(error) => CallOutcome::Stops(sending_failed(error.kind())),
         }
     }
 
     /// Reads a further piece of the response, and judges what came.
-    fn receive<S: Stream>(&mut self, stream: &mut S) -> Step
+    fn receive<S: Stream>(&mut self, stream: &mut S) -> CallOutcome
         ensures { IsReceiving S.asked_read stream.old self.old stream.new self.new result }
     {
         match read_more(stream, &mut self.seen, &mut self.buffer) {
-            Ok(0) => Step::Stops(Stop::Fails(Cause::Closed)),
+            Ok(0) => CallOutcome::Stops(Stop::Fails(Cause::Closed)),
             Ok(_) => after_octets(read_response(&self.seen)),
-            Err(error) => Step::Stops(receiving_failed(error.kind())),
+            Err(error) => CallOutcome::Stops(receiving_failed(error.kind())),
         }
     }
 
@@ -178,8 +178,8 @@ impl Exchange {
             return Stop::Waits;
         }
         match self.step(stream) {
-            Step::GoesOn => self.go_on(stream, left - 1),
-            Step::Stops(stop) => stop,
+            CallOutcome::GoesOn => self.go_on(stream, left - 1),
+            CallOutcome::Stops(stop) => stop,
         }
     }
 }
@@ -208,13 +208,13 @@ fn read_more<S: Stream>(stream: &mut S, seen: &mut Vec<u8>, buffer: &mut [u8]) -
 }
 
 /// Returns what a call comes to after octets of the response came.
-fn after_octets(progress: Progress) -> Step
+fn after_octets(progress: Progress) -> CallOutcome
     ensures { result ≡ after_octets progress }
 {
     match progress {
-        Progress::More => Step::GoesOn,
-        Progress::Response { status, .. } => Step::Stops(Stop::Responds(status)),
-        Progress::Refused => Step::Stops(Stop::Fails(Cause::NoResponse)),
+        Progress::More => CallOutcome::GoesOn,
+        Progress::Response { status, .. } => CallOutcome::Stops(Stop::Responds(status)),
+        Progress::Refused => CallOutcome::Stops(Stop::Fails(Cause::NoResponse)),
     }
 }
 

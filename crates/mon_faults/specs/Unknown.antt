@@ -5,8 +5,8 @@ use Rattle.mon_settings.specs.declared.grammar.SettingsKind.{SettingsKind}
 use Rattle.mon_settings.specs.declared.grammar.SettingsKind.TheVariants as kind
 use Rattle.mon_settings.specs.declared.place.Place.{Place}
 use Rattle.mon_settings.specs.declared.place.Place.TheVariants as place
-use Rattle.mon_settings.specs.declared.place.Step.{Step}
-use Rattle.mon_settings.specs.declared.place.Step.TheVariants as step
+use Rattle.mon_settings.specs.declared.place.PathPart.{PathPart}
+use Rattle.mon_settings.specs.declared.place.PathPart.TheVariants as step
 use Rattle.mon_settings.specs.declared.key.Key.{Key}
 use Rattle.mon_settings.specs.Grammar.{table_keys, top_keys}
 use Rattle.mon_settings.specs.Key.{key_name}
@@ -18,12 +18,12 @@ entry zero d = None
 entry (suc n) d = at n d
 
 -- the value to which a step leads
-abbrev pub value_at : Step → Members → Option Data
+abbrev pub value_at : PathPart → Members → Option Data
 value_at (step.Value k) t = get_member (key_name k) t
 value_at (step.Entry k number) t = option_and_then (entry number) (get_member (key_name k) t)
 
 -- the table to which a step leads
-abbrev pub table_of : Step → Members → Option Members
+abbrev pub table_of : PathPart → Members → Option Members
 table_of s t = option_and_then as_table (value_at s t)
 
 -- the table at a place
@@ -35,7 +35,7 @@ table_at (place.Inside first table last) t = option_and_then (table_of last)
     (option_and_then (table_of table) (table_of first t))
 
 -- the keys of the table to which a step leads
-abbrev pub step_keys : Step → List Key
+abbrev pub step_keys : PathPart → List Key
 step_keys (step.Value k) = table_keys k
 step_keys (step.Entry k number) = table_keys k
 

@@ -6,7 +6,7 @@ ghost use Rattle.toml.specs.Parse.{parse_document};
 ghost use Rattle.toml.specs.View.{view, table_view};
 
 use mon_settings::{
-    Key, Place, SettingsKind, Step, find, first_unknown, is_one_of, table_keys, top_keys,
+    Key, PathPart, Place, SettingsKind, find, first_unknown, is_one_of, table_keys, top_keys,
 };
 use std::alloc::{AllocError, Global};
 use toml::{Table, Value};
@@ -19,17 +19,17 @@ fn entry(value: &Value, number: usize) -> Option<&Value>
 }
 
 /// Returns the value to which a step leads.
-fn value_at(table: &Table, step: Step) -> Option<&Value>
+fn value_at(table: &Table, step: PathPart) -> Option<&Value>
     ensures { option_map (λ v. view v.now) result ≡ value_at step (table_view table.now) }
 {
     match step {
-        Step::Value(key) => find(table, key),
-        Step::Entry(key, number) => entry(find(table, key)?, number),
+        PathPart::Value(key) => find(table, key),
+        PathPart::Entry(key, number) => entry(find(table, key)?, number),
     }
 }
 
 /// Returns the table to which a step leads.
-fn table_of(table: &Table, step: Step) -> Option<&Table>
+fn table_of(table: &Table, step: PathPart) -> Option<&Table>
     ensures { option_map (λ t. table_view t.now) result ≡ table_of step (table_view table.now) }
 {
     value_at(table, step)?.as_table()
@@ -49,11 +49,11 @@ fn table_at(tree: &Table, place: Place) -> Option<&Table>
     }
 }
 
-fn step_keys(step: Step) -> &'static [Key]
+fn step_keys(step: PathPart) -> &'static [Key]
     ensures { result.now ≡ step_keys step }
 {
     match step {
-        Step::Value(key) | Step::Entry(key, _) => table_keys(key),
+        PathPart::Value(key) | PathPart::Entry(key, _) => table_keys(key),
     }
 }
 

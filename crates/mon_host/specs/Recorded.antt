@@ -6,8 +6,8 @@ use Rattle.std.specs.declared.io.ErrorKind.{ErrorKind}
 use Rattle.std.specs.declared.io.ErrorKind.TheVariants.{Unsupported}
 use Rattle.mon_host.specs.AtHost as at
 use Rattle.mon_host.specs.declared.reason.Reason.{Reason}
-use Rattle.mon_host.specs.declared.recorder.Step.{Step}
-use Rattle.mon_host.specs.declared.recorder.Step.TheVariants as step
+use Rattle.mon_host.specs.declared.recorder.RecordedCall.{RecordedCall}
+use Rattle.mon_host.specs.declared.recorder.RecordedCall.TheVariants as step
 
 -- a reason of this kind, without words
 abbrev pub bare : ErrorKind → Reason
@@ -18,7 +18,7 @@ abbrev pub refused : {T : Type 0} → Result T ErrorKind → Result T Reason
 refused given = result_map_both (λ value. value) bare given
 
 -- a recorded call, as the log has it
-abbrev pub step_of : Step → at.AtHost
+abbrev pub step_of : RecordedCall → at.AtHost
 step_of (step.Arguments given) = at.listing_arguments (refused given)
 step_of (step.AtTerminal is) = at.AtTerminal is
 step_of (step.OutputAtTerminal is) = at.OutputAtTerminal is
@@ -39,10 +39,10 @@ step_of step.Time = at.telling_time (refused (Err Unsupported))
 step_of step.Date = at.telling_date (refused (Err Unsupported))
 
 -- the log: the recorded calls, unless one could not be recorded
-abbrev pub recorded : Bool → List Step → Option (List at.AtHost)
+abbrev pub recorded : Bool → List RecordedCall → Option (List at.AtHost)
 recorded true steps = None
 recorded false steps = Some (map step_of steps)
 
 -- a recorded call is this one
-abbrev pub IsStepOf : at.AtHost → Step → Type 0
+abbrev pub IsStepOf : at.AtHost → RecordedCall → Type 0
 IsStepOf call step = step_of step ≡ call

@@ -14,5 +14,5 @@ mod system;
 pub use host::{Host, Part};
 pub use level::Level;
 pub use reason::Reason;
-pub use recorder::{Given, Page, Recorder, Step};
+pub use recorder::{Given, Page, RecordedCall, Recorder};
 pub use system::{System, Terminals};

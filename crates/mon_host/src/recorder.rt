@@ -16,7 +16,7 @@ use std::time::{Instant, SystemTime};
 
 /// A call that was recorded: what it was asked, and what it gave.
 #[derive(Drop)]
-pub enum Step {
+pub enum RecordedCall {
     Arguments(Result<Vec<String>, ErrorKind>),
     AtTerminal(bool),
     OutputAtTerminal(bool),
@@ -61,7 +61,7 @@ pub struct Given {
 pub struct Recorder {
     alloc: Global,
     given: Given,
-    steps: Vec<Step>,
+    steps: Vec<RecordedCall>,
     is_lost: bool,
 }
 
@@ -79,7 +79,7 @@ impl Recorder {
     }
 
     /// Returns what was done, or None if that is lost.
-    pub fn steps(&self) -> Option<&[Step]>
+    pub fn steps(&self) -> Option<&[RecordedCall]>
         ensures some { IfSome result
             (λ steps. recorded self.now.is_lost self.now.steps.items
             ≡ Some (map step_of steps.now)) }
@@ -92,7 +92,7 @@ impl Recorder {
     }
 
     /// Records a call, or that it could not be recorded.
-    fn record(&mut self, step: Result<Step, AllocError>)
+    fn record(&mut self, step: Result<RecordedCall, AllocError>)
         ensures kept { IfOk step (λ s. GoesOn (step_of s ∷ [])
             (recorded self.old.is_lost self.old.steps.items)
             (recorded self.new.is_lost self.new.steps.items)) }
@@ -205,12 +205,15 @@ fn refused<T: Drop>(given: Result<T, ErrorKind>) -> Result<T, Reason>
 }
 
 /// Records the arguments.
-fn arguments_step(alloc: Global, given: &Result<Vec<String>, ErrorKind>) -> Result<Step, AllocError>
+fn arguments_step(
+    alloc: Global,
+    given: &Result<Vec<String>, ErrorKind>,
+) -> Result<RecordedCall, AllocError>
     ensures { IfOk result (IsStepOf (listing_arguments (refused given.now))) }
 {
     match given {
-        Ok(words) => Ok(Step::Arguments(Ok(copies(alloc, words.as_slice())?))),
-        Err(kind) => Ok(Step::Arguments(Err(*kind))),
+        Ok(words) => Ok(RecordedCall::Arguments(Ok(copies(alloc, words.as_slice())?))),
+        Err(kind) => Ok(RecordedCall::Arguments(Err(*kind))),
     }
 }
 
@@ -219,26 +222,30 @@ fn print_step(
     alloc: Global,
     octets: &[u8],
     given: Result<(), ErrorKind>,
-) -> Result<Step, AllocError>
+) -> Result<RecordedCall, AllocError>
     ensures { IfOk result (IsStepOf (printing octets.now (refused given))) }
 {
-    Ok(Step::Print(Vec::from_slice(alloc, octets)?, given))
+    Ok(RecordedCall::Print(Vec::from_slice(alloc, octets)?, given))
 }
 
 /// Records a text for standard error.
-fn note_step<D: Display + Drop>(alloc: Global, level: Level, text: D) -> Result<Step, AllocError>
+fn note_step<D: Display + Drop>(
+    alloc: Global,
+    level: Level,
+    text: D,
+) -> Result<RecordedCall, AllocError>
     ensures { IfOk result (λ step. IsNoted level (D.output text) (step_of step ∷ [])) }
 {
-    Ok(Step::Note(level, format!(in alloc; "{text}")?))
+    Ok(RecordedCall::Note(level, format!(in alloc; "{text}")?))
 }
 
 /// Records what was read from standard input.
-fn input_step(alloc: Global, given: &Result<Vec<u8>, ErrorKind>) -> Result<Step, AllocError>
+fn input_step(alloc: Global, given: &Result<Vec<u8>, ErrorKind>) -> Result<RecordedCall, AllocError>
     ensures { IfOk result (IsStepOf (reading_input (refused given.now))) }
 {
     match given {
-        Ok(octets) => Ok(Step::Input(Ok(Vec::from_slice(alloc, octets)?))),
-        Err(kind) => Ok(Step::Input(Err(*kind))),
+        Ok(octets) => Ok(RecordedCall::Input(Ok(Vec::from_slice(alloc, octets)?))),
+        Err(kind) => Ok(RecordedCall::Input(Err(*kind))),
     }
 }
 
@@ -247,13 +254,13 @@ fn file_step(
     alloc: Global,
     path: &str,
     given: &Result<Vec<u8>, ErrorKind>,
-) -> Result<Step, AllocError>
+) -> Result<RecordedCall, AllocError>
     ensures { IfOk result (IsStepOf (reading_file path.now (refused given.now))) }
 {
     let path = String::from_str(alloc, path)?;
     match given {
-        Ok(octets) => Ok(Step::File(path, Ok(Vec::from_slice(alloc, octets)?))),
-        Err(kind) => Ok(Step::File(path, Err(*kind))),
+        Ok(octets) => Ok(RecordedCall::File(path, Ok(Vec::from_slice(alloc, octets)?))),
+        Err(kind) => Ok(RecordedCall::File(path, Err(*kind))),
     }
 }
 
@@ -263,13 +270,13 @@ fn part_step(
     path: &str,
     part: Part,
     given: &Result<Vec<u8>, ErrorKind>,
-) -> Result<Step, AllocError>
+) -> Result<RecordedCall, AllocError>
     ensures { IfOk result (IsStepOf (reading_part path.now part (refused given.now))) }
 {
     let path = String::from_str(alloc, path)?;
     match given {
-        Ok(octets) => Ok(Step::Part(path, part, Ok(Vec::from_slice(alloc, octets)?))),
-        Err(kind) => Ok(Step::Part(path, part, Err(*kind))),
+        Ok(octets) => Ok(RecordedCall::Part(path, part, Ok(Vec::from_slice(alloc, octets)?))),
+        Err(kind) => Ok(RecordedCall::Part(path, part, Err(*kind))),
     }
 }
 
@@ -279,11 +286,11 @@ fn write_step(
     path: &str,
     octets: &[u8],
     given: Result<(), ErrorKind>,
-) -> Result<Step, AllocError>
+) -> Result<RecordedCall, AllocError>
     ensures { IfOk result (IsStepOf (writing path.now octets.now (refused given))) }
 {
     let path = String::from_str(alloc, path)?;
-    Ok(Step::Write(path, Vec::from_slice(alloc, octets)?, given))
+    Ok(RecordedCall::Write(path, Vec::from_slice(alloc, octets)?, given))
 }
 
 /// Records that a file got another path, or did not.
@@ -292,39 +299,47 @@ fn rename_step(
     path: &str,
     other: &str,
     given: Result<(), ErrorKind>,
-) -> Result<Step, AllocError>
+) -> Result<RecordedCall, AllocError>
     ensures { IfOk result (IsStepOf (renaming path.now other.now (refused given))) }
 {
     let path = String::from_str(alloc, path)?;
-    Ok(Step::Rename(path, String::from_str(alloc, other)?, given))
+    Ok(RecordedCall::Rename(path, String::from_str(alloc, other)?, given))
 }
 
 /// Records whether something is at a path.
-fn find_step(alloc: Global, path: &str, is: bool) -> Result<Step, AllocError>
+fn find_step(alloc: Global, path: &str, is: bool) -> Result<RecordedCall, AllocError>
     ensures { IfOk result (IsStepOf (finding path.now (Ok is))) }
 {
-    Ok(Step::Find(String::from_str(alloc, path)?, is))
+    Ok(RecordedCall::Find(String::from_str(alloc, path)?, is))
 }
 
 /// Records that a file was asked for its time, which none has.
-fn date_file_step(alloc: Global, path: &str) -> Result<Step, AllocError>
+fn date_file_step(alloc: Global, path: &str) -> Result<RecordedCall, AllocError>
     ensures { IfOk result (IsStepOf (dating_file path.now (refused (Err Unsupported)))) }
 {
-    Ok(Step::DateFile(String::from_str(alloc, path)?))
+    Ok(RecordedCall::DateFile(String::from_str(alloc, path)?))
 }
 
 /// Records that all users were permitted to read a file, or were not.
-fn permit_step(alloc: Global, path: &str, given: Result<(), ErrorKind>) -> Result<Step, AllocError>
+fn permit_step(
+    alloc: Global,
+    path: &str,
+    given: Result<(), ErrorKind>,
+) -> Result<RecordedCall, AllocError>
     ensures { IfOk result (IsStepOf (permitting path.now (refused given))) }
 {
-    Ok(Step::Permit(String::from_str(alloc, path)?, given))
+    Ok(RecordedCall::Permit(String::from_str(alloc, path)?, given))
 }
 
 /// Records which file is at a path.
-fn find_node_step(alloc: Global, path: &str, node: Option<(u64, u64)>) -> Result<Step, AllocError>
+fn find_node_step(
+    alloc: Global,
+    path: &str,
+    node: Option<(u64, u64)>,
+) -> Result<RecordedCall, AllocError>
     ensures { IfOk result (IsStepOf (finding_node path.now (Ok node))) }
 {
-    Ok(Step::FindNode(String::from_str(alloc, path)?, node))
+    Ok(RecordedCall::FindNode(String::from_str(alloc, path)?, node))
 }
 
 impl Host for Recorder {
@@ -339,12 +354,12 @@ impl Host for Recorder {
     }
 
     fn is_at_terminal(&mut self) -> bool {
-        self.record(Ok(Step::AtTerminal(false)));
+        self.record(Ok(RecordedCall::AtTerminal(false)));
         false
     }
 
     fn prints_to_terminal(&mut self) -> bool {
-        self.record(Ok(Step::OutputAtTerminal(false)));
+        self.record(Ok(RecordedCall::OutputAtTerminal(false)));
         false
     }
 
@@ -359,7 +374,7 @@ impl Host for Recorder {
     }
 
     fn show_levels(&mut self) {
-        self.record(Ok(Step::ShowLevels));
+        self.record(Ok(RecordedCall::ShowLevels));
     }
 
     fn read_input(&mut self) -> Result<Vec<u8>, Reason> {
@@ -423,12 +438,12 @@ impl Host for Recorder {
     }
 
     fn time(&mut self) -> Result<Instant, Reason> {
-        self.record(Ok(Step::Time));
+        self.record(Ok(RecordedCall::Time));
         refused(Err(ErrorKind::Unsupported))
     }
 
     fn date(&mut self) -> Result<SystemTime, Reason> {
-        self.record(Ok(Step::Date));
+        self.record(Ok(RecordedCall::Date));
         refused(Err(ErrorKind::Unsupported))
     }
 }

@@ -7,8 +7,8 @@ use Rattle.mon_http.specs.declared.request.Request.{Request}
 use Rattle.mon_http.specs.declared.request.Refusal.{Refusal}
 use Rattle.mon_http.specs.declared.request.Verdict.{Verdict}
 use Rattle.mon_http.specs.declared.request.Verdict.TheVariants.{Asked, Refused}
-use Rattle.mon_http.specs.declared.step.Step.{Step}
-use Rattle.mon_http.specs.declared.step.Step.TheVariants as St
+use Rattle.mon_http.specs.declared.step.StepOutcome.{StepOutcome}
+use Rattle.mon_http.specs.declared.step.StepOutcome.TheVariants as St
 use Rattle.mon_http.specs.Front.{skip_line_ends}
 use Rattle.mon_http.specs.Request.{IsQuiet, IsJudged}
 use Rattle.mon_http.specs.Response.{Reply, response_text, refusal_text}
@@ -51,7 +51,7 @@ abbrev pub with_refusal : Option Date → Refusal → Conversation → Conversat
 with_refusal date refusal c = with_text refusal.len refusal.keep_alive (refusal_text date refusal) c
 
 -- what a step finds at the front of the octets, and does: only a refusal is answered at once
-abbrev pub IsStep : List (List ℕ) → Option Date → Conversation → Step → Conversation → Type 0
+abbrev pub IsStep : List (List ℕ) → Option Date → Conversation → StepOutcome → Conversation → Type 0
 IsStep names date old St.Wait new = IsQuiet old.unread × (new ≡ old)
 IsStep names date old (St.Asked request) new = IsJudged names old.unread (Asked request)
     × (new ≡ old)

@@ -71,7 +71,7 @@ abbrev pub is_dotted_octet : ℕ → Bool
 is_dotted_octet b = is_ascii_digit b || (b == 46)
 
 -- A host is served if it is no name (nothing, an address in brackets, or digits and dots), or
--- `localhost`, or one of the site's names, in any case. Its port is ignored.
+-- `localhost`, or one of the names that are served, in any case. Its port is ignored.
 abbrev pub is_served_host : List (List ℕ) → List ℕ → Bool
 is_served_host names host = is_bracketed host || (let name = before 58 58 host in
     list_all is_dotted_octet name || (eq_ignore_case name (codes "localhost")

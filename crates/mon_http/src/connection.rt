@@ -12,7 +12,7 @@ use crate::answer::Answer;
 use crate::front::{line_ends, scan};
 use crate::request::{Refusal, Request, Verdict, judge, long_status, refuse};
 use crate::response::{Head, Media, Status, put_head};
-use crate::step::Step;
+use crate::step::StepOutcome;
 use httpdate::HttpDate;
 use std::alloc::{AllocError, Global};
 use std::marker::Model;
@@ -203,7 +203,11 @@ impl Connection {
     ///
     /// # Errors
     /// `AllocError` if there is no memory for a refusal; nothing changes then.
-    pub fn step(&mut self, date: Option<HttpDate>, names: &[String]) -> Result<Step, AllocError>
+    pub fn step(
+        &mut self,
+        date: Option<HttpDate>,
+        names: &[String],
+    ) -> Result<StepOutcome, AllocError>
         requires open { self.old.closing ≡ false }
         requires sent { self.old.unsent ≡ [] }
         ensures done { IfOk result (λ step. IsStep (map string_bytes names.now) date self.old step
@@ -213,12 +217,12 @@ impl Connection {
             × IsJudged (map string_bytes names.now) self.old.unread (Verdicts.Refused refusal)) }
     {
         match self.progress(names) {
-            None => Ok(Step::Wait),
-            Some(Verdict::Asked(request)) => Ok(Step::Asked(request)),
+            None => Ok(StepOutcome::Wait),
+            Some(Verdict::Asked(request)) => Ok(StepOutcome::Asked(request)),
             Some(Verdict::Refused(refusal)) => {
                 let text = refusal_response(self.alloc, date, refusal)?;
                 self.put(refusal.len, refusal.keep_alive, text);
-                Ok(Step::Refused)
+                Ok(StepOutcome::Refused)
             }
         }
     }

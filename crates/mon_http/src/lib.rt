@@ -22,4 +22,4 @@ pub use connection::Connection;
 pub use request::{Refusal, Request, Verdict};
 pub use response::{Media, Status};
 pub use route::Route;
-pub use step::Step;
+pub use step::StepOutcome;

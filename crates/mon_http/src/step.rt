@@ -4,7 +4,7 @@ use crate::request::Request;
 
 /// What a step of a connection comes to.
 #[derive(Clone, Copy)]
-pub enum Step {
+pub enum StepOutcome {
     /// More octets are needed.
     Wait,
     /// A request waits for its answer.

@@ -16,7 +16,7 @@ use Rattle.mon_mib.specs.declared.facts.SysText.{SysText}
 use Rattle.mon_mib.specs.declared.facts.SysText.TheVariants.{Contact, SystemName, Location}
 use Rattle.mon_mib.specs.declared.object.Object.{Object}
 use Rattle.mon_mib.specs.declared.object.Object.TheVariants as served
-use Rattle.mon_mib.specs.declared.step.Step.{Step}
+use Rattle.mon_mib.specs.declared.planned_change.PlannedChange.{PlannedChange}
 use Rattle.mon_mib.specs.Assignment.{IsChange, IsAskedChange, IsLast, IsNumberedAssignment, IsSetPlan, AreApart, scalar_of}
 use Rattle.mon_mib.specs.Change.{same_target, same_text}
 use Rattle.mon_mib.specs.Known.{Known, instances}
@@ -70,7 +70,7 @@ module _ (k : Known) where
           absurd (other (was.named ∙ (sym (ap (λ q. prefix_of q ++ was.instance ∷ []) at.0) ∙ (sym (ap (λ n. prefix_of is.object ++ n ∷ []) at.1) ∙ sym is.named))))
       by_test false e = refl
 
-  pub apart : (bs : List Binding) (steps : List Step) → AllPairs (λ s t. s.index < t.index) steps → All (IsNumberedAssignment k bs) steps → AreApart steps
+  pub apart : (bs : List Binding) (steps : List PlannedChange) → AllPairs (λ s t. s.index < t.index) steps → All (IsNumberedAssignment k bs) steps → AreApart steps
   apart bs steps rising each i j d lt within =
       let s : IsNumberedAssignment k bs (get_or steps i d) = each i d (omega arith) in
       let t : IsNumberedAssignment k bs (get_or steps j d) = each j d within in
@@ -83,29 +83,29 @@ module _ (k : Known) where
 
   -- ---- one binding more
 
-  module _ (sees : List ℕ → Type 0) (bs : List Binding) (n : ℕ) (steps : List Step) (b : Binding) (c : Change) (to : IsPlannedTo k sees bs n steps)
+  module _ (sees : List ℕ → Type 0) (bs : List Binding) (n : ℕ) (steps : List PlannedChange) (b : Binding) (c : Change) (to : IsPlannedTo k sees bs n steps)
       (within : n < length bs) (is : get_or bs n b ≡ b) (judged : IsAccepted k sees b × IsAskedChange k b c) where
     more_accepted : All (IsAccepted k sees) (take (n + 1) bs)
     more_accepted = rw (take_more bs n b within) (All-push (IsAccepted k sees) (take n bs) (get_or bs n b) to.accepted (subst (IsAccepted k sees) (sym is) judged.0))
 
-    weaker : All (λ (s : Step). s.index ≤ n + 1) steps
+    weaker : All (λ (s : PlannedChange). s.index ≤ n + 1) steps
     weaker i d lt = let le : (get_or steps i d).index ≤ n = to.below i d lt in omega arith
 
     pub planned : ¬ (Any (λ c. c.name ≡ b.name) (drop (n + 1) bs)) → IsPlannedTo k sees bs (n + 1) (steps ++ record { index = n + 1; change = c } ∷ [])
     planned last =
-        let step : Step = record { index = n + 1; change = c } in
+        let step : PlannedChange = record { index = n + 1; change = c } in
         let is_last : IsLast bs n b = record { within = within; is = is; last = last } in
         record {
           accepted = more_accepted;
-          below = All-push (λ (s : Step). s.index ≤ n + 1) steps step weaker (omega arith);
-          rising = all_pairs_push (λ (s t : Step). s.index < t.index) steps step to.rising (λ i d lt. let le : (get_or steps i d).index ≤ n = to.below i d lt in omega arith);
+          below = All-push (λ (s : PlannedChange). s.index ≤ n + 1) steps step weaker (omega arith);
+          rising = all_pairs_push (λ (s t : PlannedChange). s.index < t.index) steps step to.rising (λ i d lt. let le : (get_or steps i d).index ≤ n = to.below i d lt in omega arith);
           each = All-push (IsNumberedAssignment k bs) steps step to.each (record { place = n; binding = b; last = is_last; number = refl; assigns = judged.1 });
           all = all step;
         }
       where
-        all : (step : Step) (j : ℕ) (a : Binding) → j < n + 1 → IsLast bs j a → (s : Step) × Contains (steps ++ record { index = n + 1; change = c } ∷ []) s × (s.index ≡ j + 1)
+        all : (step : PlannedChange) (j : ℕ) (a : Binding) → j < n + 1 → IsLast bs j a → (s : PlannedChange) × Contains (steps ++ record { index = n + 1; change = c } ∷ []) s × (s.index ≡ j + 1)
         all step j a lt last = elim (split j lt) [
-          | inl less ↦ let r : (s : Step) × Contains steps s × (s.index ≡ j + 1) = to.all j a less last in
+          | inl less ↦ let r : (s : PlannedChange) × Contains steps s × (s.index ≡ j + 1) = to.all j a less last in
               (r.0, Contains-append_left steps (record { index = n + 1; change = c } ∷ []) r.0 r.1, r.2)
           | inr same ↦ (record { index = n + 1; change = c }, Contains-push steps (record { index = n + 1; change = c }), ap (λ m. m + 1) (sym same))
         ]
@@ -132,7 +132,7 @@ module _ (k : Known) where
         same_binding a j same at = sym is ∙ (get_or_default bs n b a within ∙ (ap (λ m. get_or bs m a) (sym same) ∙ at))
 
     -- what the last place of its name says of a binding
-    module _ (places : BTreeMap (Bor (List ℕ)) ℕ) (last : AreLastPlaces bs places) (r : Bool) (items : List Step)
+    module _ (places : BTreeMap (Bor (List ℕ)) ℕ) (last : AreLastPlaces bs places) (r : Bool) (items : List PlannedChange)
         (exact : IsTrue r ↔ IsSomeAnd (place_of places b.name) (λ p. n < p)) where
       pub planned_when : r ≡ false → items ≡ steps ++ record { index = n + 1; change = c } ∷ [] → IsPlannedTo k sees bs (n + 1) items
       planned_when no_later e = subst (IsPlannedTo k sees bs (n + 1)) (sym e)
@@ -141,13 +141,13 @@ module _ (k : Known) where
       pub passed_when : r ≡ true → items ≡ steps → IsPlannedTo k sees bs (n + 1) items
       passed_when some e = subst (IsPlannedTo k sees bs (n + 1)) (sym e) (passed ((last b.name n).0 (exact.0 some)))
 
-  pub finished : (sees : List ℕ → Type 0) (bs : List Binding) (n : ℕ) (steps : List Step) → length bs ≤ n → IsPlannedTo k sees bs n steps → IsSetPlan k bs steps
+  pub finished : (sees : List ℕ → Type 0) (bs : List Binding) (n : ℕ) (steps : List PlannedChange) → length bs ≤ n → IsPlannedTo k sees bs n steps → IsSetPlan k bs steps
   finished sees bs n steps le to = record { rising = to.rising; each = to.each; all = λ j b last. to.all j b (omega (arith, last.within)) last }
 
-  pub all_accepted : (sees : List ℕ → Type 0) (bs : List Binding) (n : ℕ) (steps : List Step) → length bs ≤ n → IsPlannedTo k sees bs n steps → All (IsAccepted k sees) bs
+  pub all_accepted : (sees : List ℕ → Type 0) (bs : List Binding) (n : ℕ) (steps : List PlannedChange) → length bs ≤ n → IsPlannedTo k sees bs n steps → All (IsAccepted k sees) bs
   all_accepted sees bs n steps le to = subst (All (IsAccepted k sees)) (take_all n bs le) to.accepted
 
-pub plan_made : {E : Type 0} (k : Known) (bs : List Binding) (steps : List Step) (r : Result (List Step) E) → IfOk r (λ plan. plan ≡ steps) → IsSetPlan k bs steps
+pub plan_made : {E : Type 0} (k : Known) (bs : List Binding) (steps : List PlannedChange) (r : Result (List PlannedChange) E) → IfOk r (λ plan. plan ≡ steps) → IsSetPlan k bs steps
     → IfOk r (λ plan. IsSetPlan k bs plan)
 plan_made k bs steps (Ok plan) is made = subst (IsSetPlan k bs) (sym is) made
 plan_made k bs steps (Err e) is made = tt

@@ -9,7 +9,7 @@ use Rattle.mon_mib.specs.declared.change.Change.TheVariants as set
 use Rattle.mon_mib.specs.declared.status.Status.{Status}
 use Rattle.mon_mib.specs.declared.facts.SysText.{SysText}
 use Rattle.mon_mib.specs.declared.facts.SysText.TheVariants.{Contact, SystemName, Location}
-use Rattle.mon_mib.specs.declared.step.Step.{Step}
+use Rattle.mon_mib.specs.declared.planned_change.PlannedChange.{PlannedChange}
 use Rattle.mon_mib.specs.Change.{changed, undoing, same_target, same_text, put}
 use Rattle.mon_mib.specs.Commit.{changes}
 use Rattle.mon_mib.specs.Held.{Held}
@@ -137,22 +137,22 @@ turned (set.Alias i text) (set.Alias j other) = index_turned i j
 
 -- ---- over lists of assignments
 
-abbrev pub IsClear : Change → List Step → Type 0
+abbrev pub IsClear : Change → List PlannedChange → Type 0
 IsClear c steps = All (λ s. same_target c s.change ≡ false) steps
 
-tail_clear : (c : Change) (s : Step) (ss : List Step) → IsClear c (s ∷ ss) → IsClear c ss
+tail_clear : (c : Change) (s : PlannedChange) (ss : List PlannedChange) → IsClear c (s ∷ ss) → IsClear c ss
 tail_clear c s ss clear k d lt = clear (suc k) d (omega arith)
 
-pub through : (c : Change) (ss : List Step) (h : Held) → IsClear c ss → changed c (changes ss h) ≡ changes ss (changed c h)
+pub through : (c : Change) (ss : List PlannedChange) (h : Held) → IsClear c ss → changed c (changes ss h) ≡ changes ss (changed c h)
 through c [] h clear = refl
 through c (s ∷ ss) h clear =
     through c ss (changed s.change h) (tail_clear c s ss clear) ∙ ap (changes ss) (swapped c s.change h (clear zero s (omega arith)))
 
-pub undoing_through : (c : Change) (ss : List Step) (h : Held) → IsClear c ss → undoing c (changes ss h) ≡ undoing c h
+pub undoing_through : (c : Change) (ss : List PlannedChange) (h : Held) → IsClear c ss → undoing c (changes ss h) ≡ undoing c h
 undoing_through c [] h clear = refl
 undoing_through c (s ∷ ss) h clear =
     undoing_through c ss (changed s.change h) (tail_clear c s ss clear) ∙ same_undoing c s.change h (clear zero s (omega arith))
 
-pub changes_push : (ss : List Step) (s : Step) (h : Held) → changes (ss ++ s ∷ []) h ≡ changed s.change (changes ss h)
+pub changes_push : (ss : List PlannedChange) (s : PlannedChange) (h : Held) → changes (ss ++ s ∷ []) h ≡ changed s.change (changes ss h)
 changes_push [] s h = refl
 changes_push (t ∷ ss) s h = changes_push ss s (changed t.change h)

@@ -5,7 +5,7 @@ use Rattle.std.proofs.lemmas.List.{append-nil, get_or_append_left, length_push, 
 use Rattle.std.proofs.lemmas.List.Elements.{All-push, Contains-append_left, Contains-push}
 use Rattle.std.proofs.lemmas.List.Quantifiers.{all_pairs_push}
 use Rattle.mon_mib.specs.declared.change.Change.{Change}
-use Rattle.mon_mib.specs.declared.step.Step.{Step}
+use Rattle.mon_mib.specs.declared.planned_change.PlannedChange.{PlannedChange}
 use Rattle.mon_mib.specs.Assignment.{AreApart}
 use Rattle.mon_mib.specs.Change.{changed, undoing, same_target, one_failure}
 use Rattle.mon_mib.specs.Commit.{changes, undoings, failures_after, IsRefusedOnce, IsLeft, AreSomeBackwards}
@@ -15,18 +15,18 @@ use Rattle.mon_mib.proofs.Swapping.{undone, same_place, turned, IsClear, through
 
 -- ---- lists
 
-abbrev pub index_of : List Step → List ℕ
+abbrev pub index_of : List PlannedChange → List ℕ
 index_of steps = map (λ s. s.index) steps
 
-index_push : (ss : List Step) (s : Step) → index_of (ss ++ s ∷ []) ≡ index_of ss ++ s.index ∷ []
+index_push : (ss : List PlannedChange) (s : PlannedChange) → index_of (ss ++ s ∷ []) ≡ index_of ss ++ s.index ∷ []
 index_push [] s = refl
 index_push (t ∷ ss) s = ap (λ ns. t.index ∷ ns) (index_push ss s)
 
-pub undoings_push : (ss : List Step) (s : Step) (h : Held) → undoings (ss ++ s ∷ []) h ≡ undoings ss h ++ record { index = s.index; change = undoing s.change (changes ss h) } ∷ []
+pub undoings_push : (ss : List PlannedChange) (s : PlannedChange) (h : Held) → undoings (ss ++ s ∷ []) h ≡ undoings ss h ++ record { index = s.index; change = undoing s.change (changes ss h) } ∷ []
 undoings_push [] s h = refl
 undoings_push (t ∷ ss) s h = ap (λ us. record { index = t.index; change = undoing t.change h } ∷ us) (undoings_push ss s (changed t.change h))
 
-pub undoings_length : (ss : List Step) (h : Held) → length (undoings ss h) ≡ length ss
+pub undoings_length : (ss : List PlannedChange) (h : Held) → length (undoings ss h) ≡ length ss
 undoings_length [] h = refl
 undoings_length (s ∷ ss) h = ap suc (undoings_length ss (changed s.change h))
 
@@ -35,46 +35,46 @@ failures_push [] n count = refl
 failures_push (m ∷ ns) n count = failures_push ns n (one_failure count)
 
 -- the last of the assignments, where the undoings end with this one
-pub record IsLastOf (ss : List Step) (h : Held) (us : List Step) (u : Step) : Type 0 where
-  pub front : List Step
-  pub step : Step
+pub record IsLastOf (ss : List PlannedChange) (h : Held) (us : List PlannedChange) (u : PlannedChange) : Type 0 where
+  pub front : List PlannedChange
+  pub step : PlannedChange
   pub order : ss ≡ front ++ step ∷ []
   pub others : us ≡ undoings front h
   pub is : u ≡ record { index = step.index; change = undoing step.change (changes front h) }
 
-pub last_of : (ss : List Step) (h : Held) (us : List Step) (u : Step) → us ++ u ∷ [] ≡ undoings ss h → IsLastOf ss h us u
+pub last_of : (ss : List PlannedChange) (h : Held) (us : List PlannedChange) (u : PlannedChange) → us ++ u ∷ [] ≡ undoings ss h → IsLastOf ss h us u
 last_of [] h us u e = absurd (nothing us e)
   where
-    nothing : (us : List Step) → us ++ u ∷ [] ≡ [] → ⊥
+    nothing : (us : List PlannedChange) → us ++ u ∷ [] ≡ [] → ⊥
     nothing [] e = cc
     nothing (v ∷ us) e = cc
 last_of (s ∷ []) h [] u e = record { front = []; step = s; order = refl; others = refl; is = head e }
   where
-    head : {a b : Step} → a ∷ [] ≡ b ∷ [] → a ≡ b
+    head : {a b : PlannedChange} → a ∷ [] ≡ b ∷ [] → a ≡ b
     head e = cc
 last_of (s ∷ []) h (v ∷ us) u e = absurd (longer us (tail e))
   where
-    tail : {a b : Step} {ss ts : List Step} → a ∷ ss ≡ b ∷ ts → ss ≡ ts
+    tail : {a b : PlannedChange} {ss ts : List PlannedChange} → a ∷ ss ≡ b ∷ ts → ss ≡ ts
     tail e = cc
 
-    longer : (us : List Step) → us ++ u ∷ [] ≡ [] → ⊥
+    longer : (us : List PlannedChange) → us ++ u ∷ [] ≡ [] → ⊥
     longer [] e = cc
     longer (v ∷ us) e = cc
 last_of (s ∷ t ∷ ss) h [] u e = absurd (never e)
   where
-    never : {a b c : Step} {cs : List Step} → a ∷ [] ≡ b ∷ c ∷ cs → ⊥
+    never : {a b c : PlannedChange} {cs : List PlannedChange} → a ∷ [] ≡ b ∷ c ∷ cs → ⊥
     never e = cc
 last_of (s ∷ t ∷ ss) h (v ∷ us) u e =
     let rest : IsLastOf (t ∷ ss) (changed s.change h) us u = last_of (t ∷ ss) (changed s.change h) us u (tail e) in
     record { front = s ∷ rest.front; step = rest.step; order = ap (λ l. s ∷ l) rest.order; others = both (head e) rest.others; is = rest.is }
   where
-    head : {a b : Step} {ss ts : List Step} → a ∷ ss ≡ b ∷ ts → a ≡ b
+    head : {a b : PlannedChange} {ss ts : List PlannedChange} → a ∷ ss ≡ b ∷ ts → a ≡ b
     head e = cc
 
-    tail : {a b : Step} {ss ts : List Step} → a ∷ ss ≡ b ∷ ts → ss ≡ ts
+    tail : {a b : PlannedChange} {ss ts : List PlannedChange} → a ∷ ss ≡ b ∷ ts → ss ≡ ts
     tail e = cc
 
-    both : {a b : Step} {ss ts : List Step} → a ≡ b → ss ≡ ts → a ∷ ss ≡ b ∷ ts
+    both : {a b : PlannedChange} {ss ts : List PlannedChange} → a ≡ b → ss ≡ ts → a ∷ ss ≡ b ∷ ts
     both e f = cc
 
 -- all before the last
@@ -86,36 +86,36 @@ last_all P xs x all =
     let at : (k : ℕ) × (k < length (xs ++ x ∷ [])) × (get_or (xs ++ x ∷ []) k x ≡ x) = Contains-push xs x in
     subst P at.2 (all at.0 x at.1)
 
-pub front_apart : (ss ts : List Step) → AreApart (ss ++ ts) → AreApart ss
+pub front_apart : (ss ts : List PlannedChange) → AreApart (ss ++ ts) → AreApart ss
 front_apart ss ts apart i j d lt within =
-    subst (λ (x : Step). same_target (get_or ss i d).change x.change ≡ false) (get_or_append_left ss ts d j within)
-    (subst (λ (x : Step). same_target x.change (get_or (ss ++ ts) j d).change ≡ false) (get_or_append_left ss ts d i (omega arith))
+    subst (λ (x : PlannedChange). same_target (get_or ss i d).change x.change ≡ false) (get_or_append_left ss ts d j within)
+    (subst (λ (x : PlannedChange). same_target x.change (get_or (ss ++ ts) j d).change ≡ false) (get_or_append_left ss ts d i (omega arith))
     (apart i j d lt (rw (length-append ss ts) (omega arith))))
 
 -- the last is apart from all before
-last_clear : (ss : List Step) (s : Step) → AreApart (ss ++ s ∷ []) → All (λ t. same_target t.change s.change ≡ false) ss
+last_clear : (ss : List PlannedChange) (s : PlannedChange) → AreApart (ss ++ s ∷ []) → All (λ t. same_target t.change s.change ≡ false) ss
 last_clear ss s apart i d lt =
     let there : same_target (get_or (ss ++ s ∷ []) i d).change (get_or (ss ++ s ∷ []) (length ss) d).change ≡ false =
     apart i (length ss) d lt (rw (length_push ss s) (omega arith)) in
-    subst (λ (x : Step). same_target (get_or ss i d).change x.change ≡ false) (at_end ss s d)
-    (subst (λ (x : Step). same_target x.change (get_or (ss ++ s ∷ []) (length ss) d).change ≡ false) (get_or_append_left ss (s ∷ []) d i lt) there)
+    subst (λ (x : PlannedChange). same_target (get_or ss i d).change x.change ≡ false) (at_end ss s d)
+    (subst (λ (x : PlannedChange). same_target x.change (get_or (ss ++ s ∷ []) (length ss) d).change ≡ false) (get_or_append_left ss (s ∷ []) d i lt) there)
   where
-    at_end : (ss : List Step) (s d : Step) → get_or (ss ++ s ∷ []) (length ss) d ≡ s
+    at_end : (ss : List PlannedChange) (s d : PlannedChange) → get_or (ss ++ s ∷ []) (length ss) d ≡ s
     at_end [] s d = refl
     at_end (t ∷ ss) s d = at_end ss s d
 
-front_clear : (ss : List Step) (s : Step) → AreApart (ss ++ s ∷ []) → IsClear s.change ss
+front_clear : (ss : List PlannedChange) (s : PlannedChange) → AreApart (ss ++ s ∷ []) → IsClear s.change ss
 front_clear ss s apart k d lt = turned s.change (get_or ss k d).change ∙ last_clear ss s apart k d lt
 
-module _ {D : Type 0} (held : D → Held) (refuses : D → Change → Type 0) (failed : D → ℕ) (done : List Step) (before : Held) where
+module _ {D : Type 0} (held : D → Held) (refuses : D → Change → Type 0) (failed : D → ℕ) (done : List PlannedChange) (before : Held) where
   -- these are left to undo, and those remain assigned
-  pub record IsAtUndo (undos : List Step) (standing : List ℕ) (device : D) : Type 0 where
-    pub rest : List Step
-    pub gone : List Step
-    pub left : List Step
+  pub record IsAtUndo (undos : List PlannedChange) (standing : List ℕ) (device : D) : Type 0 where
+    pub rest : List PlannedChange
+    pub gone : List PlannedChange
+    pub left : List PlannedChange
     pub whole : done ≡ rest ++ gone
     pub order : AreSomeBackwards gone left
-    pub among : (s : Step) → Contains rest s → Contains done s
+    pub among : (s : PlannedChange) → Contains rest s → Contains done s
     pub apart : AreApart rest
     pub clear : All (λ s. IsClear s.change left) rest
     pub undos_are : undos ≡ undoings rest before
@@ -125,7 +125,7 @@ module _ {D : Type 0} (held : D → Held) (refuses : D → Change → Type 0) (f
     pub refused : All (λ s. IsRefusedOnce held refuses (undoing s.change before)) left
     pub holds : held device ≡ changes left (changes rest before)
 
-  pub begins : (undos : List Step) (device : D) → AreApart done → undos ≡ undoings done before → held device ≡ changes done before → IsAtUndo undos [] device
+  pub begins : (undos : List PlannedChange) (device : D) → AreApart done → undos ≡ undoings done before → held device ≡ changes done before → IsAtUndo undos [] device
   begins undos device apart undos_are holds = record {
     rest = done;
     gone = [];
@@ -143,7 +143,7 @@ module _ {D : Type 0} (held : D → Held) (refuses : D → Change → Type 0) (f
     holds = holds;
   }
 
-  module _ (us : List Step) (u : Step) (standing : List ℕ) (old : D) (at : IsAtUndo (us ++ u ∷ []) standing old)
+  module _ (us : List PlannedChange) (u : PlannedChange) (standing : List ℕ) (old : D) (at : IsAtUndo (us ++ u ∷ []) standing old)
       (last : IsLastOf at.rest before us u) where
     rest_apart : AreApart (last.front ++ last.step ∷ [])
     rest_apart = subst AreApart last.order at.apart
@@ -163,7 +163,7 @@ module _ {D : Type 0} (held : D → Held) (refuses : D → Change → Type 0) (f
     still_whole : done ≡ last.front ++ last.step ∷ at.gone
     still_whole = at.whole ∙ (ap (λ l. l ++ at.gone) last.order ∙ append_assoc last.front (last.step ∷ []) at.gone)
 
-    still_among : (s : Step) → Contains last.front s → Contains done s
+    still_among : (s : PlannedChange) → Contains last.front s → Contains done s
     still_among s there = at.among s (subst (λ l. Contains l s) (sym last.order) (Contains-append_left last.front (last.step ∷ []) s there))
 
     pub went_back : (new : D) (after : List ℕ) → IsBack held refuses failed u old new standing after → IsAtUndo us after new
@@ -186,7 +186,7 @@ module _ {D : Type 0} (held : D → Held) (refuses : D → Change → Type 0) (f
     }
       where
         undo_is : u.change ≡ undoing last.step.change (changes last.front before)
-        undo_is = ap (λ (s : Step). s.change) last.is
+        undo_is = ap (λ (s : PlannedChange). s.change) last.is
 
         undo_clear : IsClear u.change at.left
         undo_clear k d lt = ap (λ c. same_target c (get_or at.left k d).change) undo_is
@@ -205,9 +205,9 @@ module _ {D : Type 0} (held : D → Held) (refuses : D → Change → Type 0) (f
           (front_all (λ s. IsClear s.change at.left) last.front last.step rest_clear k d lt)
           (last_clear last.front last.step rest_apart k d lt);
       undos_are = last.others;
-      numbers = stands.listed ∙ (ap (λ ns. ns ++ u.index ∷ []) at.numbers ∙ (ap (λ (s : Step). index_of at.left ++ s.index ∷ []) last.is ∙ sym (index_push at.left last.step)));
+      numbers = stands.listed ∙ (ap (λ ns. ns ++ u.index ∷ []) at.numbers ∙ (ap (λ (s : PlannedChange). index_of at.left ++ s.index ∷ []) last.is ∙ sym (index_push at.left last.step)));
       made = All-push (Contains done) at.left last.step at.made step_made;
-      once = all_pairs_push (λ (s t : Step). same_target s.change t.change ≡ false) at.left last.step at.once
+      once = all_pairs_push (λ (s t : PlannedChange). same_target s.change t.change ≡ false) at.left last.step at.once
           (λ k d lt. turned (get_or at.left k d).change last.step.change ∙ step_clear k d lt);
       refused = All-push (λ s. IsRefusedOnce held refuses (undoing s.change before)) at.left last.step at.refused
           (record { device = old; refused = subst (refuses old) undo_is stands.refused });
@@ -216,9 +216,9 @@ module _ {D : Type 0} (held : D → Held) (refuses : D → Change → Type 0) (f
     }
       where
         undo_is : u.change ≡ undoing last.step.change before
-        undo_is = ap (λ (s : Step). s.change) last.is ∙ undoing_through last.step.change last.front before (front_clear last.front last.step rest_apart)
+        undo_is = ap (λ (s : PlannedChange). s.change) last.is ∙ undoing_through last.step.change last.front before (front_clear last.front last.step rest_apart)
 
-  pub one_back : (undos us : List Step) (u : Step) (standing : List ℕ) (old new : D) (after : List ℕ) → undos ≡ us ++ u ∷ [] → IsAtUndo undos standing old
+  pub one_back : (undos us : List PlannedChange) (u : PlannedChange) (standing : List ℕ) (old new : D) (after : List ℕ) → undos ≡ us ++ u ∷ [] → IsAtUndo undos standing old
       → IsUndoneOrStands held refuses failed u old new standing after → IsAtUndo us after new
   one_back undos us u standing old new after split at taken =
       let there : IsAtUndo (us ++ u ∷ []) standing old = subst (λ l. IsAtUndo l standing old) split at in
@@ -229,11 +229,11 @@ module _ {D : Type 0} (held : D → Held) (refuses : D → Change → Type 0) (f
       by_case there last (inr stands) = stayed us u standing old there last new after stands
 
   -- at the end
-  none_left : (rest : List Step) → [] ≡ undoings rest before → rest ≡ []
+  none_left : (rest : List PlannedChange) → [] ≡ undoings rest before → rest ≡ []
   none_left [] e = refl
   none_left (s ∷ ss) e = cc
 
-  index_none : (left : List Step) → [] ≡ index_of left → left ≡ []
+  index_none : (left : List PlannedChange) → [] ≡ index_of left → left ≡ []
   index_none [] e = refl
   index_none (s ∷ ss) e = cc
 
@@ -261,7 +261,7 @@ pub not_nil : {X : Type 0} (xs : List X) → (length xs ≡ 0 → ⊥) → xs �
 not_nil xs some e = some (ap length e)
 
 module _ {D : Type 0} (held : D → Held) (refuses : D → Change → Type 0) (failed : D → ℕ) where
-  pub failures_step : (u : Step) (old new : D) (standing after : List ℕ) (count : ℕ) → failed old ≡ failures_after standing count
+  pub failures_step : (u : PlannedChange) (old new : D) (standing after : List ℕ) (count : ℕ) → failed old ≡ failures_after standing count
       → IsUndoneOrStands held refuses failed u old new standing after → failed new ≡ failures_after after count
   failures_step u old new standing after count so_far (inl back) = back.failures ∙ (so_far ∙ ap (λ l. failures_after l count) (sym back.listed))
   failures_step u old new standing after count so_far (inr stands) =

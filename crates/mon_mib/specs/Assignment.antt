@@ -13,7 +13,7 @@ use Rattle.mon_mib.specs.declared.scalar.Scalar.TheVariants.{SysContact, SysName
 use Rattle.mon_mib.specs.declared.column.Column.TheVariants.{IfAdminStatus, IfAlias}
 use Rattle.mon_mib.specs.declared.object.Object.{Object}
 use Rattle.mon_mib.specs.declared.object.Object.TheVariants as served
-use Rattle.mon_mib.specs.declared.step.Step.{Step}
+use Rattle.mon_mib.specs.declared.planned_change.PlannedChange.{PlannedChange}
 use Rattle.mon_mib.specs.Change.{same_target}
 use Rattle.mon_mib.specs.Objects.{prefix_of, objects}
 use Rattle.mon_mib.specs.Known.{Known, instances}
@@ -54,20 +54,22 @@ pub record IsLast (bindings : List Binding) (j : ℕ) (b : Binding) : Type 0 whe
   pub last : ¬ (Any (λ c. c.name ≡ b.name) (drop (j + 1) bindings))
 
 -- the assignment of such a binding, with the binding's number, counted from 1
-pub record IsNumberedAssignment (k : Known) (bindings : List Binding) (s : Step) : Type 0 where
-  pub place : ℕ
-  pub binding : Binding
-  pub last : IsLast bindings place binding
-  pub number : s.index ≡ place + 1
-  pub assigns : IsAskedChange k binding s.change
+pub record IsNumberedAssignment (k : Known) (bindings : List Binding) (s : PlannedChange) : Type 0
+  where
+    pub place : ℕ
+    pub binding : Binding
+    pub last : IsLast bindings place binding
+    pub number : s.index ≡ place + 1
+    pub assigns : IsAskedChange k binding s.change
 
 -- the assignments of all of them, in their order
-pub record IsSetPlan (k : Known) (bindings : List Binding) (steps : List Step) : Type 0 where
-  pub rising : AllPairs (λ s t. s.index < t.index) steps
-  pub each : All (IsNumberedAssignment k bindings) steps
-  pub all : (j : ℕ) (b : Binding) → IsLast bindings j b → (s : Step) × Contains steps s
-      × (s.index ≡ j + 1)
+pub record IsSetPlan (k : Known) (bindings : List Binding) (steps : List PlannedChange) : Type 0
+  where
+    pub rising : AllPairs (λ s t. s.index < t.index) steps
+    pub each : All (IsNumberedAssignment k bindings) steps
+    pub all : (j : ℕ) (b : Binding) → IsLast bindings j b → (s : PlannedChange) × Contains steps s
+        × (s.index ≡ j + 1)
 
 -- no two change the same thing
-abbrev pub AreApart : List Step → Type 0
+abbrev pub AreApart : List PlannedChange → Type 0
 AreApart steps = AllPairs (λ s t. same_target s.change t.change ≡ false) steps

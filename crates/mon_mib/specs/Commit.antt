@@ -3,18 +3,18 @@ use Rattle.std.specs.Prelude.{◌≡◌, ◌≢◌, ◌⊎◌, ℕ, List, [], �
 use Rattle.mon_mib.specs.declared.change.Change.{Change}
 use Rattle.mon_mib.specs.declared.commit.Commit.{Commit}
 use Rattle.mon_mib.specs.declared.commit.Commit.TheVariants.{Done, CommitFailed, UndoFailed}
-use Rattle.mon_mib.specs.declared.step.Step.{Step}
+use Rattle.mon_mib.specs.declared.planned_change.PlannedChange.{PlannedChange}
 use Rattle.mon_mib.specs.Assignment.{AreApart}
 use Rattle.mon_mib.specs.Change.{changed, undoing, one_failure}
 use Rattle.mon_mib.specs.Held.{Held}
 
 -- what is held after these assignments, one after another
-abbrev pub changes : List Step → Held → Held
+abbrev pub changes : List PlannedChange → Held → Held
 changes [] h = h
 changes (s ∷ ss) h = changes ss (changed s.change h)
 
 -- the assignments that undo these, in the same order
-abbrev pub undoings : List Step → Held → List Step
+abbrev pub undoings : List PlannedChange → Held → List PlannedChange
 undoings [] h = []
 undoings (s ∷ ss) h = record { index = s.index; change = undoing s.change h }
     ∷ undoings ss (changed s.change h)
@@ -25,9 +25,9 @@ failures_after [] count = count
 failures_after (n ∷ ns) count = failures_after ns (one_failure count)
 
 -- some of these assignments, the last of them first
-abbrev pub AreSomeBackwards : List Step → List Step → Type 0
+abbrev pub AreSomeBackwards : List PlannedChange → List PlannedChange → Type 0
 AreSomeBackwards [] some = some ≡ []
-AreSomeBackwards (s ∷ ss) some = AreSomeBackwards ss some ⊎ ((later : List Step)
+AreSomeBackwards (s ∷ ss) some = AreSomeBackwards ss some ⊎ ((later : List PlannedChange)
     × (some ≡ later ++ s ∷ []) × AreSomeBackwards ss later)
 
 -- what devices of one kind hold, and which changes they refuse
@@ -44,42 +44,44 @@ module _ {D : Type 0} (held : D → Held) (refuses : D → Change → Type 0) wh
     pub refused : refuses device change
 
   -- after these assignments the next one failed, that of the binding of this number
-  pub record IsFailedAfter (done steps : List Step) (before : Held) (number : ℕ) : Type 0 where
-    pub failed : Step
-    pub others : List Step
-    pub order : steps ≡ done ++ failed ∷ others
-    pub is : failed.index ≡ number
-    pub refused : Refused (changes done before) failed.change
+  pub record IsFailedAfter (done steps : List PlannedChange) (before : Held) (number : ℕ) : Type 0
+    where
+      pub failed : PlannedChange
+      pub others : List PlannedChange
+      pub order : steps ≡ done ++ failed ∷ others
+      pub is : failed.index ≡ number
+      pub refused : Refused (changes done before) failed.change
 
   -- Of the assignments that were made, some remain, those of the bindings of these numbers, the
   -- last first: of each the undoing was refused. All else is as before.
-  pub record IsLeft (done : List Step) (before after : Held) (standing : List ℕ) : Type 0 where
-    pub left : List Step
-    pub some : left ≢ []
-    pub made : All (Contains done) left
-    pub once : AreApart left
-    pub order : AreSomeBackwards done left
-    pub numbers : standing ≡ map (λ s. s.index) left
-    pub refused : All (λ s. IsRefusedOnce (undoing s.change before)) left
-    pub holds : after ≡ changes left before
+  pub record IsLeft (done : List PlannedChange) (before after : Held) (standing : List ℕ) : Type 0
+    where
+      pub left : List PlannedChange
+      pub some : left ≢ []
+      pub made : All (Contains done) left
+      pub once : AreApart left
+      pub order : AreSomeBackwards done left
+      pub numbers : standing ≡ map (λ s. s.index) left
+      pub refused : All (λ s. IsRefusedOnce (undoing s.change before)) left
+      pub holds : after ≡ changes left before
 
   -- what undoing these assignments has come to, after that of this number failed
-  abbrev pub IsUndone : List Step → Held → Held → ℕ → Commit → Type 0
+  abbrev pub IsUndone : List PlannedChange → Held → Held → ℕ → Commit → Type 0
   IsUndone done before after number Done = ⊥
   IsUndone done before after number (CommitFailed failed) = (failed ≡ number) × (after ≡ before)
   IsUndone done before after number (UndoFailed failed standing) = (failed ≡ number)
       × IsLeft done before after standing.items
 
   -- what assigning has come to
-  pub record IsCommitProgress (steps : List Step) (before : Held) (number : ℕ)
-      (P : List Step → Type 0) : Type 0 where
-    pub done : List Step
+  pub record IsCommitProgress (steps : List PlannedChange) (before : Held) (number : ℕ)
+      (P : List PlannedChange → Type 0) : Type 0 where
+    pub done : List PlannedChange
     pub failed : IsFailedAfter done steps before number
     pub holds : P done
 
   -- what assigning gave, and what the device holds after it: every change, what it held before, or
   -- what could not be undone
-  abbrev pub IsCommitted : List Step → Held → Held → Commit → Type 0
+  abbrev pub IsCommitted : List PlannedChange → Held → Held → Commit → Type 0
   IsCommitted steps before after Done = after ≡ changes steps before
   IsCommitted steps before after (CommitFailed failed) = IsCommitProgress steps before failed
       (λ _. after ≡ before)

@@ -21,7 +21,7 @@ use Rattle.mon_mib.specs.declared.binding_fault.BindingFault.{BindingFault}
 use Rattle.mon_mib.specs.declared.binding_fault.BindingFault.TheVariants.{OutOfMemory, Refused}
 use Rattle.mon_mib.specs.declared.set_fault.SetFault.{SetFault}
 use Rattle.mon_mib.specs.declared.set_fault.SetFault.TheVariants as fault
-use Rattle.mon_mib.specs.declared.step.Step.{Step}
+use Rattle.mon_mib.specs.declared.planned_change.PlannedChange.{PlannedChange}
 use Rattle.mon_mib.specs.declared.writable.Writable.{Writable}
 use Rattle.mon_mib.specs.declared.writable.Writable.TheVariants as writable
 use Rattle.mon_mib.specs.Objects.{syntax_of}
@@ -104,10 +104,10 @@ fault_at (Refused status) index = fault.Refused status index
 
 -- what is so after the bindings before a place
 pub record IsPlannedTo (k : Known) (sees : List ℕ → Type 0) (bindings : List Binding) (n : ℕ)
-    (steps : List Step) : Type 0 where
+    (steps : List PlannedChange) : Type 0 where
   pub accepted : All (IsAccepted k sees) (take n bindings)
   pub below : All (λ s. s.index ≤ n) steps
   pub rising : AllPairs (λ s t. s.index < t.index) steps
   pub each : All (IsNumberedAssignment k bindings) steps
   pub all : (j : ℕ) (b : Binding) → j < n → IsLast bindings j b
-      → (s : Step) × Contains steps s × (s.index ≡ j + 1)
+      → (s : PlannedChange) × Contains steps s × (s.index ≡ j + 1)

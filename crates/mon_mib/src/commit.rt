@@ -2,7 +2,7 @@
 //! section 4.2.5).
 
 ghost use Rattle.std.specs.Prelude.{◌≡◌, ℕ, ◌+◌, ◌<◌, ◌≤◌, List, [], ◌∷◌, ◌++◌, IfErr, OnOk, OnErr, vec_len, vec_capacity};
-ghost use Rattle.mon_mib.specs.declared.step.Step.{Step as AnyStep};
+ghost use Rattle.mon_mib.specs.declared.planned_change.PlannedChange.{PlannedChange as AnyStep};
 ghost use Rattle.mon_mib.specs.Assignment.{AreApart};
 ghost use Rattle.mon_mib.specs.Change.{changed, undoing, one_failure};
 ghost use Rattle.mon_mib.specs.Commit.{changes, undoings, IsUndone, IsCommitted, failures_by_then, undo_failures};
@@ -10,8 +10,8 @@ ghost use Rattle.mon_mib.specs.Held.{Held};
 ghost use Rattle.mon_mib.specs.Undone.{IsUndoneOrStands};
 
 use crate::device::Device;
+use crate::planned_change::PlannedChange;
 use crate::set_plan::SetPlan;
-use crate::step::Step;
 
 /// What the second phase of a Set has come to.
 #[derive(Drop)]
@@ -51,7 +51,11 @@ pub(crate) fn assign_all<D: Device>(device: &mut D, plan: SetPlan) -> Commit
 }
 
 /// Assigns, and keeps what undoes it. If that fails, the binding's number is returned.
-fn assign_one<D: Device>(device: &mut D, step: Step, undos: &mut Vec<Step>) -> Result<(), usize>
+fn assign_one<D: Device>(
+    device: &mut D,
+    step: PlannedChange,
+    undos: &mut Vec<PlannedChange>,
+) -> Result<(), usize>
     requires { vec_len undos.old < vec_capacity undos.old }
     ensures made { OnOk result (D.held device.new ≡ changed step.change (D.held device.old)) }
     ensures undo { OnOk result (undos.new.items ≡ undos.old.items
@@ -64,11 +68,11 @@ fn assign_one<D: Device>(device: &mut D, step: Step, undos: &mut Vec<Step>) -> R
     ensures same { OnErr result (undos.new ≡ undos.old) }
     ensures capacity { vec_capacity undos.old ≤ vec_capacity undos.new }
 {
-    let Step { index, change } = step;
+    let PlannedChange { index, change } = step;
     let Ok(undo) = device.apply(change) else {
         return Err(index);
     };
-    let undo = Step {
+    let undo = PlannedChange {
         index,
         change: undo,
     };
@@ -80,7 +84,7 @@ fn assign_one<D: Device>(device: &mut D, step: Step, undos: &mut Vec<Step>) -> R
 fn undo_all<D: Device>(
     device: &mut D,
     failed: usize,
-    undos: Vec<Step>,
+    undos: Vec<PlannedChange>,
     standing: Vec<usize>,
 ) -> Commit
     requires room { vec_len undos ≤ vec_capacity standing }
@@ -103,14 +107,14 @@ fn undo_all<D: Device>(
 }
 
 /// Undoes one assignment, or lists the binding's number.
-fn undo_one<D: Device>(device: &mut D, undo: Step, standing: &mut Vec<usize>)
+fn undo_one<D: Device>(device: &mut D, undo: PlannedChange, standing: &mut Vec<usize>)
     requires { vec_len standing.old < vec_capacity standing.old }
     ensures how { IsUndoneOrStands D.held D.refuses D.failed undo device.old device.new
         standing.old.items standing.new.items }
     ensures len { vec_len standing.new ≤ vec_len standing.old + 1 }
     ensures capacity { vec_capacity standing.old ≤ vec_capacity standing.new }
 {
-    let Step { index, change } = undo;
+    let PlannedChange { index, change } = undo;
     let Err(_) = device.apply(change) else {
         return;
     };

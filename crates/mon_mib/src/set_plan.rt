@@ -3,8 +3,8 @@
 ghost use Rattle.std.specs.Prelude.{◌≡◌, IfOk, IfErr, vec_capacity};
 ghost use Rattle.mon_mib.specs.Assignment.{AreApart};
 
+use crate::planned_change::PlannedChange;
 use crate::set_fault::SetFault;
-use crate::step::Step;
 use std::alloc::Global;
 use std::collections::VecDeque;
 use std::marker::Model;
@@ -13,17 +13,17 @@ use std::marker::Model;
 /// No two change the same thing. Contracts see the list of the assignments.
 #[derive(Drop)]
 pub struct SetPlan {
-    pub(crate) steps: VecDeque<Step>,
-    pub(crate) undos: Vec<Step>,
+    pub(crate) steps: VecDeque<PlannedChange>,
+    pub(crate) undos: Vec<PlannedChange>,
     pub(crate) standing: Vec<usize>,
 }
 
 impl Model for SetPlan {
     ghost use Rattle.std.specs.Prelude.{List, vec_capacity};
-    ghost use Rattle.mon_mib.specs.declared.step.Step.{Step};
+    ghost use Rattle.mon_mib.specs.declared.planned_change.PlannedChange.{PlannedChange};
     ghost use Rattle.mon_mib.specs.Plan.{HasRoomToUndo};
 
-    ghost Value = { List Step };
+    ghost Value = { List PlannedChange };
 
     ghost view = { λ p. p.steps.items };
 
@@ -33,7 +33,7 @@ impl Model for SetPlan {
 
 impl SetPlan {
     /// The plan of these assignments.
-    pub(crate) fn new(alloc: Global, steps: VecDeque<Step>) -> Result<Self, SetFault>
+    pub(crate) fn new(alloc: Global, steps: VecDeque<PlannedChange>) -> Result<Self, SetFault>
         requires { AreApart steps.items }
         ensures plan { IfOk result (λ plan. plan ≡ steps.items) }
         ensures memory { IfErr result (λ fault. fault ≡ SetFault.OutOfMemory) }

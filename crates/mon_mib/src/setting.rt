@@ -23,10 +23,10 @@ use crate::device::Device;
 use crate::facts::{Facts, SysText};
 use crate::mib::{Mib, find_object};
 use crate::moment::Moment;
+use crate::planned_change::PlannedChange;
 use crate::set_fault::SetFault;
 use crate::set_plan::SetPlan;
 use crate::set_status::SetStatus;
-use crate::step::Step;
 use crate::writable::{Writable, read_status, read_text};
 use mon_ber::{Octets, Value};
 use mon_oid::Oid;
@@ -71,7 +71,7 @@ impl<D: Device + Drop> Mib<D> {
             let index = i + 1;
             let change = self.assign_at(alloc, policy, access, index, binding, moment)?;
             if !is_named_after(&places, i, &binding.name) {
-                steps.push_back(Step { index, change })?;
+                steps.push_back(PlannedChange { index, change })?;
             }
         }
         SetPlan::new(alloc, steps)

@@ -12,16 +12,16 @@ use std::marker::Model;
 
 /// Targets, and for each of them the variable bindings of its polls as its datagrams have them, and
 /// the names in them. Contracts see the targets.
-pub(crate) struct Asked {
+pub(crate) struct PolledTargets {
     targets: Vec<Target>,
     lists: Vec<Octets>,
     names: Vec<Names>,
 }
 
 // By hand: where one is let go, a proof has one call and not a drop of each field.
-impl Drop for Asked {
+impl Drop for PolledTargets {
     fn drop(self) {
-        let Asked {
+        let PolledTargets {
             targets: _,
             lists: _,
             names: _,
@@ -29,7 +29,7 @@ impl Drop for Asked {
     }
 }
 
-impl Model for Asked {
+impl Model for PolledTargets {
     ghost use Rattle.std.specs.Prelude.{List};
     ghost use Rattle.mon_poller.specs.Target.{AreAsked, AreNamed};
     ghost use Rattle.mon_poller.specs.declared.target.Target.{Target};
@@ -42,7 +42,7 @@ impl Model for Asked {
         × AreNamed a.targets.items a.names.items };
 }
 
-impl Asked {
+impl PolledTargets {
     /// These targets, with what their polls ask for.
     pub(crate) fn new(alloc: Global, targets: Vec<Target>) -> Result<Self, AllocError>
         requires { AreTargets targets.items }
@@ -54,7 +54,7 @@ impl Asked {
             lists.push(asked_octets(alloc, target)?)?;
             names.push(spelled_names(alloc, target)?)?;
         }
-        Ok(Asked {
+        Ok(PolledTargets {
             targets,
             lists,
             names,

@@ -20,7 +20,7 @@ ghost use Rattle.mon_poller.specs.Stamp.{octets_in, stamp_number};
 ghost use Rattle.mon_poller.specs.Target.{SpellNames, object_names, poll_names, target_at};
 ghost use Rattle.mon_poller.specs.Verdict.{awaited, have_names, response_pdu, target_offers};
 
-use crate::asked::Asked;
+use crate::asked::PolledTargets;
 use crate::finding::find;
 use crate::lent::Stamp;
 use crate::poller::{Offered, OpenPoll};
@@ -39,7 +39,7 @@ use std::alloc::Global;
 /// where the datagram is not read in place, or where memory is refused.
 pub(crate) fn in_place(
     alloc: Global,
-    asked: &Asked,
+    asked: &PolledTargets,
     polls: &Slab<OpenPoll>,
     from: Addr,
     octets: &[u8],

@@ -7,7 +7,7 @@ ghost use Rattle.mon_pdu.specs.Grammar.{BeginsWithMessage};
 ghost use Rattle.mon_poller.specs.Polls.{IsOldestAfter, no_polls, with_poll, timed};
 ghost use Rattle.mon_poller.specs.Target.{AreTargets, poll_octets, target_at};
 
-use crate::asked::Asked;
+use crate::asked::PolledTargets;
 use crate::awaiting::{ends_poll, find_awaited, read};
 use crate::fault::{PollFault, ResponseFault};
 use crate::finding::{find, least_after};
@@ -83,7 +83,7 @@ pub(crate) struct OpenPoll {
 /// started.
 #[derive(Drop)]
 pub struct Poller {
-    targets: Asked,
+    targets: PolledTargets,
     polls: Slab<OpenPoll>,
     started: u32,
 }
@@ -118,7 +118,7 @@ impl Poller {
     {
         let polls = Slab::with_capacity(alloc, MAX_OPEN)?;
         Ok(Poller {
-            targets: Asked::new(alloc, targets)?,
+            targets: PolledTargets::new(alloc, targets)?,
             polls,
             started: 0,
         })

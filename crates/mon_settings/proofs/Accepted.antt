@@ -22,7 +22,7 @@ use Rattle.mon_settings.specs.declared.agent.System.{System}
 use Rattle.mon_settings.specs.declared.key.Key.{Key}
 use Rattle.mon_settings.specs.declared.key.Key.TheVariants as key
 use Rattle.mon_settings.specs.declared.fault.SettingsFault.{SettingsFault}
-use Rattle.mon_settings.specs.declared.place.Step.TheVariants as step
+use Rattle.mon_settings.specs.declared.place.PathPart.TheVariants as step
 use Rattle.mon_settings.specs.declared.tables.Counts.{Counts}
 use Rattle.mon_settings.specs.Accepted.{Holds, HoldsOr, HoldsRows, AreRows, HoldsGrowth, IsCommunity, IsGroup, IsAccess, IsFamily, IsGrowth, IsInterface, IsAgent, Agent}
 use Rattle.mon_settings.specs.Agent.{set_texts_of, system_of, agent_of}

@@ -14,8 +14,8 @@ use Rattle.mon_settings.specs.declared.key.Key.{Key}
 use Rattle.mon_settings.specs.declared.key.Key.TheVariants as key
 use Rattle.mon_settings.specs.declared.fault.SettingsFault.{SettingsFault}
 use Rattle.mon_settings.specs.declared.place.Place.TheVariants as place
-use Rattle.mon_settings.specs.declared.place.Step.{Step}
-use Rattle.mon_settings.specs.declared.place.Step.TheVariants as step
+use Rattle.mon_settings.specs.declared.place.PathPart.{PathPart}
+use Rattle.mon_settings.specs.declared.place.PathPart.TheVariants as step
 use Rattle.mon_settings.specs.declared.sizes.Sizes.{Sizes}
 use Rattle.mon_settings.specs.declared.station_tables.ObjectRow.{ObjectRow}
 use Rattle.mon_settings.specs.declared.station_tables.TargetRow.{TargetRow}
@@ -93,7 +93,7 @@ module _ {A : Type 0} (k : Key) (f : Members → Result A SettingsFault) where
       omega (arith, whole_length, as_many (n + 1) ds more others)
 
   module _ (P : A → Type 0) (each : (t : Members) (a : A) → f t ≡ Ok a → P a) where
-    row_is : (s : Step) (d : Data) (a : A) → row s f d ≡ Ok a → P a
+    row_is : (s : PathPart) (d : Data) (a : A) → row s f d ≡ Ok a → P a
     unfolding row
     row_is s d a h =
         let (t, is, found) = bind_from (or_bad_at (place.At s) (as_table d)) (λ t. within s (f t)) a h in

@@ -10,8 +10,8 @@ use Rattle.mon_settings.specs.declared.fault.SettingsFault.{SettingsFault}
 use Rattle.mon_settings.specs.declared.fault.SettingsFault.TheVariants as fault
 use Rattle.mon_settings.specs.declared.place.Place.{Place}
 use Rattle.mon_settings.specs.declared.place.Place.TheVariants as place
-use Rattle.mon_settings.specs.declared.place.Step.{Step}
-use Rattle.mon_settings.specs.declared.place.Step.TheVariants as step
+use Rattle.mon_settings.specs.declared.place.PathPart.{PathPart}
+use Rattle.mon_settings.specs.declared.place.PathPart.TheVariants as step
 use Rattle.mon_settings.specs.Agent.{set_texts_of, system_of, agent_of}
 use Rattle.mon_settings.specs.Interfaces.{counts_of, growth_of, growth_at, interface_of, rise_from, rising, interfaces_in}
 use Rattle.mon_settings.specs.Key.{key_name}
@@ -44,7 +44,7 @@ bad_at_own p (Some a) = ok_own a
 pub bad_own : {A : Type 0} (k : Key) (o : Option A) → Own (or_bad k o)
 bad_own k o = bad_at_own (at k) o
 
-of_within : (s : Step) (e : SettingsFault) → IsOfTree e → IsOfTree (fault_within s e)
+of_within : (s : PathPart) (e : SettingsFault) → IsOfTree e → IsOfTree (fault_within s e)
 of_within s fault.OutOfMemory h = h
 of_within s (fault.NotToml from) h = h
 of_within s (fault.Missing p) h = tt
@@ -52,7 +52,7 @@ of_within s (fault.BadValue p) h = tt
 of_within s (fault.UnknownKey p) h = tt
 of_within s (fault.UnknownObject p) h = h
 
-pub within_own : {A : Type 0} (s : Step) (r : Result A SettingsFault) → Own r → Own (within s r)
+pub within_own : {A : Type 0} (s : PathPart) (r : Result A SettingsFault) → Own r → Own (within s r)
 within_own s (Ok a) p = ok_own a
 within_own s (Err x) p = err_own (fault_within s x) (of_within s x (p x refl))
 
@@ -84,7 +84,7 @@ unfolding only
 only_own ks t = known_own (first_unknown ks t)
 
 module _ {A : Type 0} (k : Key) (f : Members → Result A SettingsFault) (each : (t : Members) → Own (f t)) where
-  row_own : (s : Step) (d : Data) → Own (row s f d)
+  row_own : (s : PathPart) (d : Data) → Own (row s f d)
   unfolding row
   row_own s d = bind_own (or_bad_at (place.At s) (as_table d)) _ (bad_at_own (place.At s) (as_table d)) (λ t. within_own s (f t) (each t))
 

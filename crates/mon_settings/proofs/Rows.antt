@@ -7,7 +7,7 @@ use Rattle.toml.specs.declared.value.Value.{Value}
 use Rattle.toml.proofs.Views.{items_view-drop}
 use Rattle.mon_settings.specs.declared.key.Key.{Key}
 use Rattle.mon_settings.specs.declared.fault.SettingsFault.{SettingsFault}
-use Rattle.mon_settings.specs.declared.place.Step.TheVariants as step
+use Rattle.mon_settings.specs.declared.place.PathPart.TheVariants as step
 use Rattle.mon_oid.specs.Steps.{◌>>=◌}
 use Rattle.mon_settings.specs.Leaf.{between, count}
 use Rattle.mon_settings.specs.Lists.{row, rows}

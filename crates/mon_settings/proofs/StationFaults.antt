@@ -13,8 +13,8 @@ use Rattle.mon_settings.specs.declared.key.Key.TheVariants as key
 use Rattle.mon_settings.specs.declared.fault.SettingsFault.{SettingsFault}
 use Rattle.mon_settings.specs.declared.fault.SettingsFault.TheVariants as fault
 use Rattle.mon_settings.specs.declared.place.Place.TheVariants as place
-use Rattle.mon_settings.specs.declared.place.Step.{Step}
-use Rattle.mon_settings.specs.declared.place.Step.TheVariants as step
+use Rattle.mon_settings.specs.declared.place.PathPart.{PathPart}
+use Rattle.mon_settings.specs.declared.place.PathPart.TheVariants as step
 use Rattle.mon_settings.specs.declared.sizes.Sizes.{Sizes}
 use Rattle.mon_settings.specs.declared.station_tables.AlarmRow.{AlarmRow}
 use Rattle.mon_settings.specs.declared.station_tables.PeerRow.{PeerRow}
@@ -61,7 +61,7 @@ unknown_told : (k : Key) (o : Option (List ℕ)) → Told (let r : Result (List 
 unknown_told k None = λ e h. let same : fault.UnknownObject (at k) ≡ e = cc in subst IsOfStationTree same tt
 unknown_told k (Some q) = ok_told q
 
-of_within : (s : Step) (e : SettingsFault) → IsOfStationTree e → IsOfStationTree (fault_within s e)
+of_within : (s : PathPart) (e : SettingsFault) → IsOfStationTree e → IsOfStationTree (fault_within s e)
 of_within s fault.OutOfMemory h = h
 of_within s (fault.NotToml from) h = h
 of_within s (fault.Missing p) h = tt
@@ -69,12 +69,12 @@ of_within s (fault.BadValue p) h = tt
 of_within s (fault.UnknownKey p) h = tt
 of_within s (fault.UnknownObject p) h = tt
 
-within_told : {A : Type 0} (s : Step) (r : Result A SettingsFault) → Told r → Told (within s r)
+within_told : {A : Type 0} (s : PathPart) (r : Result A SettingsFault) → Told r → Told (within s r)
 within_told s (Ok a) p = ok_told a
 within_told s (Err x) p = λ e h. let same : fault_within s x ≡ e = cc in subst IsOfStationTree same (of_within s x (p x refl))
 
 module _ {A : Type 0} (k : Key) (f : Members → Result A SettingsFault) (each : (t : Members) → Told (f t)) where
-  row_told : (s : Step) (d : Data) → Told (row s f d)
+  row_told : (s : PathPart) (d : Data) → Told (row s f d)
   unfolding row
   row_told s d = bind_told (or_bad_at (place.At s) (as_table d)) _ (told _ (bad_at_own (place.At s) (as_table d))) (λ t. within_told s (f t) (each t))
 

@@ -15,8 +15,8 @@ use Rattle.mon_settings.specs.declared.key.Key.{Key}
 use Rattle.mon_settings.specs.declared.fault.SettingsFault.{SettingsFault}
 use Rattle.mon_settings.specs.declared.place.Place.{Place}
 use Rattle.mon_settings.specs.declared.place.Place.TheVariants as place
-use Rattle.mon_settings.specs.declared.place.Step.{Step}
-use Rattle.mon_settings.specs.declared.place.Step.TheVariants as step
+use Rattle.mon_settings.specs.declared.place.PathPart.{PathPart}
+use Rattle.mon_settings.specs.declared.place.PathPart.TheVariants as step
 use Rattle.mon_settings.specs.Leaf.{list_in}
 use Rattle.mon_settings.specs.Key.{key_name}
 use Rattle.mon_settings.specs.Place.{at}
@@ -47,7 +47,7 @@ pub bad_from : {A : Type 0} (k : Key) (o : Option A) (a : A) → or_bad k o ≡ 
 bad_from k o a h = bad_at_from (at k) o a h
 
 -- a table in a list or at a key is read as by itself
-pub within_from : {A : Type 0} (s : Step) (r : Result A SettingsFault) (a : A) → within s r ≡ Ok a → r ≡ Ok a
+pub within_from : {A : Type 0} (s : PathPart) (r : Result A SettingsFault) (a : A) → within s r ≡ Ok a → r ≡ Ok a
 within_from s (Err e) a h = absurd cc
 within_from s (Ok x) a h = h
 
@@ -144,13 +144,13 @@ module _ (ks : List Key) where
 
 -- the tables of a list
 module _ {A : Type 0} (k : Key) (f : Members → Result A SettingsFault) (P : Members → A → Type 0) (same : (t : Members) (a : A) → (f t ≡ Ok a) ↔ P t a) where
-  row_from : (s : Step) (d : Data) (a : A) → row s f d ≡ Ok a → (t : Members) × (as_table d ≡ Some t) × P t a
+  row_from : (s : PathPart) (d : Data) (a : A) → row s f d ≡ Ok a → (t : Members) × (as_table d ≡ Some t) × P t a
   unfolding row
   row_from s d a h =
       let (t, is, gives) = bind_from (or_bad_at (place.At s) (as_table d)) (λ t. within s (f t)) a h in
       (t, bad_at_from (place.At s) (as_table d) t is, (same t a).0 (within_from s (f t) a gives))
 
-  row_to : (s : Step) (d : Data) (a : A) (t : Members) → as_table d ≡ Some t → P t a → row s f d ≡ Ok a
+  row_to : (s : PathPart) (d : Data) (a : A) (t : Members) → as_table d ≡ Some t → P t a → row s f d ≡ Ok a
   unfolding row
   row_to s d a t is holds =
       bind_to (or_bad_at (place.At s) (as_table d)) (λ t. within s (f t)) t a (ap (or_bad_at (place.At s)) is) (ap (within s) ((same t a).1 holds))

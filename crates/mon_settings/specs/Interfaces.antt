@@ -9,7 +9,7 @@ use Rattle.mon_oid.specs.Steps.{◌>>=◌}
 use Rattle.mon_settings.specs.declared.key.Key.{Key}
 use Rattle.mon_settings.specs.declared.key.Key.TheVariants as key
 use Rattle.mon_settings.specs.declared.fault.SettingsFault.{SettingsFault}
-use Rattle.mon_settings.specs.declared.place.Step.TheVariants as step
+use Rattle.mon_settings.specs.declared.place.PathPart.TheVariants as step
 use Rattle.mon_settings.specs.declared.tables.Counts.{Counts}
 use Rattle.mon_settings.specs.SettingsFault.{bad_value}
 use Rattle.mon_settings.specs.Grammar.{growth_keys, table_keys}

@@ -9,7 +9,7 @@ use Rattle.mon_settings.specs.declared.fault.SettingsFault.{SettingsFault}
 use Rattle.mon_settings.specs.declared.fault.SettingsFault.TheVariants as fault
 use Rattle.mon_settings.specs.declared.place.Place.{Place}
 use Rattle.mon_settings.specs.declared.place.Place.TheVariants as place
-use Rattle.mon_settings.specs.declared.place.Step.{Step}
+use Rattle.mon_settings.specs.declared.place.PathPart.{PathPart}
 use Rattle.mon_settings.specs.Key.{key_name}
 use Rattle.mon_settings.specs.SettingsFault.{fault_within, missing_key}
 
@@ -67,7 +67,7 @@ unfoldable pub only : List Key → Members → Result Unit SettingsFault
 only ks t = or_unknown_key (first_unknown ks t)
 
 -- what a table gives, with its faults as they are called from around the table
-abbrev pub within : {A : Type 0} → Step → Result A SettingsFault → Result A SettingsFault
+abbrev pub within : {A : Type 0} → PathPart → Result A SettingsFault → Result A SettingsFault
 within s (Ok a) = Ok a
 within s (Err e) = Err (fault_within s e)
 

@@ -6,12 +6,12 @@ use Rattle.mon_settings.specs.Leaf.{list_between, list_in}
 use Rattle.mon_settings.specs.declared.key.Key.{Key}
 use Rattle.mon_settings.specs.declared.fault.SettingsFault.{SettingsFault}
 use Rattle.mon_settings.specs.declared.place.Place.TheVariants as place
-use Rattle.mon_settings.specs.declared.place.Step.{Step}
-use Rattle.mon_settings.specs.declared.place.Step.TheVariants as step
+use Rattle.mon_settings.specs.declared.place.PathPart.{PathPart}
+use Rattle.mon_settings.specs.declared.place.PathPart.TheVariants as step
 use Rattle.mon_settings.specs.Keys.{or_bad_at, needed_at, default_at, within}
 
 -- one entry, to which this step leads, and which must be a table
-unfoldable pub row : {A : Type 0} → Step → (Members → Result A SettingsFault) → Data
+unfoldable pub row : {A : Type 0} → PathPart → (Members → Result A SettingsFault) → Data
     → Result A SettingsFault
 row s f d = or_bad_at (place.At s) (as_table d) >>= (λ t. within s (f t))
 

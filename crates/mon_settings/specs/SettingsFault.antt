@@ -2,7 +2,7 @@
 use Rattle.std.specs.Prelude.{ℕ, List, codes}
 use Rattle.mon_settings.specs.declared.fault.SettingsFault.{SettingsFault}
 use Rattle.mon_settings.specs.declared.key.Key.{Key}
-use Rattle.mon_settings.specs.declared.place.Step.{Step}
+use Rattle.mon_settings.specs.declared.place.PathPart.{PathPart}
 use Rattle.mon_settings.specs.Place.{place_within, at}
 use Rattle.mon_settings.specs.declared.fault.SettingsFault.TheVariants.{OutOfMemory, NotToml}
 use Rattle.mon_settings.specs.declared.fault.SettingsFault.TheVariants.{Missing, BadValue}
@@ -35,7 +35,7 @@ abbrev pub bad_value : Key → SettingsFault
 bad_value k = BadValue (at k)
 
 -- a fault of a table, as it is called from around the table, from where this step leads to it
-abbrev pub fault_within : Step → SettingsFault → SettingsFault
+abbrev pub fault_within : PathPart → SettingsFault → SettingsFault
 fault_within s OutOfMemory = OutOfMemory
 fault_within s (NotToml from) = NotToml from
 fault_within s (Missing p) = Missing (place_within s p)

@@ -3,7 +3,7 @@ ghost use Rattle.mon_settings.specs.SettingsFault.{bad_value, fault_within, miss
 ghost use Rattle.mon_settings.specs.declared.fault.SettingsFault.TheVariants.{OutOfMemory};
 
 use crate::key::Key;
-use crate::place::{Place, Step};
+use crate::place::{PathPart, Place};
 use std::alloc::{AllocError, AllocFailed};
 use std::error::Error;
 use std::fmt;
@@ -79,18 +79,18 @@ impl SettingsFault {
     pub(crate) fn missing(key: Key) -> SettingsFault
         ensures { result ≡ missing_key key }
     {
-        SettingsFault::Missing(Place::At(Step::Value(key)))
+        SettingsFault::Missing(Place::At(PathPart::Value(key)))
     }
 
     /// The value at a key of the table that is read is bad.
     pub(crate) fn bad(key: Key) -> SettingsFault
         ensures { result ≡ bad_value key }
     {
-        SettingsFault::BadValue(Place::At(Step::Value(key)))
+        SettingsFault::BadValue(Place::At(PathPart::Value(key)))
     }
 
     /// A fault of a table, as it is called from around the table, from where this step leads to it.
-    pub(crate) fn within(self, step: Step) -> SettingsFault
+    pub(crate) fn within(self, step: PathPart) -> SettingsFault
         ensures { result ≡ fault_within step self }
     {
         match self {

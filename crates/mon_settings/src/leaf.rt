@@ -11,7 +11,7 @@ use crate::fault::{Read, SettingsFault, given};
 use crate::key::Key;
 use crate::keys::{find, first_unknown};
 use crate::label::Label;
-use crate::place::{Place, Step};
+use crate::place::{PathPart, Place};
 use hex::FromHexError;
 use mon_ber::Octets;
 use mon_oid::{Oid, OidFault};
@@ -333,6 +333,6 @@ fn refuse_name(fault: NamesFault, key: Key) -> SettingsFault
 {
     match fault {
         NamesFault::OutOfMemory => SettingsFault::OutOfMemory,
-        _ => SettingsFault::UnknownObject(Place::At(Step::Value(key))),
+        _ => SettingsFault::UnknownObject(Place::At(PathPart::Value(key))),
     }
 }

@@ -34,6 +34,6 @@ pub use modules::module_files;
 pub use mon_config::Core;
 pub use mon_udp::Addr;
 pub use peers::are_peers;
-pub use place::{Place, Step};
+pub use place::{PathPart, Place};
 pub use rounds::{RoundTime, greatest_tries, round_time};
 pub use station::{StationSettings, read_station};

@@ -10,7 +10,7 @@ use crate::fault::{Read, SettingsFault};
 use crate::key::Key;
 use crate::keys::find;
 use crate::leaf::Reader;
-use crate::place::{Place, Step};
+use crate::place::{PathPart, Place};
 use std::alloc::Global;
 use toml::Value;
 
@@ -31,7 +31,7 @@ pub(crate) trait Row<C>: Drop {
 }
 
 #[tactic(auto, unfolding(crate::specs::Lists::row))]
-fn read_row<C, R: Row<C>>(alloc: Global, around: &C, step: Step, value: &Value) -> Read<R>
+fn read_row<C, R: Row<C>>(alloc: Global, around: &C, step: PathPart, value: &Value) -> Read<R>
     ensures { Reads (λ r. r) (row step (R.row_of around.now) (view value.now)) result }
 {
     match value.as_table() {
@@ -50,7 +50,7 @@ fn read_rows<C, R: Row<C>>(alloc: Global, around: &C, key: Key, values: &[Value]
 {
     let mut read = Vec::new(alloc);
     for (index, value) in values.iter().enumerate() {
-        let entry = read_row(alloc, around, Step::Entry(key, index + 1), value)?;
+        let entry = read_row(alloc, around, PathPart::Entry(key, index + 1), value)?;
         read.push(entry)?;
     }
     Ok(read)

@@ -8,7 +8,7 @@ use std::fmt;
 
 /// One step into a table.
 #[derive(Clone, Copy)]
-pub enum Step {
+pub enum PathPart {
     /// The value of a key.
     Value(Key),
     /// An entry of the list at a key. The first one is 1.
@@ -22,17 +22,17 @@ pub enum Place {
     /// The table that is read, as a whole: of a text its top table.
     Whole,
     /// In the top table.
-    At(Step),
+    At(PathPart),
     /// In a table of the top table: first the step to that table.
-    In(Step, Step),
+    In(PathPart, PathPart),
     /// In a table of such a table: first the steps to it.
-    Inside(Step, Step, Step),
+    Inside(PathPart, PathPart, PathPart),
 }
 
 impl Place {
     /// Returns a place in a table as it is called from around it. There is none below three steps:
     /// a fourth would be left out.
-    pub(crate) fn within(self, step: Step) -> Place
+    pub(crate) fn within(self, step: PathPart) -> Place
         ensures { result ≡ place_within step self }
     {
         match self {
@@ -46,7 +46,7 @@ impl Place {
 }
 
 /// A key, and for an entry its number: `limit`, `access[2]`.
-impl fmt::Display for Step {
+impl fmt::Display for PathPart {
     ghost use Rattle.std.specs.Prelude.{Some};
     ghost use Rattle.mon_settings.specs.Place.{step_text};
 
@@ -54,8 +54,8 @@ impl fmt::Display for Step {
 
     fn fmt<W: fmt::Write>(&self, f: &mut fmt::Formatter<W>) -> fmt::Result {
         match self {
-            Step::Value(key) => write!(f, "{key}"),
-            Step::Entry(key, number) => write!(f, "{key}[{number}]"),
+            PathPart::Value(key) => write!(f, "{key}"),
+            PathPart::Entry(key, number) => write!(f, "{key}[{number}]"),
         }
     }
 }

@@ -15,7 +15,7 @@ use crate::key::Key;
 use crate::keys::find;
 use crate::leaf::Reader;
 use crate::list::Row;
-use crate::place::Step;
+use crate::place::PathPart;
 use mon_mib::{Growth, Interface, Status};
 use mon_vacm::{AccessEntry, Community, Group, Policy, PolicyFault, Tables, ViewTreeFamily};
 
@@ -153,7 +153,7 @@ fn growth_at(reader: &Reader<'_>, key: Key) -> Read<Growth>
     let alloc = reader.alloc;
     match growth_of(&Reader { alloc, table }) {
         Ok(growth) => Ok(growth),
-        Err(fault) => Err(fault.within(Step::Value(key))),
+        Err(fault) => Err(fault.within(PathPart::Value(key))),
     }
 }
 

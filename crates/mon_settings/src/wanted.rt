@@ -1,19 +1,21 @@
 //! What must be at each place of the settings, in plain words.
 
 use crate::key::Key;
-use crate::place::{Place, Step};
+use crate::place::{PathPart, Place};
 
 impl Place {
     /// Says what must be at this place, for a reader: `0 or 2 is wanted`.
     pub fn describe(self) -> &'static str {
         match self {
-            Place::At(Step::Value(key)) => at_top(key),
-            Place::At(Step::Entry(Key::Alarm, _)) => {
+            Place::At(PathPart::Value(key)) => at_top(key),
+            Place::At(PathPart::Entry(Key::Alarm, _)) => {
                 "a table is wanted; its object has to be one of a target with this engine, and no rule may be given twice"
             }
-            Place::In(Step::Entry(table, _), Step::Value(key)) => in_table(table, key),
-            Place::Inside(_, Step::Entry(table, _), Step::Value(key)) => in_table(table, key),
-            Place::Inside(_, Step::Value(_), Step::Value(key)) => number(key),
+            Place::In(PathPart::Entry(table, _), PathPart::Value(key)) => in_table(table, key),
+            Place::Inside(_, PathPart::Entry(table, _), PathPart::Value(key)) => in_table(
+                table, key,
+            ),
+            Place::Inside(_, PathPart::Value(_), PathPart::Value(key)) => number(key),
             _ => "a table is wanted",
         }
     }

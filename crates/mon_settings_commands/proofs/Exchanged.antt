@@ -5,7 +5,7 @@ use Rattle.std.proofs.lemmas.List.{append-nil}
 use Rattle.mon_app.specs.Asking.{IsAsked}
 use Rattle.mon_app.specs.AtWire.{AtWire}
 use Rattle.mon_app.specs.Printed.{IsQuestionAnswered, answer_of}
-use Rattle.mon_app.specs.Question.{Asked as Question}
+use Rattle.mon_app.specs.Question.{QuestionParts as Question}
 use Rattle.mon_app.specs.declared.fault.AppFault.{AppFault}
 use Rattle.mon_app.specs.declared.question.Asking.{Asking}
 use Rattle.mon_console.specs.declared.failure.Failure.{Failure}

@@ -9,9 +9,9 @@ use Rattle.mon_udp.specs.declared.addr.Addr.{Addr}
 use Rattle.mon_settings_commands.specs.Exchange.{AsksBy}
 use Rattle.mon_settings_commands.specs.Surveyed.{IsExplained, IsSurvey, IsSurveyed}
 use Rattle.mon_settings_commands.specs.declared.asking.Survey.{Survey}
-use Rattle.mon_settings_commands.specs.declared.settings.Asked.{Asked}
+use Rattle.mon_settings_commands.specs.declared.settings.AgentOptions.{AgentOptions}
 
-module _ {W : Type 0} (Opened : Addr → W → Type 0) (Failed : Addr → AppFault → Type 0) (told : W → Option (List AtWire)) (asked : Asked) where
+module _ {W : Type 0} (Opened : Addr → W → Type 0) (Failed : Addr → AppFault → Type 0) (told : W → Option (List AtWire)) (asked : AgentOptions) where
   -- what was asked, and what it came to
   abbrev pub Asks : Result Survey Failure → (last : ℕ) → (before after : W) → Type 0
   Asks r last before after =

@@ -10,7 +10,7 @@ use Rattle.mon_survey.specs.declared.size.TargetSize.{TargetSize}
 use Rattle.mon_survey.specs.declared.size.TargetSize.TheVariants.{Sixteen, Eight, Four, Two, One}
 use Rattle.mon_settings_commands.specs.Fitting.{IsFitting, IsLastTried, IsTooBigAt}
 use Rattle.mon_settings_commands.specs.Tried.{IsTrial, is_too_big}
-use Rattle.mon_settings_commands.specs.declared.settings.Asked.{Asked}
+use Rattle.mon_settings_commands.specs.declared.settings.AgentOptions.{AgentOptions}
 use Rattle.mon_settings_commands.proofs.Turns.{failure_is}
 
 -- the sizes below one
@@ -28,7 +28,7 @@ none_after Four none = absurd (let never : ⊥ = cc in never)
 none_after Two none = absurd (let never : ⊥ = cc in never)
 none_after One none = refl
 
-module _ (agents : Agents) (asked : Asked) (Draft : TargetSize → Result Drafted Failure → Type 0) (result : Result Drafted Failure) where
+module _ (agents : Agents) (asked : AgentOptions) (Draft : TargetSize → Result Drafted Failure → Type 0) (result : Result Drafted Failure) where
   -- no smaller size is tried
   last_fit : (size : TargetSize) → IsLastTried agents asked Draft size (after size) result → IsFitting agents asked Draft (sizes_from size) result
   last_fit Sixteen last = inl last
@@ -46,7 +46,7 @@ module _ (agents : Agents) (asked : Asked) (Draft : TargetSize → Result Drafte
   smaller_than Two less half big fits = let is : less ≡ One = cc in inr (big, subst (λ (s : TargetSize). IsFitting agents asked Draft (sizes_from s) result) is fits)
   smaller_than One less half big fits = absurd (let never : ⊥ = cc in never)
 
-module _ (agents : Agents) (asked : Asked) (Draft : TargetSize → Result Drafted Failure → Type 0) (size : TargetSize) where
+module _ (agents : Agents) (asked : AgentOptions) (Draft : TargetSize → Result Drafted Failure → Type 0) (size : TargetSize) where
   -- the agent answered each poll
   pub fits : (drafted : Drafted) (targets : List Target) (done : Unit {0}) → targets ≡ drafted.targets.items → Draft size (Ok drafted) → IsTrial agents asked targets (Ok done)
       → IsFitting agents asked Draft (sizes_from size) (Ok drafted)

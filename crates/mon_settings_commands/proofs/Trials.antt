@@ -14,7 +14,7 @@ use Rattle.mon_poller.specs.declared.target.Target.{Target}
 use Rattle.mon_udp.specs.declared.addr.Addr.{Addr}
 use Rattle.mon_settings_commands.specs.Exchange.{AsksBy, Exchange, IsExchange}
 use Rattle.mon_settings_commands.specs.Tried.{AreTried, IsTrial, IsTrialBy, IsTried}
-use Rattle.mon_settings_commands.specs.declared.settings.Asked.{Asked}
+use Rattle.mon_settings_commands.specs.declared.settings.AgentOptions.{AgentOptions}
 use Rattle.mon_settings_commands.proofs.Exchanged.{Log, asks_fail, asks_so, asks_then}
 
 -- a list is its first element and the others
@@ -47,7 +47,7 @@ module _ (agent community : List ℕ) where
       subst (λ (ts : List Target). AsksBy (λ log. AreTried agent ts log result) community id last before after) (sym is)
       (asks_fail community (IsTried agent first) (λ d. AreTried agent rest) failure result id last before after failed one)
 
-module _ {W : Type 0} (Opened : Addr → W → Type 0) (Failed : Addr → AppFault → Type 0) (told : W → Option (List AtWire)) (asked : Asked) (targets : List Target) where
+module _ {W : Type 0} (Opened : Addr → W → Type 0) (Failed : Addr → AppFault → Type 0) (told : W → Option (List AtWire)) (asked : AgentOptions) (targets : List Target) where
   -- what was asked, and what it came to
   abbrev pub Tries : Result (Unit {0}) Failure → (last : ℕ) → (before after : W) → Type 0
   Tries r last before after =

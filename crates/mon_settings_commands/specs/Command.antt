@@ -10,7 +10,7 @@ use Rattle.mon_host.specs.Then.{Quietly, Then}
 use Rattle.mon_smi.specs.declared.definition.Definition.{Definition}
 use Rattle.mon_settings_commands.specs.Appended.{AreOldLabels, IsAlone, IsAppendedOf, IsExisting}
 use Rattle.mon_settings_commands.specs.Appended.{IsLonger}
-use Rattle.mon_settings_commands.specs.Asked.{IsAsked, IsAsking}
+use Rattle.mon_settings_commands.specs.AgentOptions.{IsAsked, IsAsking}
 use Rattle.mon_settings_commands.specs.Network.{AreMachines, IsNetworkNoted}
 use Rattle.mon_settings_commands.specs.Notes.{AreSpeedsNoted, Surely}
 use Rattle.mon_settings_commands.specs.Parts.{AreParts}
@@ -20,10 +20,10 @@ use Rattle.mon_settings_commands.specs.Source.{Source}
 use Rattle.mon_settings_commands.specs.Updated.{AreKnown, AreLines, IsApart, IsChanged, IsUpdatedOf}
 use Rattle.mon_settings_commands.specs.declared.asking.Survey.{Survey}
 use Rattle.mon_settings_commands.specs.declared.existing.Existing.{Existing}
-use Rattle.mon_settings_commands.specs.declared.settings.Asked.{Asked}
+use Rattle.mon_settings_commands.specs.declared.settings.AgentOptions.{AgentOptions}
 
 -- what settings are written from
-abbrev pub source : SettingsArgs → Asked → List Definition → Survey → Source
+abbrev pub source : SettingsArgs → AgentOptions → List Definition → Survey → Source
 source words asked names survey = record {
   words = words;
   asked = asked;
@@ -59,14 +59,14 @@ IsLongerBy agents s existing old = Then (Quietly (AreFitting agents s.asked
     (IsAppendedOf s existing))) (λ drafted. IsLonger s drafted old)
 
 -- New settings: modules are read, the agent is asked, and texts are written.
-abbrev pub AreNewSettings : Agents → SettingsArgs → Asked → List AtHost → Result Unit Failure
+abbrev pub AreNewSettings : Agents → SettingsArgs → AgentOptions → List AtHost → Result Unit Failure
     → Type 0
 AreNewSettings agents words asked = Then (AreNames (map (λ m. m.now) words.modules.now)) (λ names.
     Then (IsAsking agents asked) (λ survey. AreNewTexts agents (source words asked names survey)))
 
 -- Settings that are there with more targets: they and the old labels are read before the agent is
 -- asked, and polls of the added targets are tried before anything is replaced or printed.
-abbrev pub AreLongerSettings : Agents → SettingsArgs → Asked → List ℕ → List AtHost
+abbrev pub AreLongerSettings : Agents → SettingsArgs → AgentOptions → List ℕ → List AtHost
     → Result Unit Failure → Type 0
 AreLongerSettings agents words asked path = Then (Quietly (IsAlone words))
     (λ done. Then (IsExisting path) (λ existing.
@@ -81,7 +81,7 @@ site_in (Some folder) (Some machines) = Some (folder, machines)
 
 -- The settings of a network: modules and machines are read, the agent is asked, and files are
 -- written.
-abbrev pub AreNetworkSettings : Agents → SettingsArgs → Asked → List ℕ × List ℕ → List AtHost
+abbrev pub AreNetworkSettings : Agents → SettingsArgs → AgentOptions → List ℕ × List ℕ → List AtHost
     → Result Unit Failure → Type 0
 AreNetworkSettings agents words asked site = Then (AreNames (map (λ m. m.now) words.modules.now))
     (λ names. Then (AreMachines site.1 words.stations) (λ machines.
@@ -89,13 +89,13 @@ AreNetworkSettings agents words asked site = Then (AreNames (map (λ m. m.now) w
     IsNetworkNoted agents (source words asked names survey) site.0 machines.items)))
 
 -- new settings: those of a network if a folder and machines are given
-abbrev pub AreFreshSettings : Agents → SettingsArgs → Asked → Option (List ℕ × List ℕ)
+abbrev pub AreFreshSettings : Agents → SettingsArgs → AgentOptions → Option (List ℕ × List ℕ)
     → List AtHost → Result Unit Failure → Type 0
 AreFreshSettings agents words asked None = AreNewSettings agents words asked
 AreFreshSettings agents words asked (Some site) = AreNetworkSettings agents words asked site
 
 -- new settings, or those in a file with more targets
-abbrev pub AreSettingsFor : Agents → SettingsArgs → Asked → Option (List ℕ) → List AtHost
+abbrev pub AreSettingsFor : Agents → SettingsArgs → AgentOptions → Option (List ℕ) → List AtHost
     → Result Unit Failure → Type 0
 AreSettingsFor agents words asked None = AreFreshSettings agents words asked
     (site_in (option_copied words.split) (option_copied words.machines))
@@ -111,7 +111,7 @@ IsUpdatedBy agents s existing old = Then (Quietly (AreKnown s old))
     (λ drafted. IsChanged s existing known.items old lines drafted)))
 
 -- Settings that are brought up to date: they and the old labels are read before the agent is asked.
-abbrev pub AreUpdatedSettings : Agents → SettingsArgs → Asked → List ℕ → List AtHost
+abbrev pub AreUpdatedSettings : Agents → SettingsArgs → AgentOptions → List ℕ → List AtHost
     → Result Unit Failure → Type 0
 AreUpdatedSettings agents words asked path = Then (Quietly (IsApart words))
     (λ done. Then (IsExisting path) (λ existing.
@@ -119,7 +119,7 @@ AreUpdatedSettings agents words asked path = Then (Quietly (IsApart words))
     IsUpdatedBy agents (source words asked existing.names survey) existing (string_bytes old)))))
 
 -- settings that are brought up to date, or others
-abbrev pub AreSettingsBy : Agents → SettingsArgs → Asked → Option (List ℕ) → List AtHost
+abbrev pub AreSettingsBy : Agents → SettingsArgs → AgentOptions → Option (List ℕ) → List AtHost
     → Result Unit Failure → Type 0
 AreSettingsBy agents words asked None = AreSettingsFor agents words asked
     (option_copied words.append)

@@ -4,7 +4,7 @@ use Rattle.std.specs.Prelude.{Err, if◌then◌else◌}
 use Rattle.std.specs.Global.{Vec}
 use Rattle.mon_app.specs.AtWire.{AtWire}
 use Rattle.mon_app.specs.Printed.{IsQuestionAnswered}
-use Rattle.mon_app.specs.Question.{Asked as Question}
+use Rattle.mon_app.specs.Question.{QuestionParts as Question}
 use Rattle.mon_app.specs.declared.fault.AppFault.{AppFault}
 use Rattle.mon_app.specs.declared.question.Asking.{Asking}
 use Rattle.mon_console.specs.Agents.{IsUnanswered}

@@ -13,7 +13,7 @@ use Rattle.mon_settings_commands.specs.Settings.{IsSettingsOf, up_of}
 use Rattle.mon_settings_commands.specs.Source.{Source}
 use Rattle.mon_settings_commands.specs.Tried.{IsTrial, is_too_big}
 use Rattle.mon_settings_commands.specs.Updated.{IsUpdatedOf}
-use Rattle.mon_settings_commands.specs.declared.settings.Asked.{Asked}
+use Rattle.mon_settings_commands.specs.declared.settings.AgentOptions.{AgentOptions}
 use Rattle.mon_settings_commands.specs.declared.trying.Wish.{Wish}
 use Rattle.mon_settings_commands.specs.declared.trying.Wish.TheVariants.{Longer, New, Placed}
 use Rattle.mon_settings_commands.specs.declared.trying.Wish.TheVariants.{Updated}
@@ -34,7 +34,7 @@ IsDraft s (Updated news) size = IsUpdatedOf s news.existing.now news.known.now s
 IsDraft s (Placed place) size = IsSeatSettings s place size
 
 -- settings by targets of this size were drafted, and their polls came to this when they were tried
-pub record IsDraftTried (agents : Agents) (asked : Asked) (Draft : TargetSize
+pub record IsDraftTried (agents : Agents) (asked : AgentOptions) (Draft : TargetSize
     → Result Drafted Failure → Type 0) (size : TargetSize) (drafted : Drafted)
     (came : Result Unit Failure) : Type 0 where
   pub draft : Draft size (Ok drafted)
@@ -43,7 +43,7 @@ pub record IsDraftTried (agents : Agents) (asked : Asked) (Draft : TargetSize
 -- What came of settings by targets of a size, if no smaller one is tried: the agent answered each
 -- poll; or there are no such settings; or it gave a poll no answer, or one with an error status,
 -- which is tooBig only if there is no smaller size.
-abbrev pub IsLastTried : Agents → Asked → (TargetSize → Result Drafted Failure → Type 0)
+abbrev pub IsLastTried : Agents → AgentOptions → (TargetSize → Result Drafted Failure → Type 0)
     → TargetSize → List TargetSize → Result Drafted Failure → Type 0
 IsLastTried agents asked Draft size smaller (Ok drafted) = IsDraftTried agents asked Draft size
     drafted (Ok tt)
@@ -52,14 +52,15 @@ IsLastTried agents asked Draft size smaller (Err failure) = Draft size (Err fail
     × ((is_too_big failure.fault ≡ false) ⊎ (smaller ≡ [])))
 
 -- the agent answered tooBig to a poll by targets of this size
-abbrev pub IsTooBigAt : Agents → Asked → (TargetSize → Result Drafted Failure → Type 0) → TargetSize
+abbrev pub IsTooBigAt : Agents → AgentOptions → (TargetSize → Result Drafted Failure → Type 0)
+    → TargetSize
     → Type 0
 IsTooBigAt agents asked Draft size = (drafted : Drafted) × (failure : Failure)
     × IsDraftTried agents asked Draft size drafted (Err failure) × (is_too_big failure.fault ≡ true)
 
 -- Settings are by targets of the first of these sizes to whose polls the agent does not answer
 -- tooBig.
-abbrev pub IsFitting : Agents → Asked → (TargetSize → Result Drafted Failure → Type 0)
+abbrev pub IsFitting : Agents → AgentOptions → (TargetSize → Result Drafted Failure → Type 0)
     → List TargetSize → Result Drafted Failure → Type 0
 IsFitting agents asked Draft [] result = ⊥
 IsFitting agents asked Draft (size ∷ smaller) result = IsLastTried agents asked Draft size smaller
@@ -67,6 +68,6 @@ IsFitting agents asked Draft (size ∷ smaller) result = IsLastTried agents aske
     ⊎ (IsTooBigAt agents asked Draft size × IsFitting agents asked Draft smaller result)
 
 -- the same from the largest size on, which is 16 objects
-abbrev pub AreFitting : Agents → Asked → (TargetSize → Result Drafted Failure → Type 0)
+abbrev pub AreFitting : Agents → AgentOptions → (TargetSize → Result Drafted Failure → Type 0)
     → Result Drafted Failure → Type 0
 AreFitting agents asked Draft = IsFitting agents asked Draft (sizes_from Sixteen)

@@ -1,5 +1,5 @@
 pub mod Appended
-pub mod Asked
+pub mod AgentOptions
 pub mod Command
 pub mod Engine
 pub mod Exchange

@@ -9,18 +9,18 @@ use Rattle.mon_survey.specs.Fault.{name_of, number_of}
 use Rattle.mon_survey.specs.declared.choice.Choice.{Choice}
 use Rattle.mon_survey.specs.declared.fault.SurveyFault.{SurveyFault}
 use Rattle.mon_settings_commands.specs.declared.asking.Survey.{Survey}
-use Rattle.mon_settings_commands.specs.declared.settings.Asked.{Asked}
-use Rattle.mon_settings_commands.specs.declared.settings.Ground.{Ground}
+use Rattle.mon_settings_commands.specs.declared.settings.AgentOptions.{AgentOptions}
+use Rattle.mon_settings_commands.specs.declared.settings.Input.{Input}
 
 -- the arguments, what they say of the agent, the names that are known, and what the agent answered
 pub record Source : Type 0 where
   pub words : SettingsArgs
-  pub asked : Asked
+  pub asked : AgentOptions
   pub names : List Definition
   pub survey : Survey
 
 -- what is lent, as it is
-abbrev pub source_in : Ground → Source
+abbrev pub source_in : Input → Source
 source_in g = record {
   words = g.words.now;
   asked = g.asked;

@@ -18,7 +18,7 @@ use Rattle.mon_settings_commands.specs.Exchange.{AreExplained, Exchange}
 use Rattle.mon_settings_commands.specs.Walked.{IsWalk}
 use Rattle.mon_settings_commands.specs.declared.asking.Head.{Head}
 use Rattle.mon_settings_commands.specs.declared.asking.Survey.{Survey}
-use Rattle.mon_settings_commands.specs.declared.settings.Asked.{Asked}
+use Rattle.mon_settings_commands.specs.declared.settings.AgentOptions.{AgentOptions}
 
 -- a column is walked if it is needed
 abbrev pub IsWalkIf : Bool → List ℕ → Column → List Cell → List Exchange
@@ -60,7 +60,8 @@ pub record IsUnwired (agents : Agents) (agent : AgentAt) (failure : Failure) : T
   pub said : IsUnanswered agent.word.now fault failure
 
 -- what happened at a wire explains a survey; the first request-id is 1
-pub record IsExplained (asked : Asked) (result : Result Survey Failure) (at_wire : List AtWire) :
+pub record IsExplained (asked : AgentOptions) (result : Result Survey Failure)
+    (at_wire : List AtWire) :
     Type 0 where
   pub exchanges : List Exchange
   pub survey : IsSurvey asked.agent.word.now asked.kinds exchanges result
@@ -69,7 +70,7 @@ pub record IsExplained (asked : Asked) (result : Result Survey Failure) (at_wire
 
 -- A wire was opened to an agent, and what happened there explains what it answered, or why there is
 -- no answer; or no wire could be opened.
-abbrev pub IsSurveyed : Agents → Asked → Result Survey Failure → Type 0
+abbrev pub IsSurveyed : Agents → AgentOptions → Result Survey Failure → Type 0
 IsSurveyed agents asked (Ok survey) = agents.Reached asked.agent.address
     (IsExplained asked (Ok survey))
 IsSurveyed agents asked (Err failure) = IsUnwired agents asked.agent failure

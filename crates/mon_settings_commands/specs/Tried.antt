@@ -22,7 +22,7 @@ use Rattle.mon_settings_commands.specs.Exchange.{AreExplained, Exchange}
 use Rattle.mon_settings_commands.specs.Notes.{form_of}
 use Rattle.mon_settings_commands.specs.Source.{OrMemory}
 use Rattle.mon_settings_commands.specs.Surveyed.{IsUnwired}
-use Rattle.mon_settings_commands.specs.declared.settings.Asked.{Asked}
+use Rattle.mon_settings_commands.specs.declared.settings.AgentOptions.{AgentOptions}
 
 -- the name of the first of some objects
 abbrev pub first_name : List Object → List ℕ
@@ -82,7 +82,7 @@ AreTried agent [] = Quietly (λ result. result ≡ Ok tt)
 AreTried agent (t ∷ ts) = Then (IsTried agent t) (λ done. AreTried agent ts)
 
 -- what happened at a wire explains a trial; the first request-id is 1
-pub record IsTrialBy (asked : Asked) (targets : List Target) (result : Result Unit Failure)
+pub record IsTrialBy (asked : AgentOptions) (targets : List Target) (result : Result Unit Failure)
     (at_wire : List AtWire) : Type 0 where
   pub exchanges : List Exchange
   pub tried : AreTried asked.agent.word.now targets exchanges result
@@ -91,7 +91,7 @@ pub record IsTrialBy (asked : Asked) (targets : List Target) (result : Result Un
 
 -- A trial: a wire was opened to the agent, and what happened there explains that it answered a poll
 -- of each target without an error status, or why not; or no wire could be opened.
-abbrev pub IsTrial : Agents → Asked → List Target → Result Unit Failure → Type 0
+abbrev pub IsTrial : Agents → AgentOptions → List Target → Result Unit Failure → Type 0
 IsTrial agents asked targets (Ok done) = agents.Reached asked.agent.address
     (IsTrialBy asked targets (Ok done))
 IsTrial agents asked targets (Err failure) = IsUnwired agents asked.agent failure

@@ -13,7 +13,7 @@ ghost use Rattle.mon_pdu.specs.declared.message.Body.TheVariants as bodies;
 ghost use Rattle.mon_survey.specs.Column.{column_name, columns};
 ghost use Rattle.mon_survey.specs.Plan.{needs};
 ghost use Rattle.mon_survey.specs.declared.fault.SurveyFault.TheVariants.{NoEngine};
-ghost use Rattle.mon_settings_commands.specs.Asked.{IsAsking, count_line, count_lines};
+ghost use Rattle.mon_settings_commands.specs.AgentOptions.{IsAsking, count_line, count_lines};
 ghost use Rattle.mon_settings_commands.specs.Engine.{HasEngine, HasNoEngine, IsEngineStill, IsFirstAsked, IsHead, IsHeadIn, IsSameEngine, count_in, first_names, number_in};
 ghost use Rattle.mon_settings_commands.specs.Exchange.{AsksBy, IsExchange, IsQuestion, next_id};
 ghost use Rattle.mon_settings_commands.specs.Surveyed.{AreWalked, IsSurvey, IsSurveyed, IsUnwired, IsWalkIf};
@@ -21,7 +21,7 @@ ghost use Rattle.mon_settings_commands.specs.Walked.{ArePut, IsPut, IsReplyPut, 
 
 use crate::failing::survey_failure;
 use crate::noting::form_of;
-use crate::settings::Asked;
+use crate::settings::AgentOptions;
 use mon_app::{AppFault, Asking, Opens, Question, Repeats, Wire, send_request};
 use mon_ber::Value;
 use mon_console::{Failure, Fault, answer_failure};
@@ -68,7 +68,7 @@ pub(crate) fn ask_agent<N: Opens, H: Host>(
     alloc: Global,
     host: &mut H,
     net: &N,
-    asked: Asked<'_>,
+    asked: AgentOptions<'_>,
 ) -> Result<Survey, Failure>
     ensures { GoesOnBy (λ log. IsAsking (agents_by (N.has_opened net.now) (N.has_failed net.now)
         N.Wire.told)
@@ -104,7 +104,7 @@ fn note_count<H: Host>(host: &mut H, agent: &str, number: u32, count: usize)
 }
 
 /// Asks the agent for its engine and its interfaces, by a wire of its own.
-fn survey_at<N: Opens>(alloc: Global, net: &N, asked: Asked<'_>) -> Result<Survey, Failure>
+fn survey_at<N: Opens>(alloc: Global, net: &N, asked: AgentOptions<'_>) -> Result<Survey, Failure>
     ensures { IsSurveyed (agents_by (N.has_opened net.now) (N.has_failed net.now) N.Wire.told)
         asked.entry result }
 {
@@ -124,7 +124,7 @@ pub(crate) struct Asker<W> {
 pub(crate) fn open<N: Opens>(
     alloc: Global,
     net: &N,
-    asked: Asked<'_>,
+    asked: AgentOptions<'_>,
 ) -> Result<Asker<N::Wire>, Failure>
     ensures first { IfOk result (λ asker. asker.last_id ≡ 0) }
     ensures opened { IfOk result (λ asker. N.has_opened net.now asked.entry.agent.address
@@ -179,7 +179,7 @@ pub(crate) fn exchange<W: Wire>(
 fn ask<W: Wire>(
     alloc: Global,
     asker: &mut Asker<W>,
-    asked: Asked<'_>,
+    asked: AgentOptions<'_>,
     asking: Asking<'_>,
     names: &[Oid],
 ) -> Result<Vec<Binding>, Failure>
@@ -222,7 +222,7 @@ fn fine(pdu: Pdu) -> Result<Bindings, AppFault>
 fn survey_by<W: Wire>(
     alloc: Global,
     asker: &mut Asker<W>,
-    asked: Asked<'_>,
+    asked: AgentOptions<'_>,
 ) -> Result<Survey, Failure>
     ensures { AsksBy (λ log. IsSurvey asked.entry.agent.word.now asked.entry.kinds log result)
         asked.entry.community.now asker.old.last_id asker.new.last_id
@@ -247,7 +247,11 @@ struct Head {
 }
 
 /// Returns the agent's engine id and its ifNumber.
-fn first<W: Wire>(alloc: Global, asker: &mut Asker<W>, asked: Asked<'_>) -> Result<Head, Failure>
+fn first<W: Wire>(
+    alloc: Global,
+    asker: &mut Asker<W>,
+    asked: AgentOptions<'_>,
+) -> Result<Head, Failure>
     ensures { AsksBy (λ log. IsHead asked.entry.agent.word.now log result)
         asked.entry.community.now asker.old.last_id asker.new.last_id
         (W.told asker.old.wire) (W.told asker.new.wire) }
@@ -261,7 +265,7 @@ fn first<W: Wire>(alloc: Global, asker: &mut Asker<W>, asked: Asked<'_>) -> Resu
 fn require_engine<W: Wire>(
     alloc: Global,
     asker: &mut Asker<W>,
-    asked: Asked<'_>,
+    asked: AgentOptions<'_>,
     engine: &[u8],
 ) -> Result<(), Failure>
     ensures { AsksBy (λ log. IsSameEngine asked.entry.agent.word.now engine.now log result)
@@ -276,7 +280,7 @@ fn require_engine<W: Wire>(
 fn ask_first<W: Wire>(
     alloc: Global,
     asker: &mut Asker<W>,
-    asked: Asked<'_>,
+    asked: AgentOptions<'_>,
 ) -> Result<Vec<Binding>, Failure>
     ensures { AsksBy (λ log. IsFirstAsked asked.entry.agent.word.now log result)
         asked.entry.community.now asker.old.last_id asker.new.last_id
@@ -319,7 +323,7 @@ fn still_engine(
 fn walk_columns<W: Wire>(
     alloc: Global,
     asker: &mut Asker<W>,
-    asked: Asked<'_>,
+    asked: AgentOptions<'_>,
     answers: &mut Answers,
 ) -> Result<(), Failure>
     ensures { AsksBy (λ log. AreWalked asked.entry.agent.word.now asked.entry.kinds columns
@@ -338,7 +342,7 @@ fn walk_columns<W: Wire>(
 fn walk_if_needed<W: Wire>(
     alloc: Global,
     asker: &mut Asker<W>,
-    asked: Asked<'_>,
+    asked: AgentOptions<'_>,
     column: Column,
     answers: &mut Answers,
 ) -> Result<(), Failure>
@@ -358,7 +362,7 @@ fn walk_if_needed<W: Wire>(
 fn walk<W: Wire>(
     alloc: Global,
     asker: &mut Asker<W>,
-    asked: Asked<'_>,
+    asked: AgentOptions<'_>,
     column: Column,
     answers: &mut Answers,
 ) -> Result<(), Failure>
@@ -381,7 +385,7 @@ fn walk<W: Wire>(
 fn step<W: Wire>(
     alloc: Global,
     asker: &mut Asker<W>,
-    asked: Asked<'_>,
+    asked: AgentOptions<'_>,
     place: &mut Place,
     answers: &mut Answers,
 ) -> Result<bool, Failure>

@@ -7,7 +7,7 @@ ghost use Rattle.mon_settings_commands.specs.Settings.{AreLabels, AreLabelsAt, I
 ghost use Rattle.mon_settings_commands.specs.Source.{source_in};
 
 use crate::failing::labels_failure;
-use crate::settings::Ground;
+use crate::settings::Input;
 use mon_console::{Failure, read_text, replace_file};
 use mon_host::Host;
 use mon_survey::labels;
@@ -32,14 +32,14 @@ pub(crate) fn old_labels<H: Host>(
 pub(crate) fn write_labels<H: Host>(
     alloc: Global,
     host: &mut H,
-    ground: &Ground<'_, '_>,
+    input: &Input<'_, '_>,
     old: &str,
 ) -> Result<(), Failure>
-    ensures { GoesOnBy (λ log. AreLabels (source_in ground.now) old.now log result)
+    ensures { GoesOnBy (λ log. AreLabels (source_in input.now) old.now log result)
         (H.log host.old) (H.log host.new) }
 {
-    match ground.words.labels {
-        Some(path) => write_labels_file(alloc, host, ground, path, old),
+    match input.words.labels {
+        Some(path) => write_labels_file(alloc, host, input, path, old),
         None => Ok(()),
     }
 }
@@ -48,27 +48,27 @@ pub(crate) fn write_labels<H: Host>(
 fn write_labels_file<H: Host>(
     alloc: Global,
     host: &mut H,
-    ground: &Ground<'_, '_>,
+    input: &Input<'_, '_>,
     path: &str,
     old: &str,
 ) -> Result<(), Failure>
-    ensures { GoesOnBy (λ log. AreLabelsAt (source_in ground.now) path.now old.now log result)
+    ensures { GoesOnBy (λ log. AreLabelsAt (source_in input.now) path.now old.now log result)
         (H.log host.old) (H.log host.new) }
 {
-    let text = labels_text(alloc, ground, path, old)?;
+    let text = labels_text(alloc, input, path, old)?;
     replace_file(alloc, host, path, text.as_bytes())
 }
 
 /// Returns the texts of the agent's interfaces after the old ones, for a file at this path.
 fn labels_text(
     alloc: Global,
-    ground: &Ground<'_, '_>,
+    input: &Input<'_, '_>,
     path: &str,
     old: &str,
 ) -> Result<String, Failure>
-    ensures { IsLabelsText (source_in ground.now) path.now old.now result }
+    ensures { IsLabelsText (source_in input.now) path.now old.now result }
 {
-    match labels(alloc, old, &ground.agent(), &ground.choice(None)) {
+    match labels(alloc, old, &input.agent(), &input.choice(None)) {
         Ok(text) => Ok(text),
         Err(fault) => Err(labels_failure(alloc, path, fault)),
     }

@@ -19,7 +19,7 @@ use crate::labelling::write_labels;
 use crate::machines::machines_at;
 use crate::noting::{note_speeds, print_noted};
 use crate::parts::{groups_of, require_nothing_at};
-use crate::settings::{Asked, Ground};
+use crate::settings::{AgentOptions, Input};
 use crate::trying::{Wish, fit};
 use mon_app::Opens;
 use mon_cli::SettingsArgs;
@@ -70,7 +70,7 @@ pub(crate) fn print_network<N: Opens, H: Host>(
     host: &mut H,
     net: &N,
     layout: Layout<'_, '_>,
-    asked: Asked<'_>,
+    asked: AgentOptions<'_>,
 ) -> Result<(), Failure>
     requires { AreNumbers layout.words.now }
     ensures { GoesOnBy (λ log. AreNetworkSettings (agents_by (N.has_opened net.now)
@@ -82,14 +82,14 @@ pub(crate) fn print_network<N: Opens, H: Host>(
     let names = names_of(alloc, host, words.modules)?;
     let machines = machines_at(alloc, host, site.machines, words.stations)?;
     let survey = ask_agent(alloc, host, net, asked)?;
-    let ground = Ground {
+    let input = Input {
         words,
         asked,
         names: &names,
         survey: &survey,
     };
     let files = files_of(site.folder, words, machines.as_slice());
-    write_noted(alloc, host, net, &ground, files)
+    write_noted(alloc, host, net, &input, files)
 }
 
 /// The files of a network: their folder, and where its stations run.
@@ -122,16 +122,16 @@ fn write_noted<N: Opens, H: Host>(
     alloc: Global,
     host: &mut H,
     net: &N,
-    ground: &Ground<'_, '_>,
+    input: &Input<'_, '_>,
     files: Files<'_>,
 ) -> Result<(), Failure>
     requires { IsNetwork files.network }
     ensures { GoesOnBy (λ log. IsNoted (agents_by (N.has_opened net.now) (N.has_failed net.now)
-        N.Wire.told) (source_in ground.now) files.entry.folder.now files.entry.network log result)
+        N.Wire.told) (source_in input.now) files.entry.folder.now files.entry.network log result)
         (H.log host.old) (H.log host.new) }
 {
-    write_network(alloc, host, net, ground, files)?;
-    note_speeds(host, ground);
+    write_network(alloc, host, net, input, files)?;
+    note_speeds(host, input);
     Ok(())
 }
 
@@ -142,18 +142,18 @@ fn write_network<N: Opens, H: Host>(
     alloc: Global,
     host: &mut H,
     net: &N,
-    ground: &Ground<'_, '_>,
+    input: &Input<'_, '_>,
     files: Files<'_>,
 ) -> Result<(), Failure>
     requires { IsNetwork files.network }
     ensures { GoesOnBy (λ log. IsNetworkPut (agents_by (N.has_opened net.now)
-        (N.has_failed net.now) N.Wire.told) (source_in ground.now) files.entry.folder.now
+        (N.has_failed net.now) N.Wire.told) (source_in input.now) files.entry.folder.now
         files.entry.network log result)
         (H.log host.old) (H.log host.new) }
 {
-    let outputs = outputs_of(alloc, net, ground, files)?;
+    let outputs = outputs_of(alloc, net, input, files)?;
     require_free(alloc, host, outputs.as_slice())?;
-    write_labels(alloc, host, ground, "")?;
+    write_labels(alloc, host, input, "")?;
     write_outputs(alloc, host, outputs.as_slice())
 }
 
@@ -252,33 +252,29 @@ fn print_line<H: Host>(
 fn outputs_of<N: Opens>(
     alloc: Global,
     net: &N,
-    ground: &Ground<'_, '_>,
+    input: &Input<'_, '_>,
     files: Files<'_>,
 ) -> Result<Vec<Output>, Failure>
     requires { IsNetwork files.network }
     ensures { AreFilesOf (agents_by (N.has_opened net.now) (N.has_failed net.now) N.Wire.told)
-        (source_in ground.now) files.entry.folder.now files.entry.network result }
+        (source_in input.now) files.entry.folder.now files.entry.network result }
 {
-    let groups = placed_groups(alloc, ground, files.network)?;
-    let mut outputs = seats_of(alloc, net, ground, files, groups)?;
+    let groups = placed_groups(alloc, input, files.network)?;
+    let mut outputs = seats_of(alloc, net, input, files, groups)?;
     add_lists(alloc, &mut outputs, files, groups)?;
     Ok(outputs)
 }
 
 /// Returns how many groups of counters there are, all of which have ports.
-fn placed_groups(
-    alloc: Global,
-    ground: &Ground<'_, '_>,
-    network: Network<'_>,
-) -> Result<u32, Failure>
+fn placed_groups(alloc: Global, input: &Input<'_, '_>, network: Network<'_>) -> Result<u32, Failure>
     requires { IsNetwork network }
-    ensures last { IfOk result (HasGroups (source_in ground.now)) }
+    ensures last { IfOk result (HasGroups (source_in input.now)) }
     ensures placed { IfOk result (ArePlaced network.entry) }
-    ensures refused { IfErr result (λ failure. HasNoPlan (source_in ground.now) failure
-        ⊎ ((groups : ℕ) × HasGroups (source_in ground.now) groups
+    ensures refused { IfErr result (λ failure. HasNoPlan (source_in input.now) failure
+        ⊎ ((groups : ℕ) × HasGroups (source_in input.now) groups
         × IsUnported network.entry groups failure)) }
 {
-    let groups = groups_of(alloc, ground)?;
+    let groups = groups_of(alloc, input)?;
     if !have_ports(network, groups) {
         return Err(unported_failure(alloc, network.first, groups));
     }
@@ -296,27 +292,27 @@ fn have_ports(network: Network<'_>, groups: u32) -> bool
 fn seats_of<N: Opens>(
     alloc: Global,
     net: &N,
-    ground: &Ground<'_, '_>,
+    input: &Input<'_, '_>,
     files: Files<'_>,
     groups: u32,
 ) -> Result<Vec<Output>, Failure>
     requires network { IsNetwork files.network }
     requires placed { ArePlaced files.network groups }
     ensures each { IfOk result (λ seats. AreSeatFiles (agents_by (N.has_opened net.now)
-        (N.has_failed net.now) N.Wire.told) (source_in ground.now) files.entry.folder.now
+        (N.has_failed net.now) N.Wire.told) (source_in input.now) files.entry.folder.now
         files.entry.network 0 seats.items) }
     ensures all { IfOk result (λ seats. length seats.items
         ≡ groups * files.entry.network.stations) }
     ensures refused { IfErr result (λ failure. IsMemory failure ⊎ ((place : ℕ) × AreFitting
-        (agents_by (N.has_opened net.now) (N.has_failed net.now) N.Wire.told) ground.now.asked
-        (IsSeatSettings (source_in ground.now) (seat_at files.entry.network place))
+        (agents_by (N.has_opened net.now) (N.has_failed net.now) N.Wire.told) input.now.asked
+        (IsSeatSettings (source_in input.now) (seat_at files.entry.network place))
         (Err failure))) }
 {
     laws::seated();
     let count = groups as usize * files.network.stations as usize;
     let mut seats = Vec::new(alloc);
     for place in 0..count {
-        let seat = seat_output(alloc, net, ground, files, place)?;
+        let seat = seat_output(alloc, net, input, files, place)?;
         seats.push(seat)?;
     }
     Ok(seats)
@@ -326,7 +322,7 @@ fn seats_of<N: Opens>(
 fn seat_output<N: Opens>(
     alloc: Global,
     net: &N,
-    ground: &Ground<'_, '_>,
+    input: &Input<'_, '_>,
     files: Files<'_>,
     place: usize,
 ) -> Result<Output, Failure>
@@ -334,16 +330,16 @@ fn seat_output<N: Opens>(
     requires small { place < 2 ^ 32 }
     requires some { 1 ≤ files.network.stations }
     ensures file { IfOk result (IsSeatFile (agents_by (N.has_opened net.now)
-        (N.has_failed net.now) N.Wire.told) (source_in ground.now) files.entry.folder.now
+        (N.has_failed net.now) N.Wire.told) (source_in input.now) files.entry.folder.now
         files.entry.network place) }
     ensures refused { IfErr result (λ failure. IsMemory failure ⊎ AreFitting
-        (agents_by (N.has_opened net.now) (N.has_failed net.now) N.Wire.told) ground.now.asked
-        (IsSeatSettings (source_in ground.now) (seat_at files.entry.network place))
+        (agents_by (N.has_opened net.now) (N.has_failed net.now) N.Wire.told) input.now.asked
+        (IsSeatSettings (source_in input.now) (seat_at files.entry.network place))
         (Err failure)) }
 {
     let seat = files.network.seat(place);
     let path = seat_path(alloc, files.folder, seat)?;
-    match fit(alloc, net, ground, Wish::Placed(seat), TargetSize::Sixteen) {
+    match fit(alloc, net, input, Wish::Placed(seat), TargetSize::Sixteen) {
         Ok(drafted) => Ok(output_of(path, drafted)),
         Err(failure) => Err(failure),
     }

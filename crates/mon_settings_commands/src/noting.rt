@@ -7,7 +7,7 @@ ghost use Rattle.mon_host.specs.Log.{GoesOnBy};
 ghost use Rattle.mon_settings_commands.specs.Notes.{AreSpeedsNoted, IsPrintNoted, IsRoundNoted, form_of, speed_line, speed_notes};
 ghost use Rattle.mon_settings_commands.specs.Source.{source_in};
 
-use crate::settings::Ground;
+use crate::settings::Input;
 use mon_console::{Failure, print};
 use mon_host::{Host, Level};
 use mon_survey::{LongestRound, count_without_speed};
@@ -54,11 +54,11 @@ pub(crate) fn form_of<'a>(count: usize, one: &'a str, many: &'a str) -> &'a str
 }
 
 /// Says for how many interfaces there is no threshold, if alarms are asked for.
-pub(crate) fn note_speeds<H: Host>(host: &mut H, ground: &Ground<'_, '_>)
-    ensures { GoesOnBy (AreSpeedsNoted (source_in ground.now)) (H.log host.old) (H.log host.new) }
+pub(crate) fn note_speeds<H: Host>(host: &mut H, input: &Input<'_, '_>)
+    ensures { GoesOnBy (AreSpeedsNoted (source_in input.now)) (H.log host.old) (H.log host.new) }
 {
-    let count = count_without_speed(&ground.survey.answers, &ground.choice(None));
-    note_count(host, ground.asked.percent, count);
+    let count = count_without_speed(&input.survey.answers, &input.choice(None));
+    note_count(host, input.asked.percent, count);
 }
 
 /// Says for how many interfaces there is no threshold, if there is a percentage.

@@ -13,7 +13,7 @@ ghost use Rattle.mon_survey.specs.declared.longest.Drafted.{Drafted as AnyDrafte
 use crate::failing::{survey_failure, taken_failure};
 use crate::labelling::write_labels;
 use crate::noting::print_noted;
-use crate::settings::Ground;
+use crate::settings::Input;
 use crate::trying::{Wish, fit};
 use mon_app::Opens;
 use mon_console::{Failure, write_file};
@@ -31,17 +31,17 @@ pub(crate) fn write_parts<N: Opens, H: Host>(
     alloc: Global,
     host: &mut H,
     net: &N,
-    ground: &Ground<'_, '_>,
+    input: &Input<'_, '_>,
     folder: &str,
 ) -> Result<(), Failure>
     ensures { GoesOnBy (λ log. AreParts (agents_by (N.has_opened net.now) (N.has_failed net.now)
         N.Wire.told)
-        (source_in ground.now) folder.now log result)
+        (source_in input.now) folder.now log result)
         (H.log host.old) (H.log host.new) }
 {
-    let parts = parts_of(alloc, net, ground)?;
+    let parts = parts_of(alloc, net, input)?;
     require_absent(alloc, host, folder, parts.as_slice())?;
-    write_labels(alloc, host, ground, "")?;
+    write_labels(alloc, host, input, "")?;
     write_all(alloc, host, folder, parts.as_slice())
 }
 
@@ -112,15 +112,15 @@ fn write_all<H: Host>(
 fn parts_of<N: Opens>(
     alloc: Global,
     net: &N,
-    ground: &Ground<'_, '_>,
+    input: &Input<'_, '_>,
 ) -> Result<Vec<Drafted>, Failure>
     ensures { AreParted (agents_by (N.has_opened net.now) (N.has_failed net.now) N.Wire.told)
-        (source_in ground.now) result }
+        (source_in input.now) result }
 {
-    let groups = groups_of(alloc, ground)?;
+    let groups = groups_of(alloc, input)?;
     let mut parts = Vec::new(alloc);
     for group in 0..groups {
-        add_part(alloc, net, &mut parts, ground, group)?;
+        add_part(alloc, net, &mut parts, input, group)?;
     }
     Ok(parts)
 }
@@ -130,22 +130,22 @@ fn add_part<N: Opens>(
     alloc: Global,
     net: &N,
     parts: &mut Vec<Drafted>,
-    ground: &Ground<'_, '_>,
+    input: &Input<'_, '_>,
     group: u32,
 ) -> Result<(), Failure>
     requires { group < 65536 }
     ensures added { OnOk result ((part : AnyDrafted) × (parts.new.items
         ≡ parts.old.items ++ part ∷ []) × AreFitting (agents_by (N.has_opened net.now)
-        (N.has_failed net.now) N.Wire.told) ground.now.asked
-        (IsSettingsOf (source_in ground.now) (Some group)) (Ok part)) }
+        (N.has_failed net.now) N.Wire.told) input.now.asked
+        (IsSettingsOf (source_in input.now) (Some group)) (Ok part)) }
     ensures refused { IfErr result (λ failure. IsMemory failure
         ⊎ AreFitting (agents_by (N.has_opened net.now) (N.has_failed net.now) N.Wire.told)
-        ground.now.asked (IsSettingsOf (source_in ground.now) (Some group)) (Err failure)) }
+        input.now.asked (IsSettingsOf (source_in input.now) (Some group)) (Err failure)) }
 {
     let part = fit(
         alloc,
         net,
-        ground,
+        input,
         Wish::New(Some(group)),
         TargetSize::Sixteen,
     )?;
@@ -153,13 +153,13 @@ fn add_part<N: Opens>(
 }
 
 /// Returns how many groups of counters there are.
-pub(crate) fn groups_of(alloc: Global, ground: &Ground<'_, '_>) -> Result<u32, Failure>
+pub(crate) fn groups_of(alloc: Global, input: &Input<'_, '_>) -> Result<u32, Failure>
     ensures few { IfOk result (λ groups. groups ≤ 65536) }
-    ensures last { IfOk result (HasGroups (source_in ground.now)) }
-    ensures refused { IfErr result (HasNoPlan (source_in ground.now)) }
+    ensures last { IfOk result (HasGroups (source_in input.now)) }
+    ensures refused { IfErr result (HasNoPlan (source_in input.now)) }
 {
     for group in 0..MAX_PARTS {
-        if !has_group(alloc, ground, group)? {
+        if !has_group(alloc, input, group)? {
             return Ok(group);
         }
     }
@@ -167,14 +167,14 @@ pub(crate) fn groups_of(alloc: Global, ground: &Ground<'_, '_>) -> Result<u32, F
 }
 
 /// Returns `true` if a group has counters, which the first one must have.
-fn has_group(alloc: Global, ground: &Ground<'_, '_>, group: u32) -> Result<bool, Failure>
-    ensures last { IfOk result (λ has. has ≡ false → HasNoCounter (source_in ground.now) group) }
-    ensures refused { IfErr result (HasNoPlan (source_in ground.now)) }
+fn has_group(alloc: Global, input: &Input<'_, '_>, group: u32) -> Result<bool, Failure>
+    ensures last { IfOk result (λ has. has ≡ false → HasNoCounter (source_in input.now) group) }
+    ensures refused { IfErr result (HasNoPlan (source_in input.now)) }
 {
-    let Err(fault) = plan(alloc, &ground.survey.answers, &ground.choice(Some(group))) else {
+    let Err(fault) = plan(alloc, &input.survey.answers, &input.choice(Some(group))) else {
         return Ok(true);
     };
-    no_group(alloc, ground.asked.agent.word, group, fault)
+    no_group(alloc, input.asked.agent.word, group, fault)
 }
 
 /// Returns `false` for a group that has no counters, and a failure for one that has no plan.

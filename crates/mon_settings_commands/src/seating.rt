@@ -7,7 +7,7 @@ ghost use Rattle.mon_settings_commands.specs.Source.{source_in};
 ghost use Rattle.mon_udp.specs.Addr.{addr_text};
 
 use crate::failing::survey_failure;
-use crate::settings::{FILE, Ground, Texts, lend, options_of};
+use crate::settings::{FILE, Input, Texts, lend, options_of};
 use crate::words::given_or;
 use mon_cli::SettingsArgs;
 use mon_console::Failure;
@@ -20,39 +20,39 @@ use std::alloc::{AllocError, Global};
 /// size.
 pub(crate) fn seat_settings(
     alloc: Global,
-    ground: &Ground<'_, '_>,
+    input: &Input<'_, '_>,
     seat: Seat<'_>,
     size: TargetSize,
 ) -> Result<Drafted, Failure>
     requires { IsSeat seat }
-    ensures { IsSeatSettings (source_in ground.now) seat.entry size result }
+    ensures { IsSeatSettings (source_in input.now) seat.entry size result }
 {
-    let texts = seat_texts(alloc, ground.words, seat)?;
-    seat_settings_by(alloc, ground, seat, size, &texts)
+    let texts = seat_texts(alloc, input.words, seat)?;
+    seat_settings_by(alloc, input, seat, size, &texts)
 }
 
 /// The settings of a station of a network, with these texts.
 fn seat_settings_by(
     alloc: Global,
-    ground: &Ground<'_, '_>,
+    input: &Input<'_, '_>,
     seat: Seat<'_>,
     size: TargetSize,
     texts: &Texts,
 ) -> Result<Drafted, Failure>
     requires placed { IsSeat seat }
-    requires texts { AreSeatTexts ground.now.words.now seat texts.now }
-    ensures { IsSeatSettings (source_in ground.now) seat.entry size result }
+    requires texts { AreSeatTexts input.now.words.now seat texts.now }
+    ensures { IsSeatSettings (source_in input.now) seat.entry size result }
 {
-    let words = ground.words;
+    let words = input.words;
     let lent = lend(words.address, words.community, words.modules, texts, size);
     let options = Options {
         station: seat.station + 1,
-        ..options_of(words, ground.asked.percent, lent)
+        ..options_of(words, input.asked.percent, lent)
     };
-    let choice = ground.choice(Some(seat.part));
-    match settings(alloc, ground.names, &ground.agent(), &options, &choice) {
+    let choice = input.choice(Some(seat.part));
+    match settings(alloc, input.names, &input.agent(), &options, &choice) {
         Ok(drafted) => Ok(drafted),
-        Err(fault) => Err(survey_failure(alloc, ground.asked.agent.word, fault)),
+        Err(fault) => Err(survey_failure(alloc, input.asked.agent.word, fault)),
     }
 }
 

@@ -5,7 +5,7 @@ ghost use Rattle.std.specs.Prelude.{◌≡◌, ◌<◌, ◌≤◌, [], IfErr, If
 ghost use Rattle.mon_app.specs.Network.{agents_by};
 ghost use Rattle.mon_host.specs.Log.{GoesOnBy};
 ghost use Rattle.mon_settings_commands.specs.Appended.{IsAlone, IsAppendedOf, IsLonger, IsPutLonger};
-ghost use Rattle.mon_settings_commands.specs.Asked.{IsAsked};
+ghost use Rattle.mon_settings_commands.specs.AgentOptions.{IsAsked};
 ghost use Rattle.mon_settings_commands.specs.Command.{AreFreshSettings, AreLongerSettings, AreNewSettings, AreNewTexts, ArePutTexts, AreSettings, AreSettingsFor, IsWhole, site_in};
 ghost use Rattle.mon_settings_commands.specs.Network.{AreNumbers};
 ghost use Rattle.mon_settings_commands.specs.Settings.{IsDraftPrinted, IsSettingsOf, up_of};
@@ -78,7 +78,7 @@ fn print_others<N: Opens, H: Host>(
     host: &mut H,
     net: &N,
     words: &SettingsArgs<'_, '_>,
-    asked: Asked<'_>,
+    asked: AgentOptions<'_>,
 ) -> Result<(), Failure>
     requires { AreNumbers words.now }
     ensures { GoesOnBy (λ log. AreSettingsFor (agents_by (N.has_opened net.now)
@@ -101,7 +101,7 @@ fn print_fresh<N: Opens, H: Host>(
     host: &mut H,
     net: &N,
     words: &SettingsArgs<'_, '_>,
-    asked: Asked<'_>,
+    asked: AgentOptions<'_>,
 ) -> Result<(), Failure>
     requires { AreNumbers words.now }
     ensures { GoesOnBy (λ log. AreFreshSettings (agents_by (N.has_opened net.now)
@@ -118,7 +118,7 @@ fn print_fresh<N: Opens, H: Host>(
 
 /// What the arguments say of the agent, once it was read.
 #[derive(Clone, Copy)]
-pub(crate) struct Asked<'a> {
+pub(crate) struct AgentOptions<'a> {
     pub(crate) agent: AgentAt<'a>,
     pub(crate) community: &'a [u8],
     pub(crate) kinds: Kinds,
@@ -128,10 +128,10 @@ pub(crate) struct Asked<'a> {
 
 /// Reads what the arguments say of the agent, and requires that each peer has a number and an
 /// address, before the agent is asked.
-fn asked_of<'a>(alloc: Global, words: &SettingsArgs<'_, 'a>) -> Result<Asked<'a>, Failure>
+fn asked_of<'a>(alloc: Global, words: &SettingsArgs<'_, 'a>) -> Result<AgentOptions<'a>, Failure>
     ensures { IsAsked words.now result }
 {
-    let asked = Asked {
+    let asked = AgentOptions {
         agent: agent_at(alloc, words.address)?,
         community: community(alloc, words.community)?,
         kinds: kinds_of(alloc, words.only)?,
@@ -158,7 +158,7 @@ fn print_new<N: Opens, H: Host>(
     host: &mut H,
     net: &N,
     words: &SettingsArgs<'_, '_>,
-    asked: Asked<'_>,
+    asked: AgentOptions<'_>,
 ) -> Result<(), Failure>
     ensures { GoesOnBy (λ log. AreNewSettings (agents_by (N.has_opened net.now)
         (N.has_failed net.now) N.Wire.told)
@@ -167,13 +167,13 @@ fn print_new<N: Opens, H: Host>(
 {
     let names = names_of(alloc, host, words.modules)?;
     let survey = ask_agent(alloc, host, net, asked)?;
-    let ground = Ground {
+    let input = Input {
         words,
         asked,
         names: &names,
         survey: &survey,
     };
-    write_new(alloc, host, net, &ground)
+    write_new(alloc, host, net, &input)
 }
 
 /// Prints or writes new settings, and says for how many interfaces there is no threshold.
@@ -181,15 +181,15 @@ fn write_new<N: Opens, H: Host>(
     alloc: Global,
     host: &mut H,
     net: &N,
-    ground: &Ground<'_, '_>,
+    input: &Input<'_, '_>,
 ) -> Result<(), Failure>
     ensures { GoesOnBy (λ log. AreNewTexts (agents_by (N.has_opened net.now) (N.has_failed net.now)
         N.Wire.told)
-        (source_in ground.now) log result)
+        (source_in input.now) log result)
         (H.log host.old) (H.log host.new) }
 {
-    put_texts(alloc, host, net, ground)?;
-    note_speeds(host, ground);
+    put_texts(alloc, host, net, input)?;
+    note_speeds(host, input);
     Ok(())
 }
 
@@ -198,24 +198,24 @@ fn put_texts<N: Opens, H: Host>(
     alloc: Global,
     host: &mut H,
     net: &N,
-    ground: &Ground<'_, '_>,
+    input: &Input<'_, '_>,
 ) -> Result<(), Failure>
     ensures { GoesOnBy (λ log. ArePutTexts (agents_by (N.has_opened net.now) (N.has_failed net.now)
         N.Wire.told)
-        (source_in ground.now) log result)
+        (source_in input.now) log result)
         (H.log host.old) (H.log host.new) }
 {
-    match ground.words.split {
-        Some(folder) => write_parts(alloc, host, net, ground, folder),
-        None => print_whole(alloc, host, net, ground),
+    match input.words.split {
+        Some(folder) => write_parts(alloc, host, net, input, folder),
+        None => print_whole(alloc, host, net, input),
     }
 }
 
 /// What settings are written from.
 #[derive(Clone, Copy)]
-pub(crate) struct Ground<'m, 'a> {
+pub(crate) struct Input<'m, 'a> {
     pub(crate) words: &'m SettingsArgs<'m, 'a>,
-    pub(crate) asked: Asked<'a>,
+    pub(crate) asked: AgentOptions<'a>,
     pub(crate) names: &'m Names,
     pub(crate) survey: &'m Survey,
 }
@@ -225,15 +225,15 @@ fn print_whole<N: Opens, H: Host>(
     alloc: Global,
     host: &mut H,
     net: &N,
-    ground: &Ground<'_, '_>,
+    input: &Input<'_, '_>,
 ) -> Result<(), Failure>
     ensures { GoesOnBy (λ log. IsWhole (agents_by (N.has_opened net.now) (N.has_failed net.now)
         N.Wire.told)
-        (source_in ground.now) log result)
+        (source_in input.now) log result)
         (H.log host.old) (H.log host.new) }
 {
-    let drafted = fit(alloc, net, ground, Wish::New(None), TargetSize::Sixteen)?;
-    write_labels(alloc, host, ground, "")?;
+    let drafted = fit(alloc, net, input, Wish::New(None), TargetSize::Sixteen)?;
+    write_labels(alloc, host, input, "")?;
     print_drafted(alloc, host, &drafted)
 }
 
@@ -263,7 +263,7 @@ fn print_appended<N: Opens, H: Host>(
     host: &mut H,
     net: &N,
     addition: Addition<'_, '_>,
-    asked: Asked<'_>,
+    asked: AgentOptions<'_>,
 ) -> Result<(), Failure>
     ensures { GoesOnBy (λ log. AreLongerSettings (agents_by (N.has_opened net.now)
         (N.has_failed net.now) N.Wire.told)
@@ -275,15 +275,15 @@ fn print_appended<N: Opens, H: Host>(
     let existing = existing_in(alloc, host, path)?;
     let old = old_labels(alloc, host, words.labels)?;
     let survey = ask_agent(alloc, host, net, asked)?;
-    let ground = Ground {
+    let input = Input {
         words,
         asked,
         names: &existing.names,
         survey: &survey,
     };
     let wish = Wish::Longer(&existing);
-    let drafted = fit(alloc, net, &ground, wish, TargetSize::Sixteen)?;
-    print_longer(alloc, host, &ground, &drafted, old.as_str())
+    let drafted = fit(alloc, net, &input, wish, TargetSize::Sixteen)?;
+    print_longer(alloc, host, &input, &drafted, old.as_str())
 }
 
 /// Prints settings with the agent's targets at their end, and says for how many of its interfaces
@@ -291,15 +291,15 @@ fn print_appended<N: Opens, H: Host>(
 fn print_longer<H: Host>(
     alloc: Global,
     host: &mut H,
-    ground: &Ground<'_, '_>,
+    input: &Input<'_, '_>,
     drafted: &Drafted,
     old: &str,
 ) -> Result<(), Failure>
-    ensures { GoesOnBy (λ log. IsLonger (source_in ground.now) drafted.now old.now log result)
+    ensures { GoesOnBy (λ log. IsLonger (source_in input.now) drafted.now old.now log result)
         (H.log host.old) (H.log host.new) }
 {
-    put_longer(alloc, host, ground, drafted, old)?;
-    note_speeds(host, ground);
+    put_longer(alloc, host, input, drafted, old)?;
+    note_speeds(host, input);
     Ok(())
 }
 
@@ -307,18 +307,18 @@ fn print_longer<H: Host>(
 fn put_longer<H: Host>(
     alloc: Global,
     host: &mut H,
-    ground: &Ground<'_, '_>,
+    input: &Input<'_, '_>,
     drafted: &Drafted,
     old: &str,
 ) -> Result<(), Failure>
-    ensures { GoesOnBy (λ log. IsPutLonger (source_in ground.now) drafted.now old.now log result)
+    ensures { GoesOnBy (λ log. IsPutLonger (source_in input.now) drafted.now old.now log result)
         (H.log host.old) (H.log host.new) }
 {
-    write_labels(alloc, host, ground, old)?;
+    write_labels(alloc, host, input, old)?;
     print_drafted(alloc, host, drafted)
 }
 
-impl<'m, 'a> Ground<'m, 'a> {
+impl<'m, 'a> Input<'m, 'a> {
     /// Which counters are polled.
     pub(crate) fn choice(&self, group: Option<u32>) -> Choice<'a>
         ensures kinds { result.kinds ≡ self.now.asked.kinds }
@@ -478,79 +478,79 @@ pub(crate) fn options_of<'p>(
 /// the name of its file are counted up, by targets of this size.
 pub(crate) fn settings_of(
     alloc: Global,
-    ground: &Ground<'_, '_>,
+    input: &Input<'_, '_>,
     group: Option<u32>,
     size: TargetSize,
 ) -> Result<Drafted, Failure>
     requires { up_of group < 65536 }
-    ensures { IsSettingsOf (source_in ground.now) group size result }
+    ensures { IsSettingsOf (source_in input.now) group size result }
 {
-    let texts = texts_of(alloc, ground.words, group.unwrap_or(0))?;
-    settings_by(alloc, ground, group, size, &texts)
+    let texts = texts_of(alloc, input.words, group.unwrap_or(0))?;
+    settings_by(alloc, input, group, size, &texts)
 }
 
 /// The settings of a station that polls all counters, or those of a group, with these texts.
 fn settings_by(
     alloc: Global,
-    ground: &Ground<'_, '_>,
+    input: &Input<'_, '_>,
     group: Option<u32>,
     size: TargetSize,
     texts: &Texts,
 ) -> Result<Drafted, Failure>
-    requires { AreTexts ground.now.words.now (up_of group) texts.now }
-    ensures { IsSettingsOf (source_in ground.now) group size result }
+    requires { AreTexts input.now.words.now (up_of group) texts.now }
+    ensures { IsSettingsOf (source_in input.now) group size result }
 {
-    let words = ground.words;
+    let words = input.words;
     let lent = lend(words.address, words.community, words.modules, texts, size);
-    let options = options_of(words, ground.asked.percent, lent);
+    let options = options_of(words, input.asked.percent, lent);
     match settings(
         alloc,
-        ground.names,
-        &ground.agent(),
+        input.names,
+        &input.agent(),
         &options,
-        &ground.choice(group),
+        &input.choice(group),
     ) {
         Ok(drafted) => Ok(drafted),
-        Err(fault) => Err(survey_failure(alloc, ground.asked.agent.word, fault)),
+        Err(fault) => Err(survey_failure(alloc, input.asked.agent.word, fault)),
     }
 }
 
 /// Settings with the agent's targets, of this size, at their end.
 pub(crate) fn appended(
     alloc: Global,
-    ground: &Ground<'_, '_>,
+    input: &Input<'_, '_>,
     existing: &Existing,
     size: TargetSize,
 ) -> Result<Drafted, Failure>
-    ensures { IsAppendedOf (source_in ground.now) existing.now size result }
+    ensures { IsAppendedOf (source_in input.now) existing.now size result }
 {
-    let texts = texts_of(alloc, ground.words, 0)?;
-    appended_by(alloc, ground, existing, size, &texts)
+    let texts = texts_of(alloc, input.words, 0)?;
+    appended_by(alloc, input, existing, size, &texts)
 }
 
 /// Settings with the agent's targets at their end, with these texts.
 fn appended_by(
     alloc: Global,
-    ground: &Ground<'_, '_>,
+    input: &Input<'_, '_>,
     existing: &Existing,
     size: TargetSize,
     texts: &Texts,
 ) -> Result<Drafted, Failure>
-    requires { AreTexts ground.now.words.now 0 texts.now }
-    ensures { IsAppendedOf (source_in ground.now) existing.now size result }
+    requires { AreTexts input.now.words.now 0 texts.now }
+    ensures { IsAppendedOf (source_in input.now) existing.now size result }
 {
-    let words = ground.words;
+    let words = input.words;
     let lent = lend(words.address, words.community, words.modules, texts, size);
-    let options = options_of(words, ground.asked.percent, lent);
+    let options = options_of(words, input.asked.percent, lent);
     match append(
         alloc,
         &existing.lent(),
-        &ground.agent(),
+        &input.agent(),
         &options,
-        &ground.choice(None),
+        &input.choice(None),
     ) {
         Ok(drafted) => Ok(drafted),
-        Err(fault) => Err(survey_failure(alloc, ground.asked.agent.word, fault)),
+        Err(fault) => Err(survey_failure(alloc, input.asked.agent.word, fault)),
     }
 }
 
@@ -564,54 +564,54 @@ pub(crate) struct News<'e> {
 /// Settings with the agent's interfaces as they are now, with targets of this size for new ones.
 pub(crate) fn updated(
     alloc: Global,
-    ground: &Ground<'_, '_>,
+    input: &Input<'_, '_>,
     news: News<'_>,
     size: TargetSize,
 ) -> Result<Drafted, Failure>
-    ensures { IsUpdatedOf (source_in ground.now) news.entry.existing.now news.entry.known.now size
+    ensures { IsUpdatedOf (source_in input.now) news.entry.existing.now news.entry.known.now size
         result }
 {
-    let texts = texts_of(alloc, ground.words, 0)?;
-    updated_by(alloc, ground, news, size, &texts)
+    let texts = texts_of(alloc, input.words, 0)?;
+    updated_by(alloc, input, news, size, &texts)
 }
 
 /// Settings with the agent's interfaces as they are now, with these texts.
 fn updated_by(
     alloc: Global,
-    ground: &Ground<'_, '_>,
+    input: &Input<'_, '_>,
     news: News<'_>,
     size: TargetSize,
     texts: &Texts,
 ) -> Result<Drafted, Failure>
-    requires { AreTexts ground.now.words.now 0 texts.now }
-    ensures { IsUpdatedOf (source_in ground.now) news.entry.existing.now news.entry.known.now size
+    requires { AreTexts input.now.words.now 0 texts.now }
+    ensures { IsUpdatedOf (source_in input.now) news.entry.existing.now news.entry.known.now size
         result }
 {
-    let words = ground.words;
+    let words = input.words;
     let lent = lend(words.address, words.community, words.modules, texts, size);
-    let options = options_of(words, ground.asked.percent, lent);
-    updated_on(alloc, ground, news, &options)
+    let options = options_of(words, input.asked.percent, lent);
+    updated_on(alloc, input, news, &options)
 }
 
 /// Settings with the agent's interfaces as they are now, by these options.
 fn updated_on(
     alloc: Global,
-    ground: &Ground<'_, '_>,
+    input: &Input<'_, '_>,
     news: News<'_>,
     options: &Options<'_>,
 ) -> Result<Drafted, Failure>
     requires { options.now.percent ≤ 100 }
-    ensures { IsUpdatedOn (source_in ground.now) news.entry.existing.now news.entry.known.now
+    ensures { IsUpdatedOn (source_in input.now) news.entry.existing.now news.entry.known.now
         options.now result }
 {
     match update(
         alloc,
         &news.existing.lent(),
-        &ground.renamed(news.known),
+        &input.renamed(news.known),
         options,
-        &ground.choice(None),
+        &input.choice(None),
     ) {
         Ok(drafted) => Ok(drafted),
-        Err(fault) => Err(survey_failure(alloc, ground.asked.agent.word, fault)),
+        Err(fault) => Err(survey_failure(alloc, input.asked.agent.word, fault)),
     }
 }

@@ -12,7 +12,7 @@ use crate::asking::{Asker, exchange, open};
 use crate::existing::Existing;
 use crate::failing::poll_failure;
 use crate::seating::seat_settings;
-use crate::settings::{Asked, Ground, News, appended, settings_of, updated};
+use crate::settings::{AgentOptions, Input, News, appended, settings_of, updated};
 use mon_app::{AppFault, Asking, Opens, Wire};
 use mon_console::{Failure, Fault};
 use mon_placing::Seat;
@@ -44,23 +44,23 @@ pub(crate) enum Wish<'e> {
 pub(crate) fn fit<N: Opens>(
     alloc: Global,
     net: &N,
-    ground: &Ground<'_, '_>,
+    input: &Input<'_, '_>,
     wish: Wish<'_>,
     size: TargetSize,
 ) -> Result<Drafted, Failure>
     requires { IsWish wish }
     ensures { IsFitting (agents_by (N.has_opened net.now) (N.has_failed net.now) N.Wire.told)
-        ground.now.asked (IsDraft (source_in ground.now) wish.entry) (sizes_from size) result }
+        input.now.asked (IsDraft (source_in input.now) wish.entry) (sizes_from size) result }
 {
-    let drafted = draft(alloc, ground, wish, size)?;
-    let Err(failure) = try_polls(alloc, net, ground.asked, drafted.targets.as_slice()) else {
+    let drafted = draft(alloc, input, wish, size)?;
+    let Err(failure) = try_polls(alloc, net, input.asked, drafted.targets.as_slice()) else {
         return Ok(drafted);
     };
     if !is_too_big(failure.fault) {
         return Err(failure);
     }
     match size.half() {
-        Some(less) => fit(alloc, net, ground, wish, less),
+        Some(less) => fit(alloc, net, input, wish, less),
         None => Err(failure),
     }
 }
@@ -68,18 +68,18 @@ pub(crate) fn fit<N: Opens>(
 /// Drafts settings by targets of this size.
 fn draft(
     alloc: Global,
-    ground: &Ground<'_, '_>,
+    input: &Input<'_, '_>,
     wish: Wish<'_>,
     size: TargetSize,
 ) -> Result<Drafted, Failure>
     requires { IsWish wish }
-    ensures { IsDraft (source_in ground.now) wish.entry size result }
+    ensures { IsDraft (source_in input.now) wish.entry size result }
 {
     match wish {
-        Wish::New(group) => settings_of(alloc, ground, group, size),
-        Wish::Longer(existing) => appended(alloc, ground, existing, size),
-        Wish::Updated(news) => updated(alloc, ground, news, size),
-        Wish::Placed(seat) => seat_settings(alloc, ground, seat, size),
+        Wish::New(group) => settings_of(alloc, input, group, size),
+        Wish::Longer(existing) => appended(alloc, input, existing, size),
+        Wish::Updated(news) => updated(alloc, input, news, size),
+        Wish::Placed(seat) => seat_settings(alloc, input, seat, size),
     }
 }
 
@@ -97,7 +97,7 @@ fn is_too_big(fault: Fault) -> bool
 fn try_polls<N: Opens>(
     alloc: Global,
     net: &N,
-    asked: Asked<'_>,
+    asked: AgentOptions<'_>,
     targets: &[Target],
 ) -> Result<(), Failure>
     ensures { IsTrial (agents_by (N.has_opened net.now) (N.has_failed net.now) N.Wire.told)
@@ -111,7 +111,7 @@ fn try_polls<N: Opens>(
 fn try_targets<W: Wire>(
     alloc: Global,
     asker: &mut Asker<W>,
-    asked: Asked<'_>,
+    asked: AgentOptions<'_>,
     targets: &[Target],
 ) -> Result<(), Failure>
     ensures { AsksBy (λ log. AreTried asked.entry.agent.word.now targets.now log result)
@@ -129,7 +129,7 @@ fn try_targets<W: Wire>(
 fn try_target<W: Wire>(
     alloc: Global,
     asker: &mut Asker<W>,
-    asked: Asked<'_>,
+    asked: AgentOptions<'_>,
     target: &Target,
 ) -> Result<(), Failure>
     ensures { AsksBy (λ log. IsTried asked.entry.agent.word.now target.now log result)

@@ -13,7 +13,7 @@ use crate::existing::{Existing, existing_in};
 use crate::failing::{apart_failure, labels_failure};
 use crate::labelling::old_labels;
 use crate::noting::note_speeds;
-use crate::settings::{Addition, Asked, Ground, News, print_drafted};
+use crate::settings::{Addition, AgentOptions, Input, News, print_drafted};
 use crate::trying::{Wish, fit};
 use mon_app::Opens;
 use mon_cli::SettingsArgs;
@@ -47,7 +47,7 @@ pub(crate) fn print_updated<N: Opens, H: Host>(
     host: &mut H,
     net: &N,
     addition: Addition<'_, '_>,
-    asked: Asked<'_>,
+    asked: AgentOptions<'_>,
 ) -> Result<(), Failure>
     ensures { GoesOnBy (λ log. AreUpdatedSettings (agents_by (N.has_opened net.now)
         (N.has_failed net.now) N.Wire.told)
@@ -59,7 +59,7 @@ pub(crate) fn print_updated<N: Opens, H: Host>(
     let existing = existing_in(alloc, host, path)?;
     let labels = old_labels(alloc, host, words.labels)?;
     let survey = ask_agent(alloc, host, net, asked)?;
-    let ground = Ground {
+    let input = Input {
         words,
         asked,
         names: &existing.names,
@@ -69,7 +69,7 @@ pub(crate) fn print_updated<N: Opens, H: Host>(
         existing: &existing,
         labels: labels.as_str(),
     };
-    write_updated(alloc, host, net, &ground, old)
+    write_updated(alloc, host, net, &input, old)
 }
 
 /// Prints settings that are there with the agent's interfaces as they are now, once the names that
@@ -78,27 +78,27 @@ fn write_updated<N: Opens, H: Host>(
     alloc: Global,
     host: &mut H,
     net: &N,
-    ground: &Ground<'_, '_>,
+    input: &Input<'_, '_>,
     old: Old<'_>,
 ) -> Result<(), Failure>
     ensures { GoesOnBy (λ log. IsUpdatedBy (agents_by (N.has_opened net.now) (N.has_failed net.now)
         N.Wire.told)
-        (source_in ground.now) old.entry.existing.now old.entry.labels.now log result)
+        (source_in input.now) old.entry.existing.now old.entry.labels.now log result)
         (H.log host.old) (H.log host.new) }
 {
-    let known = known_of(alloc, ground, old.labels)?;
-    let lines = lines_of(alloc, ground, old.existing, &known)?;
+    let known = known_of(alloc, input, old.labels)?;
+    let lines = lines_of(alloc, input, old.existing, &known)?;
     let wish = Wish::Updated(News {
         existing: old.existing,
         known: &known,
     });
-    let drafted = fit(alloc, net, ground, wish, TargetSize::Sixteen)?;
+    let drafted = fit(alloc, net, input, wish, TargetSize::Sixteen)?;
     let update = Update {
         old,
         known: &known,
         lines: &lines,
     };
-    print_changed(alloc, host, ground, update, &drafted)
+    print_changed(alloc, host, input, update, &drafted)
 }
 
 /// What settings are brought up to date by: what was there, the names that interfaces had, and the
@@ -111,23 +111,23 @@ struct Update<'e> {
 }
 
 /// The names that the old labels say of the agent's interfaces.
-fn known_of(alloc: Global, ground: &Ground<'_, '_>, old: &str) -> Result<Vec<Known>, Failure>
-    ensures { AreKnown (source_in ground.now) old.now result }
+fn known_of(alloc: Global, input: &Input<'_, '_>, old: &str) -> Result<Vec<Known>, Failure>
+    ensures { AreKnown (source_in input.now) old.now result }
 {
-    match known_names(alloc, old, ground.survey.engine.as_slice()) {
+    match known_names(alloc, old, input.survey.engine.as_slice()) {
         Ok(known) => Ok(known),
-        Err(fault) => Err(labels_failure(alloc, labels_path(ground), fault)),
+        Err(fault) => Err(labels_failure(alloc, labels_path(input), fault)),
     }
 }
 
 /// The path of the file of labels, or nothing if the arguments name none.
-fn labels_path<'a>(ground: &Ground<'_, 'a>) -> &'a str
-    ensures { result.now ≡ labels_path (source_in ground.now) }
+fn labels_path<'a>(input: &Input<'_, 'a>) -> &'a str
+    ensures { result.now ≡ labels_path (source_in input.now) }
 {
-    ground.words.labels.unwrap_or("")
+    input.words.labels.unwrap_or("")
 }
 
-impl<'m> Ground<'m, '_> {
+impl<'m> Input<'m, '_> {
     /// The agent that answered, and the names that its interfaces had.
     pub(crate) fn renamed(&self, known: &'m [Known]) -> Renamed<'m>
         ensures { at_in result ≡ at_source (source_in self.now) known.now }
@@ -142,19 +142,14 @@ impl<'m> Ground<'m, '_> {
 /// The lines of what changes.
 fn lines_of(
     alloc: Global,
-    ground: &Ground<'_, '_>,
+    input: &Input<'_, '_>,
     existing: &Existing,
     known: &[Known],
 ) -> Result<Vec<String>, Failure>
-    ensures { AreLines (source_in ground.now) existing.now known.now result }
+    ensures { AreLines (source_in input.now) existing.now known.now result }
 {
     let instances = existing.station.core.watch().instances();
-    let lines = change_lines(
-        alloc,
-        &ground.renamed(known),
-        &ground.choice(None),
-        instances,
-    )?;
+    let lines = change_lines(alloc, &input.renamed(known), &input.choice(None), instances)?;
     Ok(lines)
 }
 
@@ -163,17 +158,17 @@ fn lines_of(
 fn print_changed<H: Host>(
     alloc: Global,
     host: &mut H,
-    ground: &Ground<'_, '_>,
+    input: &Input<'_, '_>,
     update: Update<'_>,
     drafted: &Drafted,
 ) -> Result<(), Failure>
-    ensures { GoesOnBy (λ log. IsChanged (source_in ground.now) update.entry.old.existing.now
+    ensures { GoesOnBy (λ log. IsChanged (source_in input.now) update.entry.old.existing.now
         update.entry.known.now update.entry.old.labels.now update.entry.lines.now drafted.now log
         result)
         (H.log host.old) (H.log host.new) }
 {
-    put_updated(alloc, host, ground, update, drafted)?;
-    note_speeds(host, ground);
+    put_updated(alloc, host, input, update, drafted)?;
+    note_speeds(host, input);
     Ok(())
 }
 
@@ -181,16 +176,16 @@ fn print_changed<H: Host>(
 fn put_updated<H: Host>(
     alloc: Global,
     host: &mut H,
-    ground: &Ground<'_, '_>,
+    input: &Input<'_, '_>,
     update: Update<'_>,
     drafted: &Drafted,
 ) -> Result<(), Failure>
-    ensures { GoesOnBy (λ log. IsPutUpdated (source_in ground.now) update.entry.old.existing.now
+    ensures { GoesOnBy (λ log. IsPutUpdated (source_in input.now) update.entry.old.existing.now
         update.entry.known.now update.entry.old.labels.now update.entry.lines.now drafted.now log
         result)
         (H.log host.old) (H.log host.new) }
 {
-    write_relabelled(alloc, host, ground, update.old, update.known)?;
+    write_relabelled(alloc, host, input, update.old, update.known)?;
     print_drafted(alloc, host, drafted)?;
     note_lines(host, update.lines.as_slice());
     Ok(())
@@ -212,18 +207,18 @@ fn note_lines<H: Host>(host: &mut H, lines: &[String])
 fn write_relabelled<H: Host>(
     alloc: Global,
     host: &mut H,
-    ground: &Ground<'_, '_>,
+    input: &Input<'_, '_>,
     old: Old<'_>,
     known: &[Known],
 ) -> Result<(), Failure>
-    ensures { GoesOnBy (λ log. AreRelabelled (source_in ground.now) old.entry.existing.now known.now
+    ensures { GoesOnBy (λ log. AreRelabelled (source_in input.now) old.entry.existing.now known.now
         old.entry.labels.now log result)
         (H.log host.old) (H.log host.new) }
 {
-    match ground.words.labels {
+    match input.words.labels {
         Some(path) => {
             let file = LabelsFile { old, known, path };
-            write_relabelled_file(alloc, host, ground, file)
+            write_relabelled_file(alloc, host, input, file)
         }
         None => Ok(()),
     }
@@ -241,32 +236,32 @@ struct LabelsFile<'e> {
 fn write_relabelled_file<H: Host>(
     alloc: Global,
     host: &mut H,
-    ground: &Ground<'_, '_>,
+    input: &Input<'_, '_>,
     file: LabelsFile<'_>,
 ) -> Result<(), Failure>
-    ensures { GoesOnBy (λ log. AreRelabelledAt (source_in ground.now) file.entry.old.existing.now
+    ensures { GoesOnBy (λ log. AreRelabelledAt (source_in input.now) file.entry.old.existing.now
         file.entry.known.now file.entry.path.now file.entry.old.labels.now log result)
         (H.log host.old) (H.log host.new) }
 {
-    let text = relabelled_text(alloc, ground, file)?;
+    let text = relabelled_text(alloc, input, file)?;
     replace_file(alloc, host, file.path, text.as_bytes())
 }
 
 /// Returns labels with the agent's interfaces as they are now, for a file at this path.
 fn relabelled_text(
     alloc: Global,
-    ground: &Ground<'_, '_>,
+    input: &Input<'_, '_>,
     file: LabelsFile<'_>,
 ) -> Result<String, Failure>
-    ensures { IsRelabelledText (source_in ground.now) file.entry.old.existing.now
+    ensures { IsRelabelledText (source_in input.now) file.entry.old.existing.now
         file.entry.known.now file.entry.path.now file.entry.old.labels.now result }
 {
     let instances = file.old.existing.station.core.watch().instances();
     match relabel(
         alloc,
         file.old.labels,
-        &ground.renamed(file.known),
-        &ground.choice(None),
+        &input.renamed(file.known),
+        &input.choice(None),
         instances,
     ) {
         Ok(text) => Ok(text),

@@ -11,10 +11,10 @@ use Rattle.mon_smi.specs.declared.text_fault.TextFault.TheVariants.{Duplicate}
 use Rattle.mon_smi.specs.Places.{IsAgain}
 use Rattle.mon_smi.specs.Tokens.{AreTokens}
 use Rattle.mon_smi.specs.Lexemes.{Lexeme, lexemes, lexeme_at}
-use Rattle.mon_smi.specs.Reading.{word_at, mark_at, imports_at, assignment_at}
+use Rattle.mon_smi.specs.Reading.{word_at, punctuation_at, imports_at, assignment_at}
 use Rattle.mon_smi.specs.Grammar.{Derives}
 use Rattle.mon_smi.specs.ModuleFaults.{Begins, AllBegin, HasTwice, IsLeftAt, IsTwice}
-use Rattle.mon_smi.proofs.ForRules.{word_takes, mark_takes}
+use Rattle.mon_smi.proofs.ForRules.{word_takes, punctuation_takes}
 use Rattle.mon_smi.proofs.ForValues.{suffix}
 use Rattle.mon_smi.proofs.ForModules.{assignment_takes, imports_take}
 
@@ -62,10 +62,10 @@ all_next ls ns more ds all left (Some d) after begin within found all_is more_is
     (subst (λ (l : List ℕ). AllBegin ls l (ds ++ d ∷ [])) (sym more_is) (all_push ls ns ds left d begin (begins_here ls left d after within found)))
 
 -- the definitions of a module's body are those behind its imports
-pub body_begins : (ls a b c d : List Lexeme) (ns : List ℕ) (ds : List Definition) → word_at (codes "DEFINITIONS") ls ≡ Ok a → mark_at Assign a ≡ Ok b → word_at (codes "BEGIN") b ≡ Ok c → imports_at c ≡ Ok d → AllBegin d ns ds → AllBegin ls ns ds
+pub body_begins : (ls a b c d : List Lexeme) (ns : List ℕ) (ds : List Definition) → word_at (codes "DEFINITIONS") ls ≡ Ok a → punctuation_at Assign a ≡ Ok b → word_at (codes "BEGIN") b ≡ Ok c → imports_at c ≡ Ok d → AllBegin d ns ds → AllBegin ls ns ds
 body_begins ls a b c d ns ds first second third imports begin =
     let t = word_takes (codes "DEFINITIONS") ls a first in
-    let u = mark_takes Assign a b second in
+    let u = punctuation_takes Assign a b second in
     let v = word_takes (codes "BEGIN") b c third in
     let w = imports_take c d imports in
     all_from ls t.0 a ns ds t.2 (all_from a u.0 b ns ds u.2 (all_from b v.0 c ns ds v.2 (all_from c w.0 d ns ds w.2 begin)))

@@ -8,31 +8,31 @@ use Rattle.mon_smi.specs.declared.kind.TokenKind.{TokenKind}
 use Rattle.mon_smi.specs.declared.kind.TokenKind.TheVariants.{Assign, Semicolon, Quoted}
 use Rattle.mon_smi.specs.declared.part.Part.TheVariants.{Text}
 use Rattle.mon_smi.specs.declared.definition.Definition.{Definition}
-use Rattle.mon_smi.specs.Lexemes.{Lexeme, word, number, mark, is_word, is_mark, begins_small, begins_capital}
+use Rattle.mon_smi.specs.Lexemes.{Lexeme, word, number, punctuation, is_word, is_punctuation, begins_small, begins_capital}
 use Rattle.mon_oid.specs.Steps.{◌>>=◌}
-use Rattle.mon_smi.specs.Reading.{Read, or_left, one, word_at, mark_at, begins, begins_word, name_at, type_at, object_type_at, convention_at, many, value_at, is_macro, up_to, identifier_at, object_at, macro_at, head_at, definition_at, is_convention, textual_at, type_body_at, assigned, passed_over, assignment_of, assignment_at, ends_module, imported_at, imports_at, definitions_at, module_body_at, module_at}
+use Rattle.mon_smi.specs.Reading.{Read, or_left, one, word_at, punctuation_at, begins, begins_word, name_at, type_at, object_type_at, convention_at, many, value_at, is_macro, up_to, identifier_at, object_at, macro_at, head_at, definition_at, is_convention, textual_at, type_body_at, assigned, passed_over, assignment_of, assignment_at, ends_module, imported_at, imports_at, definitions_at, module_body_at, module_at}
 use Rattle.mon_smi.specs.Grammar.{◌▸◌, IsThis, IsWordOf, IsFree, IsType, IsClause, IsObjectType, IsConvention, Are, IsValue, macros, IsHead, IsAssignment, AreImports, IsModule}
-use Rattle.mon_smi.proofs.ForRules.{same_is, word_is, mark_is, mark_self, Takes, Again, Any, bind_ok, ok_is, wanted, chosen, seq_takes, seq_again, one_takes, word_takes, word_again, mark_takes, word_of_again, type_takes, type_again, goes_on_type, is_clear, BehindName, Follows, BeginsAssign, object_type_takes, object_type_again, convention_takes, convention_again, maybe_leads, other_mark, or_parts, and_parts, not_false, this_word}
+use Rattle.mon_smi.proofs.ForRules.{same_is, word_is, punctuation_is, punctuation_self, Takes, Again, Any, bind_ok, ok_is, wanted, chosen, seq_takes, seq_again, one_takes, word_takes, word_again, punctuation_takes, word_of_again, type_takes, type_again, goes_on_type, is_clear, BehindName, Follows, BeginsAssign, object_type_takes, object_type_again, convention_takes, convention_again, maybe_leads, other_punctuation, or_parts, and_parts, not_false, this_word}
 use Rattle.mon_smi.proofs.ForValues.{TakesOne, pair_parts, some_parts, from_left, many_takes, many_again, value_takes, value_again}
 
 -- ---- heads
 
-up_to_takes : (kind : TokenKind) (ls rest : List Lexeme) → up_to kind ls ≡ Ok rest → (front : List Lexeme) × IsFree kind front × (ls ≡ front ++ rest) × ((more : List Lexeme) × (rest ≡ mark kind ∷ more))
+up_to_takes : (kind : TokenKind) (ls rest : List Lexeme) → up_to kind ls ≡ Ok rest → (front : List Lexeme) × IsFree kind front × (ls ≡ front ++ rest) × ((more : List Lexeme) × (rest ≡ punctuation kind ∷ more))
 up_to_takes kind [] rest is = absurd (cc)
 up_to_takes kind (l ∷ ls) rest is =
     ⊎_elim
-    (λ (here : (is_mark kind l ≡ true) × (Ok (l ∷ ls) ≡ Ok rest)). let same = ok_is (l ∷ ls) rest here.1 in
-    ([], tt, same, (ls, sym same ∙ ap (λ (x : Lexeme). x ∷ ls) (mark_is kind l here.0))))
-    (λ (later : (is_mark kind l ≡ false) × (up_to kind ls ≡ Ok rest)). let t = up_to_takes kind ls rest later.1 in
-    (l ∷ t.0, ((λ same. no_mark later.0 same), t.1), ap (λ (k : List Lexeme). l ∷ k) t.2, t.3))
-    (chosen (is_mark kind l) (Ok (l ∷ ls)) (up_to kind ls) rest is)
+    (λ (here : (is_punctuation kind l ≡ true) × (Ok (l ∷ ls) ≡ Ok rest)). let same = ok_is (l ∷ ls) rest here.1 in
+    ([], tt, same, (ls, sym same ∙ ap (λ (x : Lexeme). x ∷ ls) (punctuation_is kind l here.0))))
+    (λ (later : (is_punctuation kind l ≡ false) × (up_to kind ls ≡ Ok rest)). let t = up_to_takes kind ls rest later.1 in
+    (l ∷ t.0, ((λ same. no_punctuation later.0 same), t.1), ap (λ (k : List Lexeme). l ∷ k) t.2, t.3))
+    (chosen (is_punctuation kind l) (Ok (l ∷ ls)) (up_to kind ls) rest is)
   where
-    no_mark : is_mark kind l ≡ false → l ≡ mark kind → ⊥
-    no_mark no_case same = let yes_case : is_mark kind l ≡ true = ap (is_mark kind) same ∙ mark_self kind in absurd (cc)
+    no_punctuation : is_punctuation kind l ≡ false → l ≡ punctuation kind → ⊥
+    no_punctuation no_case same = let yes_case : is_punctuation kind l ≡ true = ap (is_punctuation kind) same ∙ punctuation_self kind in absurd (cc)
 
-up_to_again : (kind : TokenKind) (front more : List Lexeme) → IsFree kind front → up_to kind (front ++ mark kind ∷ more) ≡ Ok (mark kind ∷ more)
-up_to_again kind [] more free = rw (mark_self kind) refl
-up_to_again kind (l ∷ ls) more free = rw (other_mark kind l free.0) (up_to_again kind ls more free.1)
+up_to_again : (kind : TokenKind) (front more : List Lexeme) → IsFree kind front → up_to kind (front ++ punctuation kind ∷ more) ≡ Ok (punctuation kind ∷ more)
+up_to_again kind [] more free = rw (punctuation_self kind) refl
+up_to_again kind (l ∷ ls) more free = rw (other_punctuation kind l free.0) (up_to_again kind ls more free.1)
 
 among_macro : (l : Lexeme) → is_macro l ≡ true → IsWordOf macros (l ∷ [])
 among_macro l is =
@@ -95,24 +95,24 @@ head_again text rest is follows =
         let w = word_of_again only_macro macros macro.0 (refl, (refl, (refl, (refl, (refl, (refl, (refl, tt))))))) macro.3 in
         let p = and_parts (is_macro w.0) (not (is_word (codes "OBJECT") w.0) && not (is_word (codes "OBJECT-TYPE") w.0)) w.2 in
         let q = and_parts (not (is_word (codes "OBJECT") w.0)) (not (is_word (codes "OBJECT-TYPE") w.0)) p.1 in
-        let whole : text ++ rest ≡ w.0 ∷ (macro.1 ++ (mark Assign ∷ follows.0)) = ap (λ (k : List Lexeme). k ++ rest) (macro.2 ∙ ap (λ (k : List Lexeme). k ++ macro.1) w.1) ∙ ap (λ (k : List Lexeme). w.0 ∷ (macro.1 ++ k)) follows.1 in
+        let whole : text ++ rest ≡ w.0 ∷ (macro.1 ++ (punctuation Assign ∷ follows.0)) = ap (λ (k : List Lexeme). k ++ rest) (macro.2 ∙ ap (λ (k : List Lexeme). k ++ macro.1) w.1) ∙ ap (λ (k : List Lexeme). w.0 ∷ (macro.1 ++ k)) follows.1 in
         ap head_at whole ∙ rw (not_true (is_word (codes "OBJECT") w.0) q.0, not_true (is_word (codes "OBJECT-TYPE") w.0) q.1, p.0) (up_to_again Assign macro.1 follows.0 macro.4) ∙ ap (λ (k : List Lexeme). Ok k) (sym follows.1)
 
 -- ---- values' assignments
 
 abbrev Defines : Definition → List Lexeme → Type 0
-Defines d = IsHead ▸ (IsThis (mark Assign) ▸ IsValue d.parent d.numbers)
+Defines d = IsHead ▸ (IsThis (punctuation Assign) ▸ IsValue d.parent d.numbers)
 
 definition_takes : (name : List ℕ) (ls : List Lexeme) (d : Definition) (rest : List Lexeme) → definition_at name ls ≡ Ok (d, rest) → (text : List Lexeme) × Defines d text × (d.name ≡ name) × (ls ≡ text ++ rest)
 unfolding definition_at
 definition_takes name ls d rest is =
-    let x = bind_ok (head_at ls) (λ h. mark_at Assign h >>= λ r. value_at r >>= λ v. Ok (record { name = name; parent = v.0.0; numbers = v.0.1 }, v.1)) (d, rest) is in
-    let y = bind_ok (mark_at Assign x.0) (λ r. value_at r >>= λ v. Ok (record { name = name; parent = v.0.0; numbers = v.0.1 }, v.1)) (d, rest) x.2 in
+    let x = bind_ok (head_at ls) (λ h. punctuation_at Assign h >>= λ r. value_at r >>= λ v. Ok (record { name = name; parent = v.0.0; numbers = v.0.1 }, v.1)) (d, rest) is in
+    let y = bind_ok (punctuation_at Assign x.0) (λ r. value_at r >>= λ v. Ok (record { name = name; parent = v.0.0; numbers = v.0.1 }, v.1)) (d, rest) x.2 in
     let z = bind_ok (value_at y.0) (λ v. Ok (record { name = name; parent = v.0.0; numbers = v.0.1 }, v.1)) (d, rest) y.2 in
     let made : Definition = record { name = name; parent = z.0.0.0; numbers = z.0.0.1 } in
     let p = pair_parts made d z.0.1 rest z.2 in
     let head = head_takes ls x.0 x.1 in
-    let assign = mark_takes Assign x.0 y.0 y.1 in
+    let assign = punctuation_takes Assign x.0 y.0 y.1 in
     let value = value_takes y.0 z.0.0 z.0.1 z.1 in
     let text : List Lexeme = head.0 ++ (assign.0 ++ value.0) in
     let defines : Defines made text = (head.0, assign.0 ++ value.0, refl, head.1, (assign.0, value.0, refl, assign.1, value.1)) in (
@@ -126,9 +126,9 @@ definition_again : (d : Definition) (text rest : List Lexeme) → Defines d text
 unfolding definition_at
 definition_again d text rest is =
     let inner = is.4 in
-    let after : is.1 ++ rest ≡ mark Assign ∷ (inner.1 ++ rest) = ap (λ (k : List Lexeme). k ++ rest) (inner.2 ∙ ap (λ (k : List Lexeme). k ++ inner.1) inner.3) in
-    let whole : text ++ rest ≡ is.0 ++ (mark Assign ∷ (inner.1 ++ rest)) = ap (λ (k : List Lexeme). k ++ rest) is.2 ∙ append_assoc is.0 is.1 rest ∙ ap (λ (k : List Lexeme). is.0 ++ k) after in
-    let head : head_at (is.0 ++ (mark Assign ∷ (inner.1 ++ rest))) ≡ Ok (mark Assign ∷ (inner.1 ++ rest)) = head_again is.0 (mark Assign ∷ (inner.1 ++ rest)) is.3 (inner.1 ++ rest, refl) in
+    let after : is.1 ++ rest ≡ punctuation Assign ∷ (inner.1 ++ rest) = ap (λ (k : List Lexeme). k ++ rest) (inner.2 ∙ ap (λ (k : List Lexeme). k ++ inner.1) inner.3) in
+    let whole : text ++ rest ≡ is.0 ++ (punctuation Assign ∷ (inner.1 ++ rest)) = ap (λ (k : List Lexeme). k ++ rest) is.2 ∙ append_assoc is.0 is.1 rest ∙ ap (λ (k : List Lexeme). is.0 ++ k) after in
+    let head : head_at (is.0 ++ (punctuation Assign ∷ (inner.1 ++ rest))) ≡ Ok (punctuation Assign ∷ (inner.1 ++ rest)) = head_again is.0 (punctuation Assign ∷ (inner.1 ++ rest)) is.3 (inner.1 ++ rest, refl) in
     let value : value_at (inner.1 ++ rest) ≡ Ok ((d.parent, d.numbers), rest) = value_again inner.1 (d.parent, d.numbers) rest inner.4 in
     rw (whole, head) (rw value refl)
 
@@ -146,12 +146,12 @@ conv_begins text is rest =
     is.2 ∙ ap (λ (k : List Lexeme). k ++ is.1) none ∙ is.4.2 ∙ ap (λ (k : List Lexeme). k ++ is.4.1) (d.2 ∙ ap (λ (k : List Lexeme). k ++ d.1) (status.2 ∙ ap (λ (k : List Lexeme). k ++ status.1) status.3 ∙ ap (λ (k : List Lexeme). word (codes "STATUS") ∷ k) w.1)) in
     ap (λ (k : List Lexeme). is_convention (word (codes "TEXTUAL-CONVENTION") ∷ (k ++ rest))) shape ∙ w.2)
     (λ (hint : IsClause (codes "DISPLAY-HINT") Text is.0).
-    let shape : text ≡ word (codes "DISPLAY-HINT") ∷ mark Quoted ∷ is.1 = is.2 ∙ ap (λ (k : List Lexeme). k ++ is.1) (hint.2 ∙ ap (λ (k : List Lexeme). k ++ hint.1) hint.3 ∙ ap (λ (k : List Lexeme). word (codes "DISPLAY-HINT") ∷ k) hint.4) in
+    let shape : text ≡ word (codes "DISPLAY-HINT") ∷ punctuation Quoted ∷ is.1 = is.2 ∙ ap (λ (k : List Lexeme). k ++ is.1) (hint.2 ∙ ap (λ (k : List Lexeme). k ++ hint.1) hint.3 ∙ ap (λ (k : List Lexeme). word (codes "DISPLAY-HINT") ∷ k) hint.4) in
     ap (λ (k : List Lexeme). is_convention (word (codes "TEXTUAL-CONVENTION") ∷ (k ++ rest))) shape)
     is.3
   where
     other_than_assign : Lexeme → Bool
-    other_than_assign l = not (is_mark Assign l)
+    other_than_assign l = not (is_punctuation Assign l)
 
 -- a type is no convention
 no_convention : (text rest : List Lexeme) → IsType text → Follows rest → is_convention (text ++ rest) ≡ false
@@ -199,18 +199,18 @@ textual_again : Again (IsThis (word (codes "TEXTUAL-CONVENTION")) ▸ IsConventi
 unfolding textual_at
 textual_again = seq_again (IsThis (word (codes "TEXTUAL-CONVENTION"))) IsConvention Any Follows (word_at (codes "TEXTUAL-CONVENTION")) convention_at (word_again (codes "TEXTUAL-CONVENTION")) convention_again (λ text rest is follows. tt)
 
-body_takes : (ls rest : List Lexeme) → type_body_at ls ≡ Ok rest → (body : List Lexeme) × IsTypeBody body × (ls ≡ mark Assign ∷ (body ++ rest))
+body_takes : (ls rest : List Lexeme) → type_body_at ls ≡ Ok rest → (body : List Lexeme) × IsTypeBody body × (ls ≡ punctuation Assign ∷ (body ++ rest))
 unfolding type_body_at
 body_takes ls rest is =
-    let x = bind_ok (mark_at Assign ls) (λ r. cond (is_convention r) (textual_at r) (type_at r)) rest is in
-    let assign = mark_takes Assign ls x.0 x.1 in
-    let first : ls ≡ mark Assign ∷ x.0 = assign.2 ∙ ap (λ (k : List Lexeme). k ++ x.0) assign.1 in
+    let x = bind_ok (punctuation_at Assign ls) (λ r. cond (is_convention r) (textual_at r) (type_at r)) rest is in
+    let assign = punctuation_takes Assign ls x.0 x.1 in
+    let first : ls ≡ punctuation Assign ∷ x.0 = assign.2 ∙ ap (λ (k : List Lexeme). k ++ x.0) assign.1 in
     ⊎_elim
-    (λ (textual : (is_convention x.0 ≡ true) × (textual_at x.0 ≡ Ok rest)). let t = textual_takes x.0 rest textual.1 in (t.0, inl t.1, first ∙ ap (λ (k : List Lexeme). mark Assign ∷ k) t.2))
-    (λ (plain : (is_convention x.0 ≡ false) × (type_at x.0 ≡ Ok rest)). let t = type_takes x.0 rest plain.1 in (t.0, inr t.1, first ∙ ap (λ (k : List Lexeme). mark Assign ∷ k) t.2))
+    (λ (textual : (is_convention x.0 ≡ true) × (textual_at x.0 ≡ Ok rest)). let t = textual_takes x.0 rest textual.1 in (t.0, inl t.1, first ∙ ap (λ (k : List Lexeme). punctuation Assign ∷ k) t.2))
+    (λ (plain : (is_convention x.0 ≡ false) × (type_at x.0 ≡ Ok rest)). let t = type_takes x.0 rest plain.1 in (t.0, inr t.1, first ∙ ap (λ (k : List Lexeme). punctuation Assign ∷ k) t.2))
     (chosen (is_convention x.0) (textual_at x.0) (type_at x.0) rest x.2)
 
-body_again : (body rest : List Lexeme) → IsTypeBody body → Follows rest → type_body_at (mark Assign ∷ (body ++ rest)) ≡ Ok rest
+body_again : (body rest : List Lexeme) → IsTypeBody body → Follows rest → type_body_at (punctuation Assign ∷ (body ++ rest)) ≡ Ok rest
 unfolding type_body_at
 body_again body rest is follows =
     ⊎_elim
@@ -227,7 +227,7 @@ name_takes : (ls : List Lexeme) (w : List ℕ) (rest : List Lexeme) → name_at 
 name_takes [] w rest is = absurd (cc)
 name_takes (word v ∷ ls) w rest is = let p = some_parts v w ls rest is in ap (λ (x : List ℕ). word x ∷ ls) p.0 ∙ ap (λ (k : List Lexeme). word w ∷ k) p.1
 name_takes (number d ∷ ls) w rest is = absurd (cc)
-name_takes (mark k ∷ ls) w rest is = absurd (cc)
+name_takes (punctuation k ∷ ls) w rest is = absurd (cc)
 
 pub assignment_takes : TakesOne IsAssignment assignment_at
 unfolding assignment_at assignment_of
@@ -251,9 +251,9 @@ assignment_takes ls a rest is =
     let y = bind_ok (type_body_at more) (λ r. Ok (passed_over r)) (a, rest) w.1 in
     let p = pair_parts None a y.0 rest y.2 in
     let t = body_takes more y.0 y.1 in (
-      word name ∷ mark Assign ∷ t.0,
-      subst (λ (o : Option Definition). IsAssignment (word name ∷ mark Assign ∷ t.0) o) p.0 (name, t.0, refl, w.0, t.1),
-      first ∙ ap (λ (k : List Lexeme). word name ∷ k) (t.2 ∙ ap (λ (k : List Lexeme). mark Assign ∷ (t.0 ++ k)) p.1),
+      word name ∷ punctuation Assign ∷ t.0,
+      subst (λ (o : Option Definition). IsAssignment (word name ∷ punctuation Assign ∷ t.0) o) p.0 (name, t.0, refl, w.0, t.1),
+      first ∙ ap (λ (k : List Lexeme). word name ∷ k) (t.2 ∙ ap (λ (k : List Lexeme). punctuation Assign ∷ (t.0 ++ k)) p.1),
     ))
     (chosen (begins_small name) (definition_at name more >>= λ d. Ok (assigned d)) (cond (begins_capital name) (type_body_at more >>= λ r. Ok (passed_over r)) (Err ls)) (a, rest) x.2)
 
@@ -272,7 +272,7 @@ assignment_again text (Some d) rest is follows =
     rw (whole, small) (rw (definition_again d is.0 rest is.3) refl)
 assignment_again text None rest is follows =
     let capital : begins_capital is.0 ≡ true = is.3 in
-    let whole : text ++ rest ≡ word is.0 ∷ mark Assign ∷ (is.1 ++ rest) = ap (λ (k : List Lexeme). k ++ rest) is.2 in
+    let whole : text ++ rest ≡ word is.0 ∷ punctuation Assign ∷ (is.1 ++ rest) = ap (λ (k : List Lexeme). k ++ rest) is.2 in
     rw (whole, capital_no_small is.0 capital, capital) (rw (body_again is.1 rest is.4 follows) refl)
 
 small_goes : (w : List ℕ) → begins_small w ≡ true → goes_on_type (word w) ≡ false
@@ -309,7 +309,7 @@ assignment_two text (Some d) is =
     let deep = inner.4 in
     let rest_len : length is.0 ≡ length inner.0 + length inner.1 = ap (λ (k : List Lexeme). length k) inner.2 ∙ length-append inner.0 inner.1 in
     let value_len : length inner.1 ≡ length deep.0 + length deep.1 = ap (λ (k : List Lexeme). length k) deep.2 ∙ length-append deep.0 deep.1 in
-    let one_mark : length deep.0 ≡ 1 = ap (λ (k : List Lexeme). length k) deep.3 in
+    let one_punctuation : length deep.0 ≡ 1 = ap (λ (k : List Lexeme). length k) deep.3 in
     omega arith
 assignment_two text None is = let lens : length text ≡ suc (suc (length is.1)) = ap (λ (k : List Lexeme). length k) is.2 in omega arith
 
@@ -354,27 +354,27 @@ definitions_again body xs are =
     ap (λ (r : Read (List Definition × List Lexeme)). r >>= λ all. Ok all.0)
     (many_again assignment_at option_to_list ends_module IsAssignment Follows assignment_again assignment_leads assignment_some assignment_goes (length (body ++ the_end)) body xs the_end are end_follows refl (omega arith))
 
-imported_takes : (ls rest : List Lexeme) → begins_word (codes "IMPORTS") ls ≡ true → imported_at ls ≡ Ok rest → (names : List Lexeme) × IsFree Semicolon names × (ls ≡ (word (codes "IMPORTS") ∷ names ++ mark Semicolon ∷ []) ++ rest)
+imported_takes : (ls rest : List Lexeme) → begins_word (codes "IMPORTS") ls ≡ true → imported_at ls ≡ Ok rest → (names : List Lexeme) × IsFree Semicolon names × (ls ≡ (word (codes "IMPORTS") ∷ names ++ punctuation Semicolon ∷ []) ++ rest)
 unfolding imported_at
 imported_takes ls rest first is =
-    let x = bind_ok (up_to Semicolon ls) (mark_at Semicolon) rest is in
+    let x = bind_ok (up_to Semicolon ls) (punctuation_at Semicolon) rest is in
     let t = up_to_takes Semicolon ls x.0 x.1 in
-    let semi = mark_takes Semicolon x.0 rest x.2 in
-    let after : x.0 ≡ mark Semicolon ∷ rest = semi.2 ∙ ap (λ (k : List Lexeme). k ++ rest) semi.1 in
+    let semi = punctuation_takes Semicolon x.0 rest x.2 in
+    let after : x.0 ≡ punctuation Semicolon ∷ rest = semi.2 ∙ ap (λ (k : List Lexeme). k ++ rest) semi.1 in
     go t.0 t.1 (t.2 ∙ ap (λ (k : List Lexeme). t.0 ++ k) after)
   where
-    go : (front : List Lexeme) → IsFree Semicolon front → ls ≡ front ++ mark Semicolon ∷ rest → (names : List Lexeme) × IsFree Semicolon names × (ls ≡ (word (codes "IMPORTS") ∷ names ++ mark Semicolon ∷ []) ++ rest)
+    go : (front : List Lexeme) → IsFree Semicolon front → ls ≡ front ++ punctuation Semicolon ∷ rest → (names : List Lexeme) × IsFree Semicolon names × (ls ≡ (word (codes "IMPORTS") ∷ names ++ punctuation Semicolon ∷ []) ++ rest)
     go [] free whole = let no_word : begins_word (codes "IMPORTS") ls ≡ false = ap (begins_word (codes "IMPORTS")) whole in absurd (cc)
     go (l ∷ names) free whole =
         let here : is_word (codes "IMPORTS") l ≡ true = sym (ap (begins_word (codes "IMPORTS")) whole) ∙ first in
-        (names, free.1, whole ∙ ap (λ (x : Lexeme). x ∷ (names ++ mark Semicolon ∷ rest)) (word_is (codes "IMPORTS") l here) ∙ ap (λ (k : List Lexeme). word (codes "IMPORTS") ∷ k) (sym (append_assoc names (mark Semicolon ∷ []) rest)))
+        (names, free.1, whole ∙ ap (λ (x : Lexeme). x ∷ (names ++ punctuation Semicolon ∷ rest)) (word_is (codes "IMPORTS") l here) ∙ ap (λ (k : List Lexeme). word (codes "IMPORTS") ∷ k) (sym (append_assoc names (punctuation Semicolon ∷ []) rest)))
 
 pub imports_take : (ls rest : List Lexeme) → imports_at ls ≡ Ok rest → (imports : List Lexeme) × AreImports imports rest × (ls ≡ imports ++ rest)
 unfolding imports_at
 imports_take ls rest is =
     ⊎_elim
     (λ (there : (begins_word (codes "IMPORTS") ls ≡ true) × (imported_at ls ≡ Ok rest)). let t = imported_takes ls rest there.0 there.1 in
-    (word (codes "IMPORTS") ∷ t.0 ++ mark Semicolon ∷ [], inr (t.0, refl, t.1), t.2))
+    (word (codes "IMPORTS") ∷ t.0 ++ punctuation Semicolon ∷ [], inr (t.0, refl, t.1), t.2))
     (λ (none : (begins_word (codes "IMPORTS") ls ≡ false) × (Ok ls ≡ Ok rest)). let same = ok_is ls rest none.1 in
     ([], inl (refl, λ more is_it. no_imports more (same ∙ is_it) none.0), same))
     (chosen (begins_word (codes "IMPORTS") ls) (imported_at ls) (Ok ls) rest is)
@@ -388,8 +388,8 @@ imports_again imports rest is =
     ⊎_elim
     (λ (none : (imports ≡ []) × ((more : List Lexeme) → rest ≡ word (codes "IMPORTS") ∷ more → ⊥)).
     subst (λ (k : List Lexeme). imports_at (k ++ rest) ≡ Ok rest) (sym none.0) (rw (other rest none.1) refl))
-    (λ (there : (names : List Lexeme) × (imports ≡ word (codes "IMPORTS") ∷ names ++ mark Semicolon ∷ []) × IsFree Semicolon names).
-    let whole : imports ++ rest ≡ word (codes "IMPORTS") ∷ (there.0 ++ mark Semicolon ∷ rest) = ap (λ (k : List Lexeme). k ++ rest) there.1 ∙ ap (λ (k : List Lexeme). word (codes "IMPORTS") ∷ k) (append_assoc there.0 (mark Semicolon ∷ []) rest) in
+    (λ (there : (names : List Lexeme) × (imports ≡ word (codes "IMPORTS") ∷ names ++ punctuation Semicolon ∷ []) × IsFree Semicolon names).
+    let whole : imports ++ rest ≡ word (codes "IMPORTS") ∷ (there.0 ++ punctuation Semicolon ∷ rest) = ap (λ (k : List Lexeme). k ++ rest) there.1 ∙ ap (λ (k : List Lexeme). word (codes "IMPORTS") ∷ k) (append_assoc there.0 (punctuation Semicolon ∷ []) rest) in
     rw (whole, up_to_again Semicolon there.0 rest there.2) refl)
     is
   where
@@ -404,20 +404,20 @@ module_takes ls name defs is =
     let w = wanted (begins_capital x.0.0) (module_body_at x.0.1 >>= λ ds. Ok (x.0.0, ds)) ls (name, defs) x.2 in
     let y = bind_ok (module_body_at x.0.1) (λ ds. Ok (x.0.0, ds)) (name, defs) w.1 in
     let p = pair_parts x.0.0 name y.0 defs y.2 in
-    let a = bind_ok (word_at (codes "DEFINITIONS") x.0.1) (λ k. mark_at Assign k >>= λ m. word_at (codes "BEGIN") m >>= λ n. imports_at n >>= definitions_at) y.0 y.1 in
-    let b = bind_ok (mark_at Assign a.0) (λ m. word_at (codes "BEGIN") m >>= λ n. imports_at n >>= definitions_at) y.0 a.2 in
+    let a = bind_ok (word_at (codes "DEFINITIONS") x.0.1) (λ k. punctuation_at Assign k >>= λ m. word_at (codes "BEGIN") m >>= λ n. imports_at n >>= definitions_at) y.0 y.1 in
+    let b = bind_ok (punctuation_at Assign a.0) (λ m. word_at (codes "BEGIN") m >>= λ n. imports_at n >>= definitions_at) y.0 a.2 in
     let c = bind_ok (word_at (codes "BEGIN") b.0) (λ n. imports_at n >>= definitions_at) y.0 b.2 in
     let d = bind_ok (imports_at c.0) definitions_at y.0 c.2 in
     let first = word_takes (codes "DEFINITIONS") x.0.1 a.0 a.1 in
-    let second = mark_takes Assign a.0 b.0 b.1 in
+    let second = punctuation_takes Assign a.0 b.0 b.1 in
     let third = word_takes (codes "BEGIN") b.0 c.0 c.1 in
     let imports = imports_take c.0 d.0 d.1 in
     let body = definitions_take d.0 y.0 d.2 in
-    let whole : ls ≡ word name ∷ word (codes "DEFINITIONS") ∷ mark Assign ∷ word (codes "BEGIN") ∷ imports.0 ++ (body.0 ++ the_end) =
+    let whole : ls ≡ word name ∷ word (codes "DEFINITIONS") ∷ punctuation Assign ∷ word (codes "BEGIN") ∷ imports.0 ++ (body.0 ++ the_end) =
     name_takes ls x.0.0 x.0.1 (from_left ls (name_at ls) x.0 x.1) ∙ ap (λ (v : List ℕ). word v ∷ x.0.1) p.0
     ∙ ap (λ (k : List Lexeme). word name ∷ k) (first.2 ∙ ap (λ (k : List Lexeme). k ++ a.0) first.1
     ∙ ap (λ (k : List Lexeme). word (codes "DEFINITIONS") ∷ k) (second.2 ∙ ap (λ (k : List Lexeme). k ++ b.0) second.1
-    ∙ ap (λ (k : List Lexeme). mark Assign ∷ k) (third.2 ∙ ap (λ (k : List Lexeme). k ++ c.0) third.1
+    ∙ ap (λ (k : List Lexeme). punctuation Assign ∷ k) (third.2 ∙ ap (λ (k : List Lexeme). k ++ c.0) third.1
     ∙ ap (λ (k : List Lexeme). word (codes "BEGIN") ∷ k) (imports.2 ∙ ap (λ (k : List Lexeme). imports.0 ++ k) body.4)))) in
     record {
       imports = imports.0;

@@ -7,9 +7,9 @@ use Rattle.mon_smi.specs.declared.kind.TokenKind.{TokenKind}
 use Rattle.mon_smi.specs.declared.kind.TokenKind.TheVariants.{Word, Number, Quoted, Hex, Binary, Assign, Range, LeftBrace, RightBrace, LeftParen, RightParen, LeftBracket, RightBracket, Comma, Semicolon, Dot, Bar}
 use Rattle.mon_smi.specs.declared.part.Part.{Part}
 use Rattle.mon_smi.specs.declared.part.Part.TheVariants.{Syntax, Text, Access, Status, Word, Group}
-use Rattle.mon_smi.specs.Lexemes.{Lexeme, word, number, mark, code_of, same_text, is_word, is_mark, begins_capital, is_capital, is_any_word}
+use Rattle.mon_smi.specs.Lexemes.{Lexeme, word, number, punctuation, code_of, same_text, is_word, is_punctuation, begins_capital, is_capital, is_any_word}
 use Rattle.mon_oid.specs.Steps.{◌>>=◌}
-use Rattle.mon_smi.specs.Reading.{Read, one, word_at, mark_at, begins, begins_word, nested_at, group_at, is_pair, is_sequence_of, type_name_at, maybe_group, type_at, is_access, is_status, part_at, clause_at, optional_at, index_at, syntax_at, described_at, object_type_at, convention_at}
+use Rattle.mon_smi.specs.Reading.{Read, one, word_at, punctuation_at, begins, begins_word, nested_at, group_at, is_pair, is_sequence_of, type_name_at, maybe_group, type_at, is_access, is_status, part_at, clause_at, optional_at, index_at, syntax_at, described_at, object_type_at, convention_at}
 use Rattle.mon_smi.specs.Grammar.{◌▸◌, IsThis, IsWordOf, IsNested, IsBalanced, IsTypeName, IsMaybeGroup, IsType, accesses, statuses, IsClausePart, IsClause, IsOptional, IsIndex, IsSyntax, IsDescribed, IsObjectType, IsConvention}
 
 -- ---- tests
@@ -73,18 +73,18 @@ kind_back Bar = refl
 pub word_is : (w : List ℕ) (l : Lexeme) → is_word w l ≡ true → l ≡ word w
 word_is w (word v) is = ap (λ (x : List ℕ). word x) (same_is v w is)
 word_is w (number d) is = absurd (cc)
-word_is w (mark k) is = absurd (cc)
+word_is w (punctuation k) is = absurd (cc)
 
-pub mark_is : (k : TokenKind) (l : Lexeme) → is_mark k l ≡ true → l ≡ mark k
-mark_is k (word v) is = absurd (cc)
-mark_is k (number d) is = absurd (cc)
-mark_is k (mark j) is = ap (λ (x : TokenKind). mark x) (sym (kind_back j) ∙ ap kind_of (eqb-true (code_of j) (code_of k) is) ∙ kind_back k)
+pub punctuation_is : (k : TokenKind) (l : Lexeme) → is_punctuation k l ≡ true → l ≡ punctuation k
+punctuation_is k (word v) is = absurd (cc)
+punctuation_is k (number d) is = absurd (cc)
+punctuation_is k (punctuation j) is = ap (λ (x : TokenKind). punctuation x) (sym (kind_back j) ∙ ap kind_of (eqb-true (code_of j) (code_of k) is) ∙ kind_back k)
 
 pub word_self : (w : List ℕ) → is_word w (word w) ≡ true
 word_self w = same_self w
 
-pub mark_self : (k : TokenKind) → is_mark k (mark k) ≡ true
-mark_self k = same_number (code_of k)
+pub punctuation_self : (k : TokenKind) → is_punctuation k (punctuation k) ≡ true
+punctuation_self k = same_number (code_of k)
 
 -- ---- readers of what follows
 
@@ -152,57 +152,57 @@ word_takes w = one_takes (is_word w) (IsThis (word w)) (λ l is. ap (λ (x : Lex
 pub word_again : (w : List ℕ) → Again (IsThis (word w)) Any (word_at w)
 word_again w = one_again (is_word w) (IsThis (word w)) (λ text is. (word w, is, word_self w))
 
-pub mark_takes : (k : TokenKind) → Takes (IsThis (mark k)) (mark_at k)
-mark_takes k = one_takes (is_mark k) (IsThis (mark k)) (λ l is. ap (λ (x : Lexeme). x ∷ []) (mark_is k l is))
+pub punctuation_takes : (k : TokenKind) → Takes (IsThis (punctuation k)) (punctuation_at k)
+punctuation_takes k = one_takes (is_punctuation k) (IsThis (punctuation k)) (λ l is. ap (λ (x : Lexeme). x ∷ []) (punctuation_is k l is))
 
-pub mark_again : (k : TokenKind) → Again (IsThis (mark k)) Any (mark_at k)
-mark_again k = one_again (is_mark k) (IsThis (mark k)) (λ text is. (mark k, is, mark_self k))
+pub punctuation_again : (k : TokenKind) → Again (IsThis (punctuation k)) Any (punctuation_at k)
+punctuation_again k = one_again (is_punctuation k) (IsThis (punctuation k)) (λ text is. (punctuation k, is, punctuation_self k))
 
 pub this_word : (w : List ℕ) (l : Lexeme) → is_word w l ≡ true → l ∷ [] ≡ word w ∷ []
 this_word w l is = ap (λ (x : Lexeme). x ∷ []) (word_is w l is)
 
 -- ---- groups
 
-nested_takes : (left right : TokenKind) (depth : ℕ) (ls rest : List Lexeme) → nested_at left right depth ls ≡ Ok rest → (inner : List Lexeme) × IsNested left right depth inner × (ls ≡ inner ++ mark right ∷ rest)
+nested_takes : (left right : TokenKind) (depth : ℕ) (ls rest : List Lexeme) → nested_at left right depth ls ≡ Ok rest → (inner : List Lexeme) × IsNested left right depth inner × (ls ≡ inner ++ punctuation right ∷ rest)
 nested_takes left right depth [] rest is = absurd (cc)
 nested_takes left right depth (l ∷ ls) rest is =
     ⊎_elim
     (λ opening. let more = nested_takes left right (suc depth) ls rest opening.1 in
-    (l ∷ more.0, inl (mark_is left l opening.0, more.1), ap (λ (k : List Lexeme). l ∷ k) more.2))
+    (l ∷ more.0, inl (punctuation_is left l opening.0, more.1), ap (λ (k : List Lexeme). l ∷ k) more.2))
     (λ other. ⊎_elim
     (λ closing. ⊎_elim
-    (λ last. ([], eqb-true depth 0 last.0, ap (λ (x : Lexeme). x ∷ ls) (mark_is right l closing.0) ∙ ap (λ (k : List Lexeme). mark right ∷ k) (ok_is ls rest last.1)))
+    (λ last. ([], eqb-true depth 0 last.0, ap (λ (x : Lexeme). x ∷ ls) (punctuation_is right l closing.0) ∙ ap (λ (k : List Lexeme). punctuation right ∷ k) (ok_is ls rest last.1)))
     (λ inside. let more = nested_takes left right (depth - 1) ls rest inside.1 in
-    (l ∷ more.0, inr (inl (depth - 1, mark_is right l closing.0, positive depth inside.0, more.1)), ap (λ (k : List Lexeme). l ∷ k) more.2))
+    (l ∷ more.0, inr (inl (depth - 1, punctuation_is right l closing.0, positive depth inside.0, more.1)), ap (λ (k : List Lexeme). l ∷ k) more.2))
     (chosen (depth == 0) (Ok ls) (nested_at left right (depth - 1) ls) rest closing.1))
     (λ neither. let more = nested_takes left right depth ls rest neither.1 in
-    (l ∷ more.0, inr (inr ((λ same. no_mark left l other.0 same), (λ same. no_mark right l neither.0 same), more.1)), ap (λ (k : List Lexeme). l ∷ k) more.2))
-    (chosen (is_mark right l) (cond (depth == 0) (Ok ls) (nested_at left right (depth - 1) ls)) (nested_at left right depth ls) rest other.1))
-    (chosen (is_mark left l) (nested_at left right (suc depth) ls) (cond (is_mark right l) (cond (depth == 0) (Ok ls) (nested_at left right (depth - 1) ls)) (nested_at left right depth ls)) rest is)
+    (l ∷ more.0, inr (inr ((λ same. no_punctuation left l other.0 same), (λ same. no_punctuation right l neither.0 same), more.1)), ap (λ (k : List Lexeme). l ∷ k) more.2))
+    (chosen (is_punctuation right l) (cond (depth == 0) (Ok ls) (nested_at left right (depth - 1) ls)) (nested_at left right depth ls) rest other.1))
+    (chosen (is_punctuation left l) (nested_at left right (suc depth) ls) (cond (is_punctuation right l) (cond (depth == 0) (Ok ls) (nested_at left right (depth - 1) ls)) (nested_at left right depth ls)) rest is)
   where
-    no_mark : (k : TokenKind) (x : Lexeme) → is_mark k x ≡ false → x ≡ mark k → ⊥
-    no_mark k x no_case same = let yes_case : is_mark k x ≡ true = ap (is_mark k) same ∙ mark_self k in absurd (cc)
+    no_punctuation : (k : TokenKind) (x : Lexeme) → is_punctuation k x ≡ false → x ≡ punctuation k → ⊥
+    no_punctuation k x no_case same = let yes_case : is_punctuation k x ≡ true = ap (is_punctuation k) same ∙ punctuation_self k in absurd (cc)
 
     positive : (n : ℕ) → (n == 0) ≡ false → n ≡ suc (n - 1)
     positive zero some = absurd (cc)
     positive (suc n) some = omega arith
 
-pub other_mark : (k : TokenKind) (l : Lexeme) → (l ≡ mark k → ⊥) → is_mark k l ≡ false
-other_mark k l other = not_false (is_mark k l) (λ is. other (mark_is k l is))
+pub other_punctuation : (k : TokenKind) (l : Lexeme) → (l ≡ punctuation k → ⊥) → is_punctuation k l ≡ false
+other_punctuation k l other = not_false (is_punctuation k l) (λ is. other (punctuation_is k l is))
 
-nested_again : (left right : TokenKind) → is_mark left (mark right) ≡ false → (depth : ℕ) (inner rest : List Lexeme) → IsNested left right depth inner → nested_at left right depth (inner ++ mark right ∷ rest) ≡ Ok rest
-nested_again left right apart depth [] rest is = rw (apart, mark_self right, is) refl
+nested_again : (left right : TokenKind) → is_punctuation left (punctuation right) ≡ false → (depth : ℕ) (inner rest : List Lexeme) → IsNested left right depth inner → nested_at left right depth (inner ++ punctuation right ∷ rest) ≡ Ok rest
+nested_again left right apart depth [] rest is = rw (apart, punctuation_self right, is) refl
 nested_again left right apart depth (l ∷ ls) rest is =
     ⊎_elim
-    (λ (opening : (l ≡ mark left) × IsNested left right (suc depth) ls). let here : is_mark left l ≡ true = ap (is_mark left) opening.0 ∙ mark_self left in rw here (nested_again left right apart (suc depth) ls rest opening.1))
+    (λ (opening : (l ≡ punctuation left) × IsNested left right (suc depth) ls). let here : is_punctuation left l ≡ true = ap (is_punctuation left) opening.0 ∙ punctuation_self left in rw here (nested_again left right apart (suc depth) ls rest opening.1))
     (λ other. ⊎_elim
-    (λ (closing : (before : ℕ) × (l ≡ mark right) × (depth ≡ suc before) × IsNested left right before ls).
-    let no_left : is_mark left l ≡ false = ap (is_mark left) closing.1 ∙ apart in
-    let here : is_mark right l ≡ true = ap (is_mark right) closing.1 ∙ mark_self right in
+    (λ (closing : (before : ℕ) × (l ≡ punctuation right) × (depth ≡ suc before) × IsNested left right before ls).
+    let no_left : is_punctuation left l ≡ false = ap (is_punctuation left) closing.1 ∙ apart in
+    let here : is_punctuation right l ≡ true = ap (is_punctuation right) closing.1 ∙ punctuation_self right in
     let deep : (depth == 0) ≡ false = ap (λ n. n == 0) closing.2 ∙ positive closing.0 in
     let less : depth - 1 ≡ closing.0 = (let is_suc = closing.2 in omega arith) in
-    rw (no_left, here, deep) (ap (λ n. nested_at left right n (ls ++ mark right ∷ rest)) less ∙ nested_again left right apart closing.0 ls rest closing.3))
-    (λ (neither : (l ≡ mark left → ⊥) × (l ≡ mark right → ⊥) × IsNested left right depth ls). rw (other_mark left l neither.0, other_mark right l neither.1) (nested_again left right apart depth ls rest neither.2))
+    rw (no_left, here, deep) (ap (λ n. nested_at left right n (ls ++ punctuation right ∷ rest)) less ∙ nested_again left right apart closing.0 ls rest closing.3))
+    (λ (neither : (l ≡ punctuation left → ⊥) × (l ≡ punctuation right → ⊥) × IsNested left right depth ls). rw (other_punctuation left l neither.0, other_punctuation right l neither.1) (nested_again left right apart depth ls rest neither.2))
     other)
     is
   where
@@ -212,16 +212,16 @@ nested_again left right apart depth (l ∷ ls) rest is =
 pub group_takes : (left right : TokenKind) → Takes (IsBalanced left right) (group_at left right)
 unfolding group_at
 group_takes left right ls rest is =
-    let x = bind_ok (mark_at left ls) (nested_at left right 0) rest is in
-    let p = mark_takes left ls x.0 x.1 in
+    let x = bind_ok (punctuation_at left ls) (nested_at left right 0) rest is in
+    let p = punctuation_takes left ls x.0 x.1 in
     let q = nested_takes left right 0 x.0 rest x.2 in
-    (mark left ∷ q.0 ++ mark right ∷ [], (q.0, refl, q.1), p.2 ∙ ap (λ (k : List Lexeme). k ++ x.0) p.1 ∙ ap (λ (k : List Lexeme). mark left ∷ k) (q.2 ∙ sym (append_assoc q.0 (mark right ∷ []) rest)))
+    (punctuation left ∷ q.0 ++ punctuation right ∷ [], (q.0, refl, q.1), p.2 ∙ ap (λ (k : List Lexeme). k ++ x.0) p.1 ∙ ap (λ (k : List Lexeme). punctuation left ∷ k) (q.2 ∙ sym (append_assoc q.0 (punctuation right ∷ []) rest)))
 
-pub group_again : (left right : TokenKind) → is_mark left (mark right) ≡ false → Again (IsBalanced left right) Any (group_at left right)
+pub group_again : (left right : TokenKind) → is_punctuation left (punctuation right) ≡ false → Again (IsBalanced left right) Any (group_at left right)
 unfolding group_at
 group_again left right apart text rest is follows =
-    let whole : text ++ rest ≡ mark left ∷ is.0 ++ mark right ∷ rest = ap (λ (k : List Lexeme). k ++ rest) is.1 ∙ ap (λ (k : List Lexeme). mark left ∷ k) (append_assoc is.0 (mark right ∷ []) rest) in
-    rw (whole, mark_self left) (nested_again left right apart 0 is.0 rest is.2)
+    let whole : text ++ rest ≡ punctuation left ∷ is.0 ++ punctuation right ∷ rest = ap (λ (k : List Lexeme). k ++ rest) is.1 ∙ ap (λ (k : List Lexeme). punctuation left ∷ k) (append_assoc is.0 (punctuation right ∷ []) rest) in
+    rw (whole, punctuation_self left) (nested_again left right apart 0 is.0 rest is.2)
 
 -- ---- types
 
@@ -273,12 +273,12 @@ no_pair v w name (l ∷ ls) goes clear = rw (pair_off w l ls (goes l) clear) (an
 no_sequence : (name : List ℕ) (rest : List Lexeme) → is_clear rest ≡ true → is_sequence_of (word name ∷ rest) ≡ false
 no_sequence name [] clear = refl
 no_sequence name (l ∷ []) clear = refl
-no_sequence name (l ∷ c ∷ ls) clear = rw (inner (is_word (codes "OF") l) (is_mark Assign c) refl refl) (and_false (is_word (codes "SEQUENCE") (word name)))
+no_sequence name (l ∷ c ∷ ls) clear = rw (inner (is_word (codes "OF") l) (is_punctuation Assign c) refl refl) (and_false (is_word (codes "SEQUENCE") (word name)))
   where
-    no_capital : (x : Lexeme) → is_mark Assign x ≡ true → is_capital x ≡ false
-    no_capital x is = ap is_capital (mark_is Assign x is)
+    no_capital : (x : Lexeme) → is_punctuation Assign x ≡ true → is_capital x ≡ false
+    no_capital x is = ap is_capital (punctuation_is Assign x is)
 
-    inner : (t u : Bool) → is_word (codes "OF") l ≡ t → is_mark Assign c ≡ u → (t && is_capital c) ≡ false
+    inner : (t u : Bool) → is_word (codes "OF") l ≡ t → is_punctuation Assign c ≡ u → (t && is_capital c) ≡ false
     inner false u e f = refl
     inner true true e f = no_capital c f
     inner true false e f = let yes_case : goes_on_type l ≡ true = is_of l e in let wrong : (not true || false) ≡ true = (rw (yes_case, f) at clear) in absurd (cc)
@@ -310,7 +310,7 @@ pair_is v w (a ∷ b ∷ ls) is =
 capital_is : (l : Lexeme) → is_capital l ≡ true → (name : List ℕ) × (l ≡ word name) × IsTrue (begins_capital name)
 capital_is (word w) is = (w, refl, is)
 capital_is (number d) is = absurd (cc)
-capital_is (mark k) is = absurd (cc)
+capital_is (punctuation k) is = absurd (cc)
 
 sequence_is : (ls : List Lexeme) → is_sequence_of ls ≡ true → (name : List ℕ) × (ls ≡ word (codes "SEQUENCE") ∷ word (codes "OF") ∷ word name ∷ drop 3 ls) × IsTrue (begins_capital name)
 sequence_is [] is = absurd (cc)
@@ -426,12 +426,12 @@ BehindPart Group rest = Unit {0}
 any_word_is : (l : Lexeme) → is_any_word l ≡ true → IsClausePart Word (l ∷ [])
 any_word_is (word w) is = (w, refl)
 any_word_is (number d) is = absurd (cc)
-any_word_is (mark k) is = absurd (cc)
+any_word_is (punctuation k) is = absurd (cc)
 
 part_takes : (part : Part) → Takes (IsClausePart part) (part_at part)
 unfolding part_at
 part_takes Syntax = type_takes
-part_takes Text = mark_takes Quoted
+part_takes Text = punctuation_takes Quoted
 part_takes Access = one_takes is_access (IsWordOf accesses) among_access
 part_takes Status = one_takes is_status (IsWordOf statuses) among_status
 part_takes Word = one_takes is_any_word (IsClausePart Word) any_word_is
@@ -440,7 +440,7 @@ part_takes Group = group_takes LeftBrace RightBrace
 part_again : (part : Part) → Again (IsClausePart part) (BehindPart part) (part_at part)
 unfolding part_at
 part_again Syntax = type_again
-part_again Text = mark_again Quoted
+part_again Text = punctuation_again Quoted
 part_again Access = one_again is_access (IsWordOf accesses) (λ text is. word_of_again is_access accesses text (refl, (refl, (refl, (refl, (refl, tt))))) is)
 part_again Status = one_again is_status (IsWordOf statuses) (λ text is. word_of_again is_status statuses text (refl, (refl, (refl, tt))) is)
 part_again Word = one_again is_any_word (IsClausePart Word) (λ text is. (word is.0, is.1, refl))
@@ -568,7 +568,7 @@ described_again status anywhere =
 
 -- ::= follows
 abbrev pub BeginsAssign : List Lexeme → Type 0
-BeginsAssign rest = (more : List Lexeme) × (rest ≡ mark Assign ∷ more)
+BeginsAssign rest = (more : List Lexeme) × (rest ≡ punctuation Assign ∷ more)
 
 no_word_there : (w : List ℕ) (rest : List Lexeme) → BeginsAssign rest → begins_word w rest ≡ false
 no_word_there w rest is = ap (begins_word w) is.1

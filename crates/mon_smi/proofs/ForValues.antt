@@ -10,11 +10,11 @@ use Rattle.mon_smi.specs.declared.read_fault.ReadFault.TheVariants.{OutOfMemory,
 use Rattle.mon_smi.specs.declared.kind.TokenKind.{TokenKind}
 use Rattle.mon_smi.specs.declared.kind.TokenKind.TheVariants.{LeftBrace, RightBrace, LeftParen, RightParen}
 use Rattle.mon_smi.specs.Tokens.{AreAll}
-use Rattle.mon_smi.specs.Lexemes.{Lexeme, word, number, mark}
+use Rattle.mon_smi.specs.Lexemes.{Lexeme, word, number, punctuation}
 use Rattle.mon_oid.specs.Steps.{◌>>=◌}
-use Rattle.mon_smi.specs.Reading.{Read, Fails, or_left, mark_at, begins, many, with_front, number_from, number_of, sub_at, in_parens_at, component_at, parent_at, enough, single, numbers_at, value_at}
+use Rattle.mon_smi.specs.Reading.{Read, Fails, or_left, punctuation_at, begins, many, with_front, number_from, number_of, sub_at, in_parens_at, component_at, parent_at, enough, single, numbers_at, value_at}
 use Rattle.mon_smi.specs.Grammar.{Are, spelled_from, IsSub, IsComponent, AreParts, IsValue}
-use Rattle.mon_smi.proofs.ForRules.{bind_ok, ok_is, wanted, chosen, mark_takes, Any}
+use Rattle.mon_smi.proofs.ForRules.{bind_ok, ok_is, wanted, chosen, punctuation_takes, Any}
 
 -- a fault passed on
 pub passed_on : {Y Z : Type 0} (e : ReadFault) (r : Read Y) (q : Read Z) → ((rest : List Lexeme) → r ≡ Err rest → q ≡ Err rest) → Fails e r → Fails e q
@@ -258,7 +258,7 @@ sub_takes : (ls : List Lexeme) (n : ℕ) (rest : List Lexeme) → sub_at ls ≡ 
 unfolding sub_at
 sub_takes [] n rest is = absurd (cc)
 sub_takes (word w ∷ ls) n rest is = absurd (cc)
-sub_takes (mark k ∷ ls) n rest is = absurd (cc)
+sub_takes (punctuation k ∷ ls) n rest is = absurd (cc)
 sub_takes (number d ∷ ls) n rest is =
     let x = bind_ok (or_left (number d ∷ ls) (number_of d)) (λ m. Ok (m, ls)) (n, rest) is in
     let p = pair_parts x.0 n ls rest x.2 in
@@ -268,19 +268,19 @@ sub_again : (digits : List ℕ) (n : ℕ) (rest : List Lexeme) → IsSub digits 
 unfolding sub_at
 sub_again digits n rest is = rw (sub_back digits n is) refl
 
-parens_takes : (ls : List Lexeme) (n : ℕ) (rest : List Lexeme) → in_parens_at ls ≡ Ok (n, rest) → (digits : List ℕ) × IsSub digits n × (ls ≡ mark LeftParen ∷ number digits ∷ mark RightParen ∷ rest)
+parens_takes : (ls : List Lexeme) (n : ℕ) (rest : List Lexeme) → in_parens_at ls ≡ Ok (n, rest) → (digits : List ℕ) × IsSub digits n × (ls ≡ punctuation LeftParen ∷ number digits ∷ punctuation RightParen ∷ rest)
 unfolding in_parens_at
 parens_takes ls n rest is =
-    let x = bind_ok (mark_at LeftParen ls) (λ inner. sub_at inner >>= λ m. mark_at RightParen m.1 >>= λ r. Ok (m.0, r)) (n, rest) is in
-    let y = bind_ok (sub_at x.0) (λ m. mark_at RightParen m.1 >>= λ r. Ok (m.0, r)) (n, rest) x.2 in
-    let z = bind_ok (mark_at RightParen y.0.1) (λ r. Ok (y.0.0, r)) (n, rest) y.2 in
+    let x = bind_ok (punctuation_at LeftParen ls) (λ inner. sub_at inner >>= λ m. punctuation_at RightParen m.1 >>= λ r. Ok (m.0, r)) (n, rest) is in
+    let y = bind_ok (sub_at x.0) (λ m. punctuation_at RightParen m.1 >>= λ r. Ok (m.0, r)) (n, rest) x.2 in
+    let z = bind_ok (punctuation_at RightParen y.0.1) (λ r. Ok (y.0.0, r)) (n, rest) y.2 in
     let p = pair_parts y.0.0 n z.0 rest z.2 in
-    let first = mark_takes LeftParen ls x.0 x.1 in
+    let first = punctuation_takes LeftParen ls x.0 x.1 in
     let middle = sub_takes x.0 y.0.0 y.0.1 y.1 in
-    let last = mark_takes RightParen y.0.1 z.0 z.1 in (
+    let last = punctuation_takes RightParen y.0.1 z.0 z.1 in (
       middle.0,
       subst (λ k. IsSub middle.0 k) p.0 middle.1,
-      first.2 ∙ ap (λ (l : List Lexeme). l ++ x.0) first.1 ∙ ap (λ (l : List Lexeme). mark LeftParen ∷ l) (middle.2 ∙ ap (λ (l : List Lexeme). number middle.0 ∷ l) (last.2 ∙ ap (λ (l : List Lexeme). l ++ z.0) last.1 ∙ ap (λ (l : List Lexeme). mark RightParen ∷ l) p.1)),
+      first.2 ∙ ap (λ (l : List Lexeme). l ++ x.0) first.1 ∙ ap (λ (l : List Lexeme). punctuation LeftParen ∷ l) (middle.2 ∙ ap (λ (l : List Lexeme). number middle.0 ∷ l) (last.2 ∙ ap (λ (l : List Lexeme). l ++ z.0) last.1 ∙ ap (λ (l : List Lexeme). punctuation RightParen ∷ l) p.1)),
     )
 
 pub component_takes : TakesOne IsComponent component_at
@@ -288,16 +288,16 @@ unfolding component_at sub_at
 component_takes [] n rest is = absurd (cc)
 component_takes (word w ∷ ls) n rest is =
     let t = parens_takes ls n rest is in
-    (word w ∷ mark LeftParen ∷ number t.0 ∷ mark RightParen ∷ [], (t.0, t.1, inr (w, refl)), ap (λ (l : List Lexeme). word w ∷ l) t.2)
+    (word w ∷ punctuation LeftParen ∷ number t.0 ∷ punctuation RightParen ∷ [], (t.0, t.1, inr (w, refl)), ap (λ (l : List Lexeme). word w ∷ l) t.2)
 component_takes (number d ∷ ls) n rest is = let t = sub_takes (number d ∷ ls) n rest is in (number t.0 ∷ [], (t.0, t.1, inl refl), t.2)
-component_takes (mark k ∷ ls) n rest is = absurd (cc)
+component_takes (punctuation k ∷ ls) n rest is = absurd (cc)
 
 pub component_again : (text : List Lexeme) (n : ℕ) (rest : List Lexeme) → IsComponent text n → Any rest → component_at (text ++ rest) ≡ Ok (n, rest)
 unfolding component_at in_parens_at
 component_again text n rest is follows =
     ⊎_elim
     (λ plain. subst (λ (t : List Lexeme). component_at (t ++ rest) ≡ Ok (n, rest)) (sym plain) (sub_again is.0 n rest is.1))
-    (λ named. subst (λ (t : List Lexeme). component_at (t ++ rest) ≡ Ok (n, rest)) (sym named.1) (rw (sub_again is.0 n (mark RightParen ∷ rest) is.1) refl))
+    (λ named. subst (λ (t : List Lexeme). component_at (t ++ rest) ≡ Ok (n, rest)) (sym named.1) (rw (sub_again is.0 n (punctuation RightParen ∷ rest) is.1) refl))
     is.2
 
 pub component_some : (text : List Lexeme) (n : ℕ) → IsComponent text n → 0 < length text
@@ -336,7 +336,7 @@ Splits inner p = ((p.0 ≡ None) × (p.1 ≡ inner)) ⊎ ((w : List ℕ) × (p.0
 parent_split : (inner : List Lexeme) → Splits inner (parent_at inner)
 parent_split [] = inl (refl, refl)
 parent_split (number d ∷ ls) = inl (refl, refl)
-parent_split (mark k ∷ ls) = inl (refl, refl)
+parent_split (punctuation k ∷ ls) = inl (refl, refl)
 parent_split (word w ∷ ls) = go (begins LeftParen ls)
   where
     go : (t : Bool) → Splits (word w ∷ ls) (cond t (None, word w ∷ ls) (Some w, ls))
@@ -362,21 +362,21 @@ IsValueOf ls v = IsValue v.0 v.1 ls
 pub value_takes : TakesOne IsValueOf value_at
 unfolding value_at
 value_takes ls v rest is =
-    let x = bind_ok (mark_at LeftBrace ls) (λ inner. numbers_at (parent_at inner).1 >>= λ ns. cond (enough (parent_at inner).0 ns.0) (mark_at RightBrace ns.1 >>= λ r. Ok (((parent_at inner).0, ns.0), r)) (Err ns.1)) (v, rest) is in
+    let x = bind_ok (punctuation_at LeftBrace ls) (λ inner. numbers_at (parent_at inner).1 >>= λ ns. cond (enough (parent_at inner).0 ns.0) (punctuation_at RightBrace ns.1 >>= λ r. Ok (((parent_at inner).0, ns.0), r)) (Err ns.1)) (v, rest) is in
     let inner = x.0 in
     let p = parent_at inner in
-    let y = bind_ok (numbers_at p.1) (λ ns. cond (enough p.0 ns.0) (mark_at RightBrace ns.1 >>= λ r. Ok ((p.0, ns.0), r)) (Err ns.1)) (v, rest) x.2 in
-    let w = wanted (enough p.0 y.0.0) (mark_at RightBrace y.0.1 >>= λ r. Ok ((p.0, y.0.0), r)) y.0.1 (v, rest) y.2 in
-    let z = bind_ok (mark_at RightBrace y.0.1) (λ r. Ok ((p.0, y.0.0), r)) (v, rest) w.1 in
+    let y = bind_ok (numbers_at p.1) (λ ns. cond (enough p.0 ns.0) (punctuation_at RightBrace ns.1 >>= λ r. Ok ((p.0, ns.0), r)) (Err ns.1)) (v, rest) x.2 in
+    let w = wanted (enough p.0 y.0.0) (punctuation_at RightBrace y.0.1 >>= λ r. Ok ((p.0, y.0.0), r)) y.0.1 (v, rest) y.2 in
+    let z = bind_ok (punctuation_at RightBrace y.0.1) (λ r. Ok ((p.0, y.0.0), r)) (v, rest) w.1 in
     let same = pair_parts (p.0, y.0.0) v z.0 rest z.2 in
-    let first = mark_takes LeftBrace ls inner x.1 in
+    let first = punctuation_takes LeftBrace ls inner x.1 in
     let numbers = numbers_takes p.1 y.0.0 y.0.1 y.1 in
-    let last = mark_takes RightBrace y.0.1 z.0 z.1 in
+    let last = punctuation_takes RightBrace y.0.1 z.0 z.1 in
     let parts = are_parts inner p y.0.0 numbers.0 y.0.1 (parent_split inner) w.0 numbers.1 numbers.2 in
-    let end : y.0.1 ≡ mark RightBrace ∷ rest = last.2 ∙ ap (λ (l : List Lexeme). l ++ z.0) last.1 ∙ ap (λ (l : List Lexeme). mark RightBrace ∷ l) same.1 in (
-      mark LeftBrace ∷ parts.0 ++ mark RightBrace ∷ [],
-      subst (λ (u : Option (List ℕ) × List ℕ). IsValueOf (mark LeftBrace ∷ parts.0 ++ mark RightBrace ∷ []) u) same.0 (parts.0, refl, parts.1),
-      first.2 ∙ ap (λ (l : List Lexeme). l ++ inner) first.1 ∙ ap (λ (l : List Lexeme). mark LeftBrace ∷ l) (parts.2 ∙ ap (λ (l : List Lexeme). parts.0 ++ l) end ∙ sym (append_assoc parts.0 (mark RightBrace ∷ []) rest)),
+    let end : y.0.1 ≡ punctuation RightBrace ∷ rest = last.2 ∙ ap (λ (l : List Lexeme). l ++ z.0) last.1 ∙ ap (λ (l : List Lexeme). punctuation RightBrace ∷ l) same.1 in (
+      punctuation LeftBrace ∷ parts.0 ++ punctuation RightBrace ∷ [],
+      subst (λ (u : Option (List ℕ) × List ℕ). IsValueOf (punctuation LeftBrace ∷ parts.0 ++ punctuation RightBrace ∷ []) u) same.0 (parts.0, refl, parts.1),
+      first.2 ∙ ap (λ (l : List Lexeme). l ++ inner) first.1 ∙ ap (λ (l : List Lexeme). punctuation LeftBrace ∷ l) (parts.2 ∙ ap (λ (l : List Lexeme). parts.0 ++ l) end ∙ sym (append_assoc parts.0 (punctuation RightBrace ∷ []) rest)),
     )
 
 -- where at least two components are, the first with a number, no parent is read
@@ -385,7 +385,7 @@ no_parent text [] rest some are = absurd (omega arith)
 no_parent text (n ∷ ns) rest some are =
     ⊎_elim
     (λ plain. subst (λ (t : List Lexeme). parent_at t ≡ (None, t)) (sym (whole (number are.3.0 ∷ []) plain)) refl)
-    (λ named. subst (λ (t : List Lexeme). parent_at t ≡ (None, t)) (sym (whole (word named.0 ∷ mark LeftParen ∷ number are.3.0 ∷ mark RightParen ∷ []) named.1)) refl)
+    (λ named. subst (λ (t : List Lexeme). parent_at t ≡ (None, t)) (sym (whole (word named.0 ∷ punctuation LeftParen ∷ number are.3.0 ∷ punctuation RightParen ∷ []) named.1)) refl)
     are.3.2
   where
     whole : (front : List Lexeme) → are.0 ≡ front → text ++ rest ≡ front ++ (are.1 ++ rest)
@@ -398,20 +398,20 @@ a_parent w others (n ∷ ns) rest some are =
     let first : begins LeftParen (others ++ rest) ≡ false = ap (begins LeftParen) whole ∙ component_begins LeftParen are.0 n (are.1 ++ rest) are.3 in
     rw first refl
 
-value_inside : (parent : Option (List ℕ)) (ns : List ℕ) (inner rest : List Lexeme) → AreParts parent inner ns → (tail : List Lexeme) × (parent_at (inner ++ mark RightBrace ∷ rest) ≡ (parent, tail)) × (numbers_at tail ≡ Ok (ns, mark RightBrace ∷ rest)) × (enough parent ns ≡ true)
-value_inside None ns inner rest is = (inner ++ mark RightBrace ∷ rest, no_parent inner ns (mark RightBrace ∷ rest) is.0 is.1, numbers_again inner ns (mark RightBrace ∷ rest) is.1 refl, at_least_again 2 (length ns) is.0)
+value_inside : (parent : Option (List ℕ)) (ns : List ℕ) (inner rest : List Lexeme) → AreParts parent inner ns → (tail : List Lexeme) × (parent_at (inner ++ punctuation RightBrace ∷ rest) ≡ (parent, tail)) × (numbers_at tail ≡ Ok (ns, punctuation RightBrace ∷ rest)) × (enough parent ns ≡ true)
+value_inside None ns inner rest is = (inner ++ punctuation RightBrace ∷ rest, no_parent inner ns (punctuation RightBrace ∷ rest) is.0 is.1, numbers_again inner ns (punctuation RightBrace ∷ rest) is.1 refl, at_least_again 2 (length ns) is.0)
 value_inside (Some w) ns inner rest is =
-    (is.0 ++ mark RightBrace ∷ rest, ap (λ (l : List Lexeme). parent_at (l ++ mark RightBrace ∷ rest)) is.1 ∙ a_parent w is.0 ns (mark RightBrace ∷ rest) is.2 is.3, numbers_again is.0 ns (mark RightBrace ∷ rest) is.3 refl, at_least_again 1 (length ns) is.2)
+    (is.0 ++ punctuation RightBrace ∷ rest, ap (λ (l : List Lexeme). parent_at (l ++ punctuation RightBrace ∷ rest)) is.1 ∙ a_parent w is.0 ns (punctuation RightBrace ∷ rest) is.2 is.3, numbers_again is.0 ns (punctuation RightBrace ∷ rest) is.3 refl, at_least_again 1 (length ns) is.2)
 
 pub value_again : (text : List Lexeme) (v : Option (List ℕ) × List ℕ) (rest : List Lexeme) → IsValueOf text v → value_at (text ++ rest) ≡ Ok (v, rest)
 unfolding value_at
 value_again text v rest is =
     let inside = value_inside v.0 v.1 is.0 rest is.2 in
-    let whole : text ++ rest ≡ mark LeftBrace ∷ (is.0 ++ mark RightBrace ∷ rest) = ap (λ (l : List Lexeme). l ++ rest) is.1 ∙ ap (λ (l : List Lexeme). mark LeftBrace ∷ l) (append_assoc is.0 (mark RightBrace ∷ []) rest) in
+    let whole : text ++ rest ≡ punctuation LeftBrace ∷ (is.0 ++ punctuation RightBrace ∷ rest) = ap (λ (l : List Lexeme). l ++ rest) is.1 ∙ ap (λ (l : List Lexeme). punctuation LeftBrace ∷ l) (append_assoc is.0 (punctuation RightBrace ∷ []) rest) in
     ap (λ (l : List Lexeme). value_at l) whole
-    ∙ ap (λ (p : Option (List ℕ) × List Lexeme). numbers_at p.1 >>= λ ns. cond (enough p.0 ns.0) (mark_at RightBrace ns.1 >>= λ r. Ok ((p.0, ns.0), r)) (Err ns.1)) inside.1
-    ∙ ap (λ (o : Read (List ℕ × List Lexeme)). o >>= λ ns. cond (enough v.0 ns.0) (mark_at RightBrace ns.1 >>= λ r. Ok ((v.0, ns.0), r)) (Err ns.1)) inside.2
-    ∙ ap (λ (t : Bool). cond t (Ok (v, rest)) (Err (mark RightBrace ∷ rest))) inside.3
+    ∙ ap (λ (p : Option (List ℕ) × List Lexeme). numbers_at p.1 >>= λ ns. cond (enough p.0 ns.0) (punctuation_at RightBrace ns.1 >>= λ r. Ok ((p.0, ns.0), r)) (Err ns.1)) inside.1
+    ∙ ap (λ (o : Read (List ℕ × List Lexeme)). o >>= λ ns. cond (enough v.0 ns.0) (punctuation_at RightBrace ns.1 >>= λ r. Ok ((v.0, ns.0), r)) (Err ns.1)) inside.2
+    ∙ ap (λ (t : Bool). cond t (Ok (v, rest)) (Err (punctuation RightBrace ∷ rest))) inside.3
 
 pub numbers_is : (ls : List Lexeme) (r : Read (List ℕ × List Lexeme)) → many component_at single (begins RightBrace) (length ls) ls ≡ r → numbers_at ls ≡ r
 unfolding numbers_at

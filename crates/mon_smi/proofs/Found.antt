@@ -137,8 +137,8 @@ found_binary front rest bits =
     run : (letter : ℕ) → run_at is_bit (bits.0 ++ (39 ∷ letter ∷ rest)) ≡ length bits.0
     run letter = run_front is_bit bits.0 (39 ∷ letter ∷ rest) bits.3 refl
 
-found_mark : (kind : TokenKind) (front text rest : List ℕ) → front ≡ text → piece_at (text ++ rest) ≡ Some (piece kind (length text)) → FoundAt kind front rest
-found_mark kind front text rest is found = subst (λ (f : List ℕ). FoundAt kind f rest) (sym is) (record { found = kind; len = length text; is = found; most = omega arith; same = λ e. refl })
+found_punctuation : (kind : TokenKind) (front text rest : List ℕ) → front ≡ text → piece_at (text ++ rest) ≡ Some (piece kind (length text)) → FoundAt kind front rest
+found_punctuation kind front text rest is found = subst (λ (f : List ℕ). FoundAt kind f rest) (sym is) (record { found = kind; len = length text; is = found; most = omega arith; same = λ e. refl })
 
 found_dot : (front rest : List ℕ) → front ≡ 46 ∷ [] → FoundAt Dot front rest
 unfolding piece_at
@@ -155,18 +155,18 @@ found_at Number front rest is = ⊎_elim (λ digits. found_digits front rest dig
 found_at Quoted front rest is = found_quoted front rest is
 found_at Hex front rest is = found_hex front rest is
 found_at Binary front rest is = found_binary front rest is
-found_at Assign front rest is = found_mark Assign front (58 ∷ 58 ∷ 61 ∷ []) rest is refl
-found_at Range front rest is = found_mark Range front (46 ∷ 46 ∷ []) rest is refl
-found_at LeftBrace front rest is = found_mark LeftBrace front (123 ∷ []) rest is refl
-found_at RightBrace front rest is = found_mark RightBrace front (125 ∷ []) rest is refl
-found_at LeftParen front rest is = found_mark LeftParen front (40 ∷ []) rest is refl
-found_at RightParen front rest is = found_mark RightParen front (41 ∷ []) rest is refl
-found_at LeftBracket front rest is = found_mark LeftBracket front (91 ∷ []) rest is refl
-found_at RightBracket front rest is = found_mark RightBracket front (93 ∷ []) rest is refl
-found_at Comma front rest is = found_mark Comma front (44 ∷ []) rest is refl
-found_at Semicolon front rest is = found_mark Semicolon front (59 ∷ []) rest is refl
+found_at Assign front rest is = found_punctuation Assign front (58 ∷ 58 ∷ 61 ∷ []) rest is refl
+found_at Range front rest is = found_punctuation Range front (46 ∷ 46 ∷ []) rest is refl
+found_at LeftBrace front rest is = found_punctuation LeftBrace front (123 ∷ []) rest is refl
+found_at RightBrace front rest is = found_punctuation RightBrace front (125 ∷ []) rest is refl
+found_at LeftParen front rest is = found_punctuation LeftParen front (40 ∷ []) rest is refl
+found_at RightParen front rest is = found_punctuation RightParen front (41 ∷ []) rest is refl
+found_at LeftBracket front rest is = found_punctuation LeftBracket front (91 ∷ []) rest is refl
+found_at RightBracket front rest is = found_punctuation RightBracket front (93 ∷ []) rest is refl
+found_at Comma front rest is = found_punctuation Comma front (44 ∷ []) rest is refl
+found_at Semicolon front rest is = found_punctuation Semicolon front (59 ∷ []) rest is refl
 found_at Dot front rest is = found_dot front rest is
-found_at Bar front rest is = found_mark Bar front (124 ∷ []) rest is refl
+found_at Bar front rest is = found_punctuation Bar front (124 ∷ []) rest is refl
 
 found_space : (b : ℕ) (rest : List ℕ) → is_space b ≡ true → piece_at (b ∷ rest) ≡ Some (nothing 1)
 unfolding piece_at

@@ -6,7 +6,7 @@ use Rattle.std.proofs.lemmas.Bool.{eqb-true}
 use Rattle.std.proofs.lemmas.List.{take_at, drop_at}
 use Rattle.mon_smi.specs.Words.{GoesOn}
 use Rattle.mon_smi.specs.Tokens.{AreAll, AreDigits, IsSpelled, is_space, is_bit, IsPassed, IsComment}
-use Rattle.mon_smi.specs.Scan.{run_at, word_at, closes_at, comment_at, token, passed, signed, hyphen_at, quoted_at, closed_bits, quoted_bits_at, assign_at, dot_at, mark_at, behind_at, piece_at}
+use Rattle.mon_smi.specs.Scan.{run_at, word_at, closes_at, comment_at, token, passed, signed, hyphen_at, quoted_at, closed_bits, quoted_bits_at, assign_at, dot_at, punctuation_at, behind_at, piece_at}
 use Rattle.mon_smi.specs.declared.kind.TokenKind.{TokenKind}
 use Rattle.mon_smi.specs.declared.kind.TokenKind.TheVariants.{Word, Number, Quoted, Hex, Binary, Assign, Range, LeftBrace, RightBrace, LeftParen, RightParen, LeftBracket, RightBracket, Comma, Semicolon, Dot, Bar}
 use Rattle.mon_smi.specs.declared.token.Piece.{Piece}
@@ -152,8 +152,8 @@ dot_taken bs =
 one_byte : (b c : ℕ) → (b == c) ≡ true → b ∷ [] ≡ c ∷ []
 one_byte b c is = ap (λ (x : ℕ). x ∷ []) (eqb-true b c is)
 
-mark_taken : (b : ℕ) (bs : List ℕ) → IfSome (mark_at b) (Taken (b ∷ bs))
-mark_taken b bs =
+punctuation_taken : (b : ℕ) (bs : List ℕ) → IfSome (punctuation_at b) (Taken (b ∷ bs))
+punctuation_taken b bs =
     by_test (λ r. IfSome r (Taken (b ∷ bs))) (b == 123) (token LeftBrace 1) _ (λ is. (omega arith, one_byte b 123 is)) (λ n1.
     by_test (λ r. IfSome r (Taken (b ∷ bs))) (b == 125) (token RightBrace 1) _ (λ is. (omega arith, one_byte b 125 is)) (λ n2.
     by_test (λ r. IfSome r (Taken (b ∷ bs))) (b == 40) (token LeftParen 1) _ (λ is. (omega arith, one_byte b 40 is)) (λ n3.
@@ -174,7 +174,7 @@ behind_taken b bs =
     by_test (λ r. IfSome r (Taken (b ∷ bs))) (b == 34) (quoted_at bs) _ (λ is. found_byte b 34 bs (quoted_at bs) (quoted_taken bs) is) (λ n2.
     by_test (λ r. IfSome r (Taken (b ∷ bs))) (b == 39) (quoted_bits_at bs) _ (λ is. found_byte b 39 bs (quoted_bits_at bs) (bits_taken bs) is) (λ n3.
     by_test (λ r. IfSome r (Taken (b ∷ bs))) (b == 58) (assign_at bs) _ (λ is. found_byte b 58 bs (assign_at bs) (assign_taken bs) is) (λ n4.
-    by_test (λ r. IfSome r (Taken (b ∷ bs))) (b == 46) (dot_at bs) (mark_at b) (λ is. found_byte b 46 bs (dot_at bs) (dot_taken bs) is) (λ n5. mark_taken b bs)))))
+    by_test (λ r. IfSome r (Taken (b ∷ bs))) (b == 46) (dot_at bs) (punctuation_at b) (λ is. found_byte b 46 bs (dot_at bs) (dot_taken bs) is) (λ n5. punctuation_taken b bs)))))
 
 pub spelled_at : (text : List ℕ) → IfSome (piece_at text) (Taken text)
 unfolding piece_at

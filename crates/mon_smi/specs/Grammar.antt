@@ -10,7 +10,8 @@ use Rattle.mon_smi.specs.declared.part.Part.TheVariants.{Syntax, Text, Access, S
 use Rattle.mon_smi.specs.declared.token.Token.{Token}
 use Rattle.mon_smi.specs.declared.definition.Definition.{Definition}
 use Rattle.mon_smi.specs.Tokens.{AreDigits, AreTokens}
-use Rattle.mon_smi.specs.Lexemes.{Lexeme, word, number, mark, lexemes, begins_small, begins_capital}
+use Rattle.mon_smi.specs.Lexemes.{Lexeme, word, number, punctuation, lexemes, begins_small}
+use Rattle.mon_smi.specs.Lexemes.{begins_capital}
 
 -- one rule, and then the other
 infixr 6 ◌▸◌
@@ -18,7 +19,7 @@ infixr 6 ◌▸◌
 abbrev pub ◌▸◌ : (List Lexeme → Type 0) → (List Lexeme → Type 0) → List Lexeme → Type 0
 A ▸ B = λ ls. (front back : List Lexeme) × (ls ≡ front ++ back) × A front × B back
 
--- this word, or this mark
+-- this word, or this punctuation
 abbrev pub IsThis : Lexeme → List Lexeme → Type 0
 IsThis l ls = ls ≡ l ∷ []
 
@@ -27,22 +28,25 @@ abbrev pub IsWordOf : List (List ℕ) → List Lexeme → Type 0
 IsWordOf [] ls = ⊥
 IsWordOf (w ∷ ws) ls = IsThis (word w) ls ⊎ IsWordOf ws ls
 
--- no such mark is among them
+-- no such punctuation is among them
 abbrev pub IsFree : TokenKind → List Lexeme → Type 0
 IsFree kind [] = Unit {0}
-IsFree kind (l ∷ ls) = (l ≢ mark kind) × IsFree kind ls
+IsFree kind (l ∷ ls) = (l ≢ punctuation kind) × IsFree kind ls
 
--- between these two marks each opening one has its closing one, this many being open at the start
+-- between these two punctuation each opening one has its closing one, this many being open at the
+-- start
 abbrev pub IsNested : TokenKind → TokenKind → ℕ → List Lexeme → Type 0
 IsNested left right depth [] = depth ≡ 0
 IsNested left right depth (l ∷ ls) =
-    ((l ≡ mark left) × IsNested left right (suc depth) ls)
-    ⊎ (((before : ℕ) × (l ≡ mark right) × (depth ≡ suc before) × IsNested left right before ls)
-    ⊎ ((l ≢ mark left) × (l ≢ mark right) × IsNested left right depth ls))
+    ((l ≡ punctuation left) × IsNested left right (suc depth) ls)
+    ⊎ (((before : ℕ) × (l ≡ punctuation right) × (depth ≡ suc before)
+    × IsNested left right before ls)
+    ⊎ ((l ≢ punctuation left) × (l ≢ punctuation right) × IsNested left right depth ls))
 
--- a balanced group between these two marks
+-- a balanced group between these two punctuation
 abbrev pub IsBalanced : TokenKind → TokenKind → List Lexeme → Type 0
-IsBalanced left right ls = (inner : List Lexeme) × (ls ≡ mark left ∷ inner ++ mark right ∷ [])
+IsBalanced left right ls = (inner : List Lexeme)
+    × (ls ≡ punctuation left ∷ inner ++ punctuation right ∷ [])
     × IsNested left right 0 inner
 
 -- the name of a type: two words, SEQUENCE OF a name, or one word with a capital letter first
@@ -74,7 +78,7 @@ statuses = codes "current" ∷ codes "deprecated" ∷ codes "obsolete" ∷ []
 -- what follows the keyword of a clause
 abbrev pub IsClausePart : Part → List Lexeme → Type 0
 IsClausePart Syntax ls = IsType ls
-IsClausePart Text ls = IsThis (mark Quoted) ls
+IsClausePart Text ls = IsThis (punctuation Quoted) ls
 IsClausePart Access ls = IsWordOf accesses ls
 IsClausePart Status ls = IsWordOf statuses ls
 IsClausePart Word ls = (text : List ℕ) × IsThis (word text) ls
@@ -124,7 +128,8 @@ IsSub digits n = AreDigits digits × (n ≡ spelled_from 0 digits) × (n < 2 ^ 3
 abbrev pub IsComponent : List Lexeme → ℕ → Type 0
 IsComponent ls n = (digits : List ℕ) × IsSub digits n
     × ((ls ≡ number digits ∷ [])
-    ⊎ ((w : List ℕ) × (ls ≡ word w ∷ mark LeftParen ∷ number digits ∷ mark RightParen ∷ [])))
+    ⊎ ((w : List ℕ) × (ls ≡ word w ∷ punctuation LeftParen ∷ number digits ∷ punctuation RightParen
+    ∷ [])))
 
 -- the lexemes are one of each of these after the other
 abbrev pub Are : {X : Type 0} → (List Lexeme → X → Type 0) → List Lexeme → List X → Type 0
@@ -140,7 +145,8 @@ AreParts (Some w) ls numbers = (others : List Lexeme) × (ls ≡ word w ∷ othe
 
 -- an identifier's value: its components in braces
 abbrev pub IsValue : Option (List ℕ) → List ℕ → List Lexeme → Type 0
-IsValue parent numbers ls = (inner : List Lexeme) × (ls ≡ mark LeftBrace ∷ inner ++ mark RightBrace
+IsValue parent numbers ls = (inner : List Lexeme)
+    × (ls ≡ punctuation LeftBrace ∷ inner ++ punctuation RightBrace
     ∷ []) × AreParts parent inner numbers
 
 -- macros whose clauses are passed over
@@ -159,11 +165,12 @@ IsHead ls = (ls ≡ word (codes "OBJECT") ∷ word (codes "IDENTIFIER") ∷ [])
 abbrev pub IsValueAssignment : List Lexeme → Definition → Type 0
 IsValueAssignment ls d = (rest : List Lexeme) × (ls ≡ word d.name ∷ rest)
     × IsTrue (begins_small d.name)
-    × (IsHead ▸ (IsThis (mark Assign) ▸ IsValue d.parent d.numbers)) rest
+    × (IsHead ▸ (IsThis (punctuation Assign) ▸ IsValue d.parent d.numbers)) rest
 
 -- a type's name, and its assignment
 abbrev pub IsTypeAssignment : List Lexeme → Type 0
-IsTypeAssignment ls = (name : List ℕ) × (body : List Lexeme) × (ls ≡ word name ∷ mark Assign ∷ body)
+IsTypeAssignment ls = (name : List ℕ) × (body : List Lexeme)
+    × (ls ≡ word name ∷ punctuation Assign ∷ body)
     × IsTrue (begins_capital name)
     × ((IsThis (word (codes "TEXTUAL-CONVENTION")) ▸ IsConvention) body ⊎ IsType body)
 
@@ -175,7 +182,7 @@ IsAssignment ls (Some d) = IsValueAssignment ls d
 -- IMPORTS and all tokens to the next semicolon, or nothing where another word comes next
 abbrev pub AreImports : List Lexeme → List Lexeme → Type 0
 AreImports ls rest = ((ls ≡ []) × ((more : List Lexeme) → rest ≢ word (codes "IMPORTS") ∷ more))
-    ⊎ ((names : List Lexeme) × (ls ≡ word (codes "IMPORTS") ∷ names ++ mark Semicolon ∷ [])
+    ⊎ ((names : List Lexeme) × (ls ≡ word (codes "IMPORTS") ∷ names ++ punctuation Semicolon ∷ [])
     × IsFree Semicolon names)
 
 -- the lexemes are a module of this name, whose value assignments are these in order
@@ -183,7 +190,8 @@ pub record IsModule (ls : List Lexeme) (name : List ℕ) (defs : List Definition
   pub imports : List Lexeme
   pub body : List Lexeme
   pub assignments : List (Option Definition)
-  pub whole : ls ≡ word name ∷ word (codes "DEFINITIONS") ∷ mark Assign ∷ word (codes "BEGIN")
+  pub whole : ls ≡ word name ∷ word (codes "DEFINITIONS") ∷ punctuation Assign
+      ∷ word (codes "BEGIN")
       ∷ imports ++ (body ++ word (codes "END") ∷ [])
   pub is_capital : IsTrue (begins_capital name)
   pub are_imports : AreImports imports (body ++ word (codes "END") ∷ [])

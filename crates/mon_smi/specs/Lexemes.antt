@@ -29,27 +29,27 @@ use Rattle.mon_smi.specs.Tokens.{IsSpelled}
 pub data Lexeme : Type 0 where
   word : List ℕ → Lexeme
   number : List ℕ → Lexeme
-  mark : TokenKind → Lexeme
+  punctuation : TokenKind → Lexeme
 
 -- a token of this kind and text
 abbrev pub lexeme_of : TokenKind → List ℕ → Lexeme
 lexeme_of Word text = word text
 lexeme_of Number text = number text
-lexeme_of Quoted text = mark Quoted
-lexeme_of Hex text = mark Hex
-lexeme_of Binary text = mark Binary
-lexeme_of Assign text = mark Assign
-lexeme_of Range text = mark Range
-lexeme_of LeftBrace text = mark LeftBrace
-lexeme_of RightBrace text = mark RightBrace
-lexeme_of LeftParen text = mark LeftParen
-lexeme_of RightParen text = mark RightParen
-lexeme_of LeftBracket text = mark LeftBracket
-lexeme_of RightBracket text = mark RightBracket
-lexeme_of Comma text = mark Comma
-lexeme_of Semicolon text = mark Semicolon
-lexeme_of Dot text = mark Dot
-lexeme_of Bar text = mark Bar
+lexeme_of Quoted text = punctuation Quoted
+lexeme_of Hex text = punctuation Hex
+lexeme_of Binary text = punctuation Binary
+lexeme_of Assign text = punctuation Assign
+lexeme_of Range text = punctuation Range
+lexeme_of LeftBrace text = punctuation LeftBrace
+lexeme_of RightBrace text = punctuation RightBrace
+lexeme_of LeftParen text = punctuation LeftParen
+lexeme_of RightParen text = punctuation RightParen
+lexeme_of LeftBracket text = punctuation LeftBracket
+lexeme_of RightBracket text = punctuation RightBracket
+lexeme_of Comma text = punctuation Comma
+lexeme_of Semicolon text = punctuation Semicolon
+lexeme_of Dot text = punctuation Dot
+lexeme_of Bar text = punctuation Bar
 
 -- a token of this text
 abbrev pub lexeme_at : List ℕ → Token → Lexeme
@@ -101,25 +101,25 @@ same_text (a ∷ xs) (b ∷ bs) = a == b && same_text xs bs
 abbrev pub is_word : List ℕ → Lexeme → Bool
 is_word w (word v) = same_text v w
 is_word w (number v) = false
-is_word w (mark k) = false
+is_word w (punctuation k) = false
 
--- whether a token is this mark
-abbrev pub is_mark : TokenKind → Lexeme → Bool
-is_mark k (word v) = false
-is_mark k (number v) = false
-is_mark k (mark j) = code_of j == code_of k
+-- whether a token is this punctuation
+abbrev pub is_punctuation : TokenKind → Lexeme → Bool
+is_punctuation k (word v) = false
+is_punctuation k (number v) = false
+is_punctuation k (punctuation j) = code_of j == code_of k
 
 -- the text of a word
 abbrev pub word_of : Lexeme → Option (List ℕ)
 word_of (word w) = Some w
 word_of (number d) = None
-word_of (mark k) = None
+word_of (punctuation k) = None
 
 -- the text of a number
 abbrev pub digits_of : Lexeme → Option (List ℕ)
 digits_of (word w) = None
 digits_of (number d) = Some d
-digits_of (mark k) = None
+digits_of (punctuation k) = None
 
 -- a value's name begins with a small letter, a type's and a module's with a capital (RFC 2578
 -- section 3.1)
@@ -134,10 +134,10 @@ begins_capital w = is_ascii_uppercase (slice_index w 0)
 abbrev pub is_any_word : Lexeme → Bool
 is_any_word (word w) = true
 is_any_word (number d) = false
-is_any_word (mark k) = false
+is_any_word (punctuation k) = false
 
 -- whether a token is a word with a capital letter first
 abbrev pub is_capital : Lexeme → Bool
 is_capital (word w) = begins_capital w
 is_capital (number d) = false
-is_capital (mark k) = false
+is_capital (punctuation k) = false

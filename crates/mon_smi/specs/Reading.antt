@@ -43,7 +43,7 @@ use Rattle.mon_smi.specs.declared.kind.TokenKind.TheVariants.{LeftParen, RightPa
 use Rattle.mon_smi.specs.declared.definition.Definition.{Definition}
 use Rattle.mon_smi.specs.declared.part.Part.{Part}
 use Rattle.mon_smi.specs.declared.part.Part.TheVariants.{Syntax, Text, Access, Status, Word, Group}
-use Rattle.mon_smi.specs.Lexemes.{Lexeme, is_word, is_mark, word_of, digits_of, begins_small}
+use Rattle.mon_smi.specs.Lexemes.{Lexeme, is_word, is_punctuation, word_of, digits_of, begins_small}
 use Rattle.mon_smi.specs.Lexemes.{begins_capital, is_capital, is_any_word}
 
 -- what reading gives: something, or the tokens that were left where it broke off
@@ -74,14 +74,14 @@ one test (l ∷ ls) = if test l then Ok ls else Err (l ∷ ls)
 abbrev pub word_at : List ℕ → List Lexeme → Read (List Lexeme)
 word_at w ls = one (is_word w) ls
 
--- this mark
-abbrev pub mark_at : TokenKind → List Lexeme → Read (List Lexeme)
-mark_at kind ls = one (is_mark kind) ls
+-- this punctuation
+abbrev pub punctuation_at : TokenKind → List Lexeme → Read (List Lexeme)
+punctuation_at kind ls = one (is_punctuation kind) ls
 
--- this mark comes next
+-- this punctuation comes next
 abbrev pub begins : TokenKind → List Lexeme → Bool
 begins kind [] = false
-begins kind (l ∷ ls) = is_mark kind l
+begins kind (l ∷ ls) = is_punctuation kind l
 
 -- this word comes next
 abbrev pub begins_word : List ℕ → List Lexeme → Bool
@@ -99,14 +99,15 @@ name_at (l ∷ ls) = option_map (λ w. (w, ls)) (word_of l)
 abbrev pub nested_at : TokenKind → TokenKind → ℕ → List Lexeme → Read (List Lexeme)
 nested_at left right depth [] = Err []
 nested_at left right depth (l ∷ ls) =
-    if is_mark left l then nested_at left right (suc depth) ls else
-    (if is_mark right l then (if depth == 0 then Ok ls else nested_at left right (depth - 1) ls)
+    if is_punctuation left l then nested_at left right (suc depth) ls else
+    (if is_punctuation right l then (if depth == 0 then Ok ls
+    else nested_at left right (depth - 1) ls)
     else nested_at left right depth ls)
 
 -- a balanced group, and what follows it
 unfoldable pub group_at : TokenKind → TokenKind → List Lexeme → Read (List Lexeme)
 group_at left right ls = do
-  rest ← mark_at left ls
+  rest ← punctuation_at left ls
   nested_at left right 0 rest
 
 -- two words come next that are a type's name, and no assignment of the second begins
@@ -158,7 +159,7 @@ is_status l = is_word (codes "current") l || (is_word (codes "deprecated") l
 -- reads what follows the keyword of a clause
 unfoldable pub part_at : Part → List Lexeme → Read (List Lexeme)
 part_at Syntax ls = type_at ls
-part_at Text ls = mark_at Quoted ls
+part_at Text ls = punctuation_at Quoted ls
 part_at Access ls = one is_access ls
 part_at Status ls = one is_status ls
 part_at Word ls = one is_any_word ls
@@ -248,9 +249,9 @@ sub_at (l ∷ ls) = do
 -- a sub-identifier in parentheses
 unfoldable pub in_parens_at : List Lexeme → Read (ℕ × List Lexeme)
 in_parens_at ls = do
-  inner ← mark_at LeftParen ls
+  inner ← punctuation_at LeftParen ls
   n ← sub_at inner
-  rest ← mark_at RightParen n.1
+  rest ← punctuation_at RightParen n.1
   Ok (n.0, rest)
 
 -- a component: a number, or a word with a number in parentheses
@@ -281,9 +282,9 @@ numbers_at ls = many component_at single (begins RightBrace) (length ls) ls
 -- a value in braces: the parent, if it is a word, and the numbers
 unfoldable pub value_at : List Lexeme → Read ((Option (List ℕ) × List ℕ) × List Lexeme)
 value_at ls = do
-  inner ← mark_at LeftBrace ls
+  inner ← punctuation_at LeftBrace ls
   numbers ← numbers_at (parent_at inner).1
-  if enough (parent_at inner).0 numbers.0 then (mark_at RightBrace numbers.1 >>= λ rest. Ok
+  if enough (parent_at inner).0 numbers.0 then (punctuation_at RightBrace numbers.1 >>= λ rest. Ok
       (((parent_at inner).0, numbers.0), rest)) else Err numbers.1
 
 -- ---- assignments
@@ -295,10 +296,10 @@ is_macro l = is_word (codes "MODULE-IDENTITY") l || (is_word (codes "OBJECT-IDEN
     || (is_word (codes "NOTIFICATION-GROUP") l || (is_word (codes "MODULE-COMPLIANCE") l
     || is_word (codes "AGENT-CAPABILITIES") l)))))
 
--- all up to this mark
+-- all up to this punctuation
 abbrev pub up_to : TokenKind → List Lexeme → Read (List Lexeme)
 up_to kind [] = Err []
-up_to kind (l ∷ ls) = if is_mark kind l then Ok (l ∷ ls) else up_to kind ls
+up_to kind (l ∷ ls) = if is_punctuation kind l then Ok (l ∷ ls) else up_to kind ls
 
 -- OBJECT IDENTIFIER
 unfoldable pub identifier_at : List Lexeme → Read (List Lexeme)
@@ -327,7 +328,7 @@ head_at ls = if begins_word (codes "OBJECT") ls then identifier_at ls
 unfoldable pub definition_at : List ℕ → List Lexeme → Read (Definition × List Lexeme)
 definition_at name ls = do
   head ← head_at ls
-  rest ← mark_at Assign head
+  rest ← punctuation_at Assign head
   value ← value_at rest
   Ok (record { name = name; parent = value.0.0; numbers = value.0.1 }, value.1)
 
@@ -347,7 +348,7 @@ textual_at ls = do
 -- a type's assignment after its name
 unfoldable pub type_body_at : List Lexeme → Read (List Lexeme)
 type_body_at ls = do
-  rest ← mark_at Assign ls
+  rest ← punctuation_at Assign ls
   if is_convention rest then textual_at rest else type_at rest
 
 -- an assignment that defines a value
@@ -384,7 +385,7 @@ ends_module (l ∷ m ∷ ls) = false
 unfoldable pub imported_at : List Lexeme → Read (List Lexeme)
 imported_at ls = do
   rest ← up_to Semicolon ls
-  mark_at Semicolon rest
+  punctuation_at Semicolon rest
 
 -- the import clause, if it comes next
 unfoldable pub imports_at : List Lexeme → Read (List Lexeme)
@@ -400,7 +401,7 @@ definitions_at ls = do
 unfoldable pub module_body_at : List Lexeme → Read (List Definition)
 module_body_at ls = do
   defined ← word_at (codes "DEFINITIONS") ls
-  assigned ← mark_at Assign defined
+  assigned ← punctuation_at Assign defined
   begun ← word_at (codes "BEGIN") assigned
   rest ← imports_at begun
   definitions_at rest

@@ -111,7 +111,7 @@ abbrev pub quoted_bits_at : List ℕ → Option Piece
 quoted_bits_at text = closed_bits (run_at is_ascii_hexdigit text) (run_at is_bit text)
     (drop (run_at is_ascii_hexdigit text) text)
 
--- the mark of an assignment
+-- the punctuation of an assignment
 abbrev pub assign_at : List ℕ → Option Piece
 assign_at text = if slice_index text 0 == 58 && slice_index text 1 == 61 then token Assign 3
     else None
@@ -120,9 +120,9 @@ assign_at text = if slice_index text 0 == 58 && slice_index text 1 == 61 then to
 abbrev pub dot_at : List ℕ → Option Piece
 dot_at text = if slice_index text 0 == 46 then token Range 2 else token Dot 1
 
--- a mark of one byte
-abbrev pub mark_at : ℕ → Option Piece
-mark_at b =
+-- a punctuation of one byte
+abbrev pub punctuation_at : ℕ → Option Piece
+punctuation_at b =
     if b == 123 then token LeftBrace 1 else
     (if b == 125 then token RightBrace 1 else
     (if b == 40 then token LeftParen 1 else
@@ -140,7 +140,7 @@ behind_at b bs =
     (if b == 34 then quoted_at bs else
     (if b == 39 then quoted_bits_at bs else
     (if b == 58 then assign_at bs else
-    (if b == 46 then dot_at bs else mark_at b))))
+    (if b == 46 then dot_at bs else punctuation_at b))))
 
 -- the piece at the front
 unfoldable pub piece_at : List ℕ → Option Piece

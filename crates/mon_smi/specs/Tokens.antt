@@ -1,5 +1,5 @@
--- What a text is cut into: the words, numbers, strings and marks of ASN.1 (ITU-T X.208 section 8),
--- as RFC 2578 section 3 uses them.
+-- What a text is cut into: the words, numbers, strings and punctuation of ASN.1 (ITU-T X.208
+-- section 8), as RFC 2578 section 3 uses them.
 use Rattle.std.specs.Prelude.{◌⊎◌, ◌≡◌, ◌≢◌, ℕ, suc, ◌+◌, ◌<◌, ◌≤◌, List, [], ◌∷◌, ◌++◌, length}
 use Rattle.std.specs.Prelude.{slice_index, take, drop, Bool, ◌||◌, ◌&&◌, ◌==◌, nat_le, nat_lt}
 use Rattle.std.specs.Prelude.{IsTrue, if◌then◌else◌, Option, Some, None, codes}

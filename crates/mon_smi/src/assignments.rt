@@ -9,7 +9,9 @@ use crate::kind::TokenKind;
 use crate::lexeme::{Lexeme, begins_capital, begins_small};
 use crate::numbers::Numbers;
 use crate::read_fault::ReadFault;
-use crate::rules::{begins, begins_word, convention_at, mark_at, object_type_at, type_at, word_at};
+use crate::rules::{
+    begins, begins_word, convention_at, object_type_at, punctuation_at, type_at, word_at,
+};
 use crate::values::{Value, name_at, value_at};
 use crate::word::Word;
 use std::alloc::{AllocError, Global};
@@ -40,7 +42,7 @@ fn macro_name_at<'a, 's>(ls: &'a [Lexeme<'s>]) -> Result<&'a [Lexeme<'s>], ReadF
     Err(ReadFault::BrokenOff(ls))
 }
 
-/// The first such mark, and what follows it.
+/// The first such punctuation, and what follows it.
 pub(crate) fn up_to<'a, 's>(
     kind: TokenKind,
     ls: &'a [Lexeme<'s>],
@@ -49,7 +51,7 @@ pub(crate) fn up_to<'a, 's>(
 {
     let mut rest = ls;
     while let [first, after @ ..] = rest {
-        if first.is_mark(kind) {
+        if first.is_punctuation(kind) {
             return Ok(rest);
         }
         rest = after;
@@ -84,7 +86,7 @@ fn macro_at<'a, 's>(ls: &'a [Lexeme<'s>]) -> Result<&'a [Lexeme<'s>], ReadFault<
     up_to(TokenKind::Assign, rest)
 }
 
-/// Reads what comes between a value's name and its assignment mark.
+/// Reads what comes between a value's name and its assignment punctuation.
 #[tactic(auto, unfolding(crate::specs::Reading::head_at))]
 fn head_at<'a, 's>(ls: &'a [Lexeme<'s>]) -> Result<&'a [Lexeme<'s>], ReadFault<'a, 's>>
     ensures { Gives (λ rest. rest.now) result (head_at ls.now) }
@@ -108,7 +110,7 @@ fn definition_at<'a, 's>(
     ensures { Gives (λ x. (x.0, x.1.now)) result (definition_at name.now ls.now) }
 {
     let rest = head_at(ls)?;
-    let rest = mark_at(TokenKind::Assign, rest)?;
+    let rest = punctuation_at(TokenKind::Assign, rest)?;
     let (value, rest) = value_at(alloc, rest)?;
     Ok((define(alloc, name, value)?, rest))
 }
@@ -158,7 +160,7 @@ fn textual_at<'a, 's>(ls: &'a [Lexeme<'s>]) -> Result<&'a [Lexeme<'s>], ReadFaul
 fn type_body_at<'a, 's>(ls: &'a [Lexeme<'s>]) -> Result<&'a [Lexeme<'s>], ReadFault<'a, 's>>
     ensures { Gives (λ rest. rest.now) result (type_body_at ls.now) }
 {
-    let rest = mark_at(TokenKind::Assign, ls)?;
+    let rest = punctuation_at(TokenKind::Assign, ls)?;
     if is_convention(rest) {
         return textual_at(rest);
     }

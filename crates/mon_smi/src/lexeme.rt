@@ -3,7 +3,7 @@
 ghost use Rattle.std.specs.Prelude.{◌≡◌, ◌≤◌, ◌-◌, length, take, drop, IfOk};
 ghost use Rattle.std.specs.Str.{IsUtf8};
 ghost use Rattle.std.specs.Option.{option_map};
-ghost use Rattle.mon_smi.specs.Lexemes.{IsTokenOf, AreTokensOf, lexeme_at, lexemes, code_of, same_text, is_word, is_mark, word_of, digits_of, begins_small, begins_capital, is_any_word, is_capital};
+ghost use Rattle.mon_smi.specs.Lexemes.{IsTokenOf, AreTokensOf, lexeme_at, lexemes, code_of, same_text, is_word, is_punctuation, word_of, digits_of, begins_small, begins_capital, is_any_word, is_capital};
 
 use crate::kind::TokenKind;
 use crate::scan::byte_at;
@@ -107,8 +107,8 @@ impl<'a> Lexeme<'a> {
     }
 
     /// Returns `true` if it is a token of this kind, which is neither a word nor a number.
-    pub(crate) fn is_mark(&self, kind: TokenKind) -> bool
-        ensures { result ≡ is_mark kind self.now }
+    pub(crate) fn is_punctuation(&self, kind: TokenKind) -> bool
+        ensures { result ≡ is_punctuation kind self.now }
     {
         match self.kind {
             TokenKind::Word | TokenKind::Number => false,

@@ -15,7 +15,7 @@ use crate::lexeme::{Lexeme, begins_capital, lexemes};
 use crate::lexer::tokens;
 use crate::places::first_twice;
 use crate::read_fault::ReadFault;
-use crate::rules::{begins_word, last, mark_at, word_at};
+use crate::rules::{begins_word, last, punctuation_at, word_at};
 use crate::text_fault::TextFault;
 use crate::token::Token;
 use crate::word::Word;
@@ -37,7 +37,7 @@ fn imported_at<'a, 's>(ls: &'a [Lexeme<'s>]) -> Result<&'a [Lexeme<'s>], ReadFau
     ensures { Gives (λ rest. rest.now) result (imported_at ls.now) }
 {
     let rest = up_to(TokenKind::Semicolon, ls)?;
-    mark_at(TokenKind::Semicolon, rest)
+    punctuation_at(TokenKind::Semicolon, rest)
 }
 
 /// What is imported, or nothing.
@@ -97,7 +97,7 @@ fn module_body_at<'a, 's>(alloc: Global, ls: &'a [Lexeme<'s>]) -> Result<Body, R
     ensures starts { IfOk result (λ body. AllBegin ls.now body.starts.items body.defs.items) }
 {
     let rest = word_at("DEFINITIONS", ls)?;
-    let rest = mark_at(TokenKind::Assign, rest)?;
+    let rest = punctuation_at(TokenKind::Assign, rest)?;
     let rest = word_at("BEGIN", rest)?;
     let rest = imports_at(rest)?;
     definitions_at(alloc, rest)

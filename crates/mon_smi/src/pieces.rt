@@ -2,7 +2,7 @@
 
 ghost use Rattle.std.specs.Prelude.{◌≡◌, ◌<◌, ◌^◌};
 ghost use Rattle.mon_smi.specs.Tokens.{is_space};
-ghost use Rattle.mon_smi.specs.Scan.{token, passed, signed, hyphen_at, quoted_at, closed_bits, quoted_bits_at, assign_at, dot_at, mark_at, behind_at, piece_at};
+ghost use Rattle.mon_smi.specs.Scan.{token, passed, signed, hyphen_at, quoted_at, closed_bits, quoted_bits_at, assign_at, dot_at, punctuation_at, behind_at, piece_at};
 
 use crate::kind::TokenKind;
 use crate::scan::{Run, behind, byte_at, closing_len, comment_len, run_len, word_len};
@@ -73,7 +73,7 @@ fn quoted_bits_at(text: &[u8]) -> Option<Piece>
     closed_bits(digits, bits, behind(text, digits))
 }
 
-/// The assignment mark, after its first colon.
+/// The assignment punctuation, after its first colon.
 fn assign_at(text: &[u8]) -> Option<Piece>
     ensures { result ≡ assign_at text.now }
 {
@@ -93,9 +93,9 @@ fn dot_at(text: &[u8]) -> Option<Piece>
     token(TokenKind::Dot, 1)
 }
 
-/// A mark of one byte.
-fn mark_at(byte: u8) -> Option<Piece>
-    ensures { result ≡ mark_at byte }
+/// A punctuation of one byte.
+fn punctuation_at(byte: u8) -> Option<Piece>
+    ensures { result ≡ punctuation_at byte }
 {
     match byte {
         b'{' => token(TokenKind::LeftBrace, 1),
@@ -121,7 +121,7 @@ fn behind_at(first: u8, rest: &[u8]) -> Option<Piece>
         b'\'' => quoted_bits_at(rest),
         b':' => assign_at(rest),
         b'.' => dot_at(rest),
-        _ => mark_at(first),
+        _ => punctuation_at(first),
     }
 }
 

@@ -1,7 +1,7 @@
 //! Reading types and the clauses of macros.
 
 ghost use Rattle.std.specs.Prelude.{◌≡◌, ◌≤◌, ◌-◌, length, drop};
-ghost use Rattle.mon_smi.specs.Reading.{Gives, word_at, mark_at, begins, begins_word, one, nested_at, group_at, is_pair, is_sequence_of, type_name_at, maybe_group, type_at, is_access, is_status, part_at, clause_at, optional_at, index_at, syntax_at, described_at, object_type_at, convention_at};
+ghost use Rattle.mon_smi.specs.Reading.{Gives, word_at, punctuation_at, begins, begins_word, one, nested_at, group_at, is_pair, is_sequence_of, type_name_at, maybe_group, type_at, is_access, is_status, part_at, clause_at, optional_at, index_at, syntax_at, described_at, object_type_at, convention_at};
 ghost use Rattle.mon_smi.specs.Lexemes.{is_capital, is_any_word};
 
 use crate::kind::TokenKind;
@@ -33,30 +33,30 @@ pub(crate) fn word_at<'a, 's>(
     Err(ReadFault::BrokenOff(ls))
 }
 
-/// This mark, and what follows it.
-pub(crate) fn mark_at<'a, 's>(
+/// This punctuation, and what follows it.
+pub(crate) fn punctuation_at<'a, 's>(
     kind: TokenKind,
     ls: &'a [Lexeme<'s>],
 ) -> Result<&'a [Lexeme<'s>], ReadFault<'a, 's>>
-    ensures { Gives (λ rest. rest.now) result (mark_at kind ls.now) }
+    ensures { Gives (λ rest. rest.now) result (punctuation_at kind ls.now) }
 {
     let [first, rest @ ..] = ls else {
         return Err(ReadFault::BrokenOff(ls));
     };
-    if first.is_mark(kind) {
+    if first.is_punctuation(kind) {
         return Ok(rest);
     }
     Err(ReadFault::BrokenOff(ls))
 }
 
-/// Returns `true` if this mark comes next.
+/// Returns `true` if this punctuation comes next.
 pub(crate) fn begins(kind: TokenKind, ls: &[Lexeme]) -> bool
     ensures { result ≡ begins kind ls.now }
 {
     let [first, ..] = ls else {
         return false;
     };
-    first.is_mark(kind)
+    first.is_punctuation(kind)
 }
 
 /// Returns `true` if this word comes next.
@@ -69,7 +69,7 @@ pub(crate) fn begins_word(word: &str, ls: &[Lexeme]) -> bool
     first.is_word(word)
 }
 
-/// The rest of a group, after its opening mark.
+/// The rest of a group, after its opening punctuation.
 fn nested_at<'a, 's>(
     left: TokenKind,
     right: TokenKind,
@@ -81,9 +81,9 @@ fn nested_at<'a, 's>(
     let mut rest = ls;
     while let [first, after @ ..] = rest {
         rest = after;
-        if first.is_mark(left) {
+        if first.is_punctuation(left) {
             depth += 1;
-        } else if first.is_mark(right) {
+        } else if first.is_punctuation(right) {
             if depth == 0 {
                 return Ok(rest);
             }
@@ -93,7 +93,7 @@ fn nested_at<'a, 's>(
     Err(ReadFault::BrokenOff(rest))
 }
 
-/// A group between these marks.
+/// A group between these punctuation.
 #[tactic(auto, unfolding(crate::specs::Reading::group_at))]
 fn group_at<'a, 's>(
     left: TokenKind,
@@ -102,7 +102,7 @@ fn group_at<'a, 's>(
 ) -> Result<&'a [Lexeme<'s>], ReadFault<'a, 's>>
     ensures { Gives (λ rest. rest.now) result (group_at left right ls.now) }
 {
-    let rest = mark_at(left, ls)?;
+    let rest = punctuation_at(left, ls)?;
     nested_at(left, right, rest)
 }
 
@@ -244,7 +244,7 @@ fn part_at<'a, 's>(part: Part, ls: &'a [Lexeme<'s>]) -> Result<&'a [Lexeme<'s>],
 {
     match part {
         Part::Syntax => type_at(ls),
-        Part::Text => mark_at(TokenKind::Quoted, ls),
+        Part::Text => punctuation_at(TokenKind::Quoted, ls),
         Part::Access => access_at(ls),
         Part::Status => status_at(ls),
         Part::Word => any_word_at(ls),

@@ -7,7 +7,7 @@ ghost use Rattle.mon_smi.specs.Reading.{Gives, name_at, number_of, sub_at, in_pa
 use crate::kind::TokenKind;
 use crate::lexeme::Lexeme;
 use crate::read_fault::ReadFault;
-use crate::rules::{begins, last, mark_at};
+use crate::rules::{begins, last, punctuation_at};
 use std::alloc::Global;
 
 /// A word, and what follows it.
@@ -67,9 +67,9 @@ fn sub_at<'a, 's>(ls: &'a [Lexeme<'s>]) -> Result<(u32, &'a [Lexeme<'s>]), ReadF
 fn in_parens_at<'a, 's>(ls: &'a [Lexeme<'s>]) -> Result<(u32, &'a [Lexeme<'s>]), ReadFault<'a, 's>>
     ensures { Gives (λ x. (x.0, x.1.now)) result (in_parens_at ls.now) }
 {
-    let rest = mark_at(TokenKind::LeftParen, ls)?;
+    let rest = punctuation_at(TokenKind::LeftParen, ls)?;
     let (number, rest) = sub_at(rest)?;
-    let rest = mark_at(TokenKind::RightParen, rest)?;
+    let rest = punctuation_at(TokenKind::RightParen, rest)?;
     Ok((number, rest))
 }
 
@@ -144,13 +144,13 @@ pub(crate) fn value_at<'a, 's>(
     ensures { Gives (λ x. ((option_map (λ w. w.now) x.0.parent, x.0.numbers.items), x.1.now)) result
         (value_at ls.now) }
 {
-    let inner = mark_at(TokenKind::LeftBrace, ls)?;
+    let inner = punctuation_at(TokenKind::LeftBrace, ls)?;
     let (parent, behind) = parent_at(inner);
     let (numbers, left) = numbers_at(alloc, behind)?;
     let rest = last(behind, left);
     if !enough(parent, numbers.as_slice()) {
         return Err(ReadFault::BrokenOff(rest));
     }
-    let rest = mark_at(TokenKind::RightBrace, rest)?;
+    let rest = punctuation_at(TokenKind::RightBrace, rest)?;
     Ok((Value { parent, numbers }, rest))
 }

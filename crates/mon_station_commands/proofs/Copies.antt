@@ -10,7 +10,7 @@ use Rattle.mon_formats.specs.declared.format.Format.{Format}
 use Rattle.mon_page.specs.declared.figures.Figures.{Figures}
 use Rattle.mon_file_commands.specs.Report.{entries_by}
 use Rattle.mon_station_commands.specs.Showing.{IsShown}
-use Rattle.mon_web.specs.Site.{View, with_texts}
+use Rattle.mon_web.specs.Pages.{View, with_texts}
 use Rattle.mon_web.specs.Texts.{Texts}
 
 -- the report of a copy is that of the board
@@ -21,7 +21,7 @@ pub of_copy : (format : Format) (figures : Figures) (printing kept : Printing) (
 of_copy format figures printing kept board copy states given same watch windows are =
     λ i. formatted format (shown_by (same i).names) (entries_by (let b : Board = record { watch = watch i; windows = windows i; marks = copy.marks } in b) (are i)) (Some figures) (same i).labels.items (same i).presentation
 
--- a site that lost its texts and has others then
+-- pages that lost its texts and have others then
 with_others : (texts : Option Texts) (view : Option View) → option_map (with_texts texts) (option_map (with_texts None) view) ≡ option_map (with_texts texts) view
 with_others texts None = refl
 with_others texts (Some view) = refl

@@ -28,7 +28,7 @@ use Rattle.mon_udp.specs.declared.addr.Addr.{Addr}
 -- says.
 abbrev pub IsDoor : Option (List ℕ) → Result (Option Addr) Failure → Type 0
 IsDoor None result = result ≡ Ok None
-IsDoor (Some text) (Ok door) = (at : Addr) × (addr_of text ≡ Some at) × (door ≡ Some at)
+IsDoor (Some text) (Ok acceptor) = (at : Addr) × (addr_of text ≡ Some at) × (acceptor ≡ Some at)
 IsDoor (Some text) (Err failure) = (addr_of text ≡ None)
     × IsOfText text (codes "an address, a.b.c.d:port,") failure
 
@@ -112,8 +112,8 @@ IsUnseenOpened s = Then (IsSocket s) (λ (socket : Unit {0}). IsPlace s)
 
 -- A station that serves HTTP is opened: its socket, the listener at this address, and then its
 -- file. The result is where it is, and where it serves HTTP.
-abbrev pub IsShownOpened : StationSettings → (door : Addr) → List AtHost
+abbrev pub IsShownOpened : StationSettings → (acceptor : Addr) → List AtHost
     → Result (SocketAddr × SocketAddr) Failure → Type 0
-IsShownOpened s door = Then (IsSocket s) (λ (socket : Unit {0}).
-    Then (Quietly (SomeOr (IsNoSocket door))) (λ (web : SocketAddr).
+IsShownOpened s acceptor = Then (IsSocket s) (λ (socket : Unit {0}).
+    Then (Quietly (SomeOr (IsNoSocket acceptor))) (λ (web : SocketAddr).
     Then (IsPlace s) (λ at. Quietly (λ result. result ≡ Ok (at, web)))))

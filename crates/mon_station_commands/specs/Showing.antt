@@ -16,10 +16,10 @@ use Rattle.mon_station.specs.State.{State}
 use Rattle.mon_station_commands.specs.Figures.{AreFigures}
 use Rattle.mon_file_commands.specs.Report.{entries_by}
 use Rattle.mon_station_commands.specs.declared.live.Reports.{Reports}
-use Rattle.mon_web.specs.Site.{View, with_texts}
+use Rattle.mon_web.specs.Pages.{View, with_texts}
 use Rattle.mon_web.specs.Texts.{Texts}
 
--- Texts are the report of these instances in the formats of a site's texts: of figures for
+-- Texts are the report of these instances in the formats of the pages' texts: of figures for
 -- which this holds, with names shown so, and with these labels, presented so.
 pub record AreTexts (Holds : Figures → Type 0) (shown : List ℕ → List ℕ) (entries : List Entry)
     (labels : List InstanceLabels) (presentation : Presentation) (texts : Texts) : Type 0 where
@@ -42,7 +42,7 @@ AreTextsOf state course fresh peers engines now round_at reports =
     (entries_by state.board (announced_states course.announcer))
     reports.printing.labels.items reports.printing.presentation
 
--- A site, if there is one, shows texts for which this holds; or none, if there was no memory for
+-- Pages, if there are any, show texts for which this holds; or none, if there was no memory for
 -- them.
 pub record IsShown (Holds : Texts → Type 0) (old new : Option View) : Type 0 where
   pub texts : Option Texts

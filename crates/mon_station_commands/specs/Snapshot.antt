@@ -19,7 +19,7 @@ report_of format source = formatted format (shown_by source.printing.names)
     (entries_by source.board source.states.items) (Some source.figures)
     source.printing.labels.items source.printing.presentation
 
--- the report of a source in the formats of a site's three routes, of which the figures have two
+-- the report of a source in the formats of the pages' three routes, of which the figures have two
 abbrev pub texts_of : Source → Texts
 texts_of source = record {
   metrics = report_of Prometheus source;

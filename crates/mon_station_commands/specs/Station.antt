@@ -73,24 +73,24 @@ IsUnseen words reports s = Then (IsUnseenOpened s) (λ at. IsWhole words reports
 abbrev pub IsSeen : Addr → StationArgs → Reports → StationSettings → List AtHost
     → Result Unit Failure
     → Type 0
-IsSeen door words reports s =
-    Then (IsShownOpened s door) (λ both. IsWhole words reports s both.0 (Some both.1))
+IsSeen acceptor words reports s =
+    Then (IsShownOpened s acceptor) (λ both. IsWhole words reports s both.0 (Some both.1))
 
 -- a station that serves HTTP if there is an address for it
 abbrev pub IsSeenIf : Option Addr → StationArgs → Reports → StationSettings → List AtHost
     → Result Unit Failure → Type 0
 IsSeenIf None words reports s log result = IsUnseen words reports s log result
-IsSeenIf (Some door) words reports s log result = IsSeen door words reports s log result
+IsSeenIf (Some acceptor) words reports s log result = IsSeen acceptor words reports s log result
 
 -- A station is run: the address for HTTP and the URL for notifications are read, then the settings,
 -- the modules and the labels. Then it is opened.
 abbrev pub IsRunning : StationArgs → List AtHost → Result Unit Failure → Type 0
-IsRunning words = Then (Quietly (IsDoor (option_copied words.http))) (λ door.
+IsRunning words = Then (Quietly (IsDoor (option_copied words.http))) (λ acceptor.
     Then (Quietly (IsCourier (option_copied words.notify))) (λ courier.
     Then (IsLabelled words.settings.now (option_map (λ l. l.now) words.labels) words.printed)
     (λ both.
     Then (Quietly (OrMemory (AreReports words both.0 both.1))) (λ reports.
-    IsSeenIf door words reports both.0))))
+    IsSeenIf acceptor words reports both.0))))
 
 -- only what limits a station is printed, or it is run
 abbrev pub IsStationIf : (checks : Bool) → StationArgs → List AtHost → Result Unit Failure → Type 0

@@ -4,7 +4,7 @@ ghost use Rattle.std.specs.Prelude.{◌≡◌, IfOk, option_map};
 ghost use Rattle.mon_station.specs.State.{state_of};
 ghost use Rattle.mon_station_commands.specs.Showing.{AreTextsOf, IsShown};
 ghost use Rattle.mon_station_commands.specs.Snapshot.{AreBlank, texts_of};
-ghost use Rattle.mon_web.specs.Site.{with_round};
+ghost use Rattle.mon_web.specs.Pages.{with_round};
 
 use crate::copying::copy_of;
 use crate::figures::make_figures;
@@ -24,7 +24,7 @@ pub(crate) fn show_span<S: Shows<Snapshot> + Drop, O: Outbox + Drop>(
     number: u32,
     span: Span,
 )
-    // After a round the site knows which one ended when, and shows what is known after it.
+    // After a round the pages know which one ended when, and show what is known after it.
     ensures shown { span ≡ Span.Round → IsShown (AreTextsOf (state_of live.old.station.life)
         live.old.course live.old.freshness live.old.transport.peers.items
         live.old.transport.engines.items live.old.ended live.old.kept.round_at live.old.reports)

@@ -33,7 +33,7 @@ use mon_rounds::{Receiver, SocketReceiver, Span, is_due};
 use mon_settings::StationSettings;
 use mon_station::Outbox;
 use mon_udp::{Addr, Socket};
-use mon_web::{Door, Site, Web};
+use mon_web::{Acceptor, Pages, Server};
 use mon_web_receiver::{PolledSocket, Shows, WebReceiver};
 use std::alloc::{AllocError, Global};
 use std::fs::File;
@@ -87,7 +87,7 @@ fn run_words<R: Clock + Files<File = File> + Net + AllocGlobal, H: Host>(
     ensures { GoesOnBy (λ log. IsRunning words.entry log result) (H.log host.old) (H.log host.new) }
 {
     let alloc = rt.alloc();
-    let door = door_of(alloc, words.http)?;
+    let acceptor = door_of(alloc, words.http)?;
     let courier = courier_of(alloc, words.notify)?;
     let (settings, printing) = read_labelled_station(
         alloc,
@@ -102,7 +102,7 @@ fn run_words<R: Clock + Files<File = File> + Net + AllocGlobal, H: Host>(
         reports,
         courier,
     };
-    run_by(rt, host, setup, words, door)
+    run_by(rt, host, setup, words, acceptor)
 }
 
 /// Runs a station that serves HTTP if there is an address for it.
@@ -111,12 +111,13 @@ fn run_by<R: Clock + Files<File = File> + Net + AllocGlobal, H: Host>(
     host: &mut H,
     setup: Setup,
     words: StationArgs<'_, '_>,
-    door: Option<Addr>,
+    acceptor: Option<Addr>,
 ) -> Result<(), Failure>
-    ensures { GoesOnBy (λ log. IsSeenIf door words.entry setup.reports setup.settings log result)
+    ensures { GoesOnBy (λ log. IsSeenIf acceptor words.entry setup.reports setup.settings log
+        result)
         (H.log host.old) (H.log host.new) }
 {
-    match door {
+    match acceptor {
         None => run_unseen(rt, host, setup, words),
         Some(at) => {
             let front = Front {
@@ -269,7 +270,7 @@ fn tell_http<H: Host>(host: &mut H, at: SocketAddr)
 struct Shown {
     socket: PolledSocket,
     place: Place,
-    web: Web<Snapshot>,
+    web: Server<Snapshot>,
     /// Where it serves HTTP.
     at: SocketAddr,
 }
@@ -319,21 +320,21 @@ fn open_web<R: Net + AllocGlobal>(
     front: Front<'_, '_>,
     settings: &StationSettings,
     timing: Timing,
-) -> Result<(Web<Snapshot>, SocketAddr), Failure>
+) -> Result<(Server<Snapshot>, SocketAddr), Failure>
     ensures failed { SomeOr (IsNoSocket front.entry.at) result }
-    ensures names { IfOk result (λ web. map string_bytes web.0.table.site.names.items
+    ensures names { IfOk result (λ web. map string_bytes web.0.table.pages.names.items
         ≡ map (λ t. t.now) front.entry.hosts.now) }
-    ensures limit { IfOk result (λ web. web.0.table.site.limit
+    ensures limit { IfOk result (λ web. web.0.table.pages.limit
         ≡ longest_gap settings.now timing.interval) }
 {
     let (alloc, at) = (rt.alloc(), front.at);
-    let door = or_socket_failure(alloc, at, Door::open(rt, at.socket()))?;
-    let place = or_socket_failure(alloc, at, door.address())?;
-    let site = Site::new(
+    let acceptor = or_socket_failure(alloc, at, Acceptor::open(rt, at.socket()))?;
+    let place = or_socket_failure(alloc, at, acceptor.address())?;
+    let pages = Pages::new(
         longest_gap(settings, timing.interval),
         copies_of(alloc, front.hosts)?,
     );
-    let web = or_socket_failure(alloc, at, Web::new(alloc, door, site))?;
+    let web = or_socket_failure(alloc, at, Server::new(alloc, acceptor, pages))?;
     Ok((web, place))
 }
 

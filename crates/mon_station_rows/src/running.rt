@@ -112,17 +112,17 @@ impl Outbox for Noting {
 /// How many turns are taken at most, and which call of the source and which of the outbox fails; 0:
 /// none.
 #[derive(Clone, Copy)]
-struct Asked {
+struct Arguments {
     turns: u64,
     source_call: u32,
     outbox_call: u32,
 }
 
 /// Reads the three numbers of a line.
-fn asked_of(numbers: &str) -> Option<Asked> {
+fn asked_of(numbers: &str) -> Option<Arguments> {
     let (turns, calls) = two(numbers, ' ')?;
     let (source_call, outbox_call) = two(calls, ' ')?;
-    Some(Asked {
+    Some(Arguments {
         turns: parsed(turns)?,
         source_call: parsed(source_call)?,
         outbox_call: parsed(outbox_call)?,
@@ -159,7 +159,7 @@ fn put_run(
     alloc: Global,
     text: &mut String,
     station: &mut Station<FuseDisk<MemoryDisk>>,
-    asked: Asked,
+    asked: Arguments,
     events: VecDeque<OwnedEvent>,
 ) -> Option<()> {
     let mut source = Listed {

@@ -10,13 +10,13 @@ use Rattle.mon_http.specs.Conversation.{Conversation}
 use Rattle.mon_http.specs.Request.{IsJudged, IsQuiet}
 use Rattle.mon_http.specs.declared.request.Verdict.{Verdict}
 use Rattle.mon_web.specs.Response.{IsResponse}
-use Rattle.mon_web.specs.Site.{View}
+use Rattle.mon_web.specs.Pages.{View}
 use Rattle.mon_web.specs.Stream.{IsReceived, IsSent, part_of, read_into}
 use Rattle.mon_web.specs.declared.client.Client.{Client}
 use Rattle.mon_web.specs.declared.client.Turn.{Turn}
 use Rattle.mon_web.specs.declared.client.Turn.TheVariants.{Waits, GoesOn, Begins, Ends}
 use Rattle.mon_web.specs.declared.response.Moment.{Moment}
-use Rattle.mon_web.specs.declared.seat.Stage.TheVariants.{Idle, Sending, Closing}
+use Rattle.mon_web.specs.declared.slot.Stage.TheVariants.{Idle, Sending, Closing}
 
 -- what a call did that passes octets: the stream before, the octets, its answer, the stream after
 abbrev pub Call : Type 0 → Type 1
@@ -89,7 +89,7 @@ pub record IsDraining {S : Type 0} (Read : Call S) (buffer : List ℕ) (old new 
   pub kept : new.connection ≡ old.connection
   pub after : turn ≡ after_reading answer
 
--- What came was answered by what the site shows at this moment, and the stream was asked nothing.
+-- What came was answered by what the pages show at this moment, and the stream was asked nothing.
 pub record IsAnswering {S : Type 0} (view : View) (at : Moment) (old new : Client S)
     (turn : Turn) : Type 0 where
   pub answered : IsResponse view at old.connection true new.connection

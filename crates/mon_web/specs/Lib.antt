@@ -1,7 +1,7 @@
 pub mod Texts
-pub mod Site
-pub mod Seat
+pub mod Pages
+pub mod Slot
 pub mod Response
 pub mod Stream
 pub mod Client
-pub mod Door
+pub mod Acceptor

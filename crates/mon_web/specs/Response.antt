@@ -1,13 +1,13 @@
--- What is answered on a connection, by what a site shows.
+-- What is answered on a connection, by what pages show.
 use Rattle.std.specs.Prelude.{◌≡◌, ◌⊎◌, Bool, true, false}
 use Rattle.mon_http.specs.declared.request.Verdict.{Verdict}
 use Rattle.mon_http.specs.Conversation.{Conversation, Moment as Replies, with_text, len_of, keeps}
 use Rattle.mon_http.specs.Conversation.{said}
 use Rattle.mon_http.specs.Request.{IsJudged, IsQuiet}
 use Rattle.mon_web.specs.declared.response.Moment.{Moment}
-use Rattle.mon_web.specs.Site.{View, out_of_memory, reply_for}
+use Rattle.mon_web.specs.Pages.{View, out_of_memory, reply_for}
 
--- what a site answers at this time
+-- what pages answer at this time
 abbrev pub replies : View → Moment → Replies
 replies view at = record { date = at.date; reply = λ route. reply_for view at.now route }
 
@@ -19,7 +19,7 @@ poor_replies at = record { date = at.date; reply = λ route. out_of_memory }
 abbrev pub after : Replies → Verdict → Conversation → Conversation
 after replies verdict c = with_text (len_of verdict) (keeps verdict) (said replies verdict) c
 
--- Nothing is answered, and more octets are needed; or what was judged is answered by what the site
+-- Nothing is answered, and more octets are needed; or what was judged is answered by what the pages
 -- shows, or that there is no memory for that. These are the steps of mon_http's histories.
 abbrev pub IsResponse : View → Moment → Conversation → Bool → Conversation → Type 0
 IsResponse view at old false new = IsQuiet old.unread × (new ≡ old)

@@ -1,4 +1,4 @@
--- What a site's texts say.
+-- What the texts of pages say.
 use Rattle.std.specs.Prelude.{ℕ, List}
 use Rattle.mon_web.specs.declared.content.Text.{Text}
 use Rattle.mon_web.specs.declared.content.Text.TheVariants.{Metrics, OpenMetrics, Report, Page}

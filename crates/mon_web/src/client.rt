@@ -2,13 +2,13 @@
 
 ghost use Rattle.std.specs.Prelude.{◌≡◌};
 ghost use Rattle.std.specs.IoError.{error_kind};
-ghost use Rattle.mon_web.specs.Site.{view_of};
+ghost use Rattle.mon_web.specs.Pages.{view_of};
 ghost use Rattle.mon_web.specs.Client.{IsAfterSending, IsDraining, IsReading, IsSending, IsTurn, after_error, after_reading};
 
 use crate::content::Content;
+use crate::pages::Pages;
 use crate::response::{Moment, respond};
-use crate::seat::Stage;
-use crate::site::Site;
+use crate::slot::Stage;
 use crate::stream::{Stream, receive_part, send_part};
 use mio::net::TcpStream;
 use mio::{Interest, Registry, Token};
@@ -59,13 +59,13 @@ impl<S: Stream> Client<S> {
     /// Octets are read into the buffer.
     pub(crate) fn turn<C: Content>(
         &mut self,
-        site: &mut Site<C>,
+        pages: &mut Pages<C>,
         buffer: &mut [u8],
         at: Moment,
     ) -> Turn
-        ensures turn { IsTurn S.asked_write S.asked_read S.asked_end (view_of C.says site.old) at
+        ensures turn { IsTurn S.asked_write S.asked_read S.asked_end (view_of C.says pages.old) at
             buffer.new self.old self.new result }
-        ensures site { view_of C.says site.new ≡ view_of C.says site.old }
+        ensures pages { view_of C.says pages.new ≡ view_of C.says pages.old }
     {
         if !self.connection.pending().is_empty() {
             return self.send();
@@ -73,7 +73,7 @@ impl<S: Stream> Client<S> {
         if self.connection.is_closing() {
             return self.drain(buffer);
         }
-        match respond(&mut self.connection, site, at) {
+        match respond(&mut self.connection, pages, at) {
             Ok(true) => Turn::Begins(Stage::Sending),
             Ok(false) => self.read(buffer),
             Err(_) => Turn::Ends,

@@ -1,8 +1,8 @@
-//! What a site shows: four texts, each of which is made when it is asked for.
+//! What pages show: four texts, each of which is made when it is asked for.
 
 use std::alloc::AllocError;
 
-/// A text that a site shows.
+/// A text that pages show.
 #[derive(Clone, Copy)]
 pub enum Text {
     /// The figures in Prometheus' text format, version 0.0.4.
@@ -15,7 +15,7 @@ pub enum Text {
     Page,
 }
 
-/// What a site shows. What its texts say is fixed; a text is made when it is first asked for, and
+/// What pages show. What its texts say is fixed; a text is made when it is first asked for, and
 /// copied for each request.
 pub trait Content: Drop {
     ghost use Rattle.std.specs.Prelude.{◌≡◌, OnOk};

@@ -6,12 +6,12 @@ ghost use Rattle.mon_http.specs.Request.{IsJudged};
 ghost use Rattle.mon_http.specs.declared.request.Verdict.{Verdict};
 ghost use Rattle.mon_http.specs.declared.request.Verdict.TheVariants as Verdicts;
 ghost use Rattle.mon_web.specs.Response.{IsResponse};
-ghost use Rattle.mon_web.specs.Site.{out_of_memory, reply_for, view_of};
+ghost use Rattle.mon_web.specs.Pages.{out_of_memory, reply_for, view_of};
 
 use crate::content::Content;
-use crate::site::Site;
+use crate::pages::Pages;
 use httpdate::HttpDate;
-use mon_http::{Answer, Connection, Request, Step};
+use mon_http::{Answer, Connection, Request, StepOutcome};
 use std::alloc::AllocError;
 
 /// A time.
@@ -23,61 +23,61 @@ pub struct Moment {
     pub date: Option<HttpDate>,
 }
 
-/// Answers what came on a connection, by what the site shows. Returns `true` if there was something
+/// Answers what came on a connection, by what the pages show. Returns `true` if there was something
 /// to answer. If there is no memory for a text, that is answered.
 ///
 /// # Errors
 /// `AllocError` if there is no memory for a response; the connection does not change then.
 pub(crate) fn respond<C: Content>(
     connection: &mut Connection,
-    site: &mut Site<C>,
+    pages: &mut Pages<C>,
     at: Moment,
 ) -> Result<bool, AllocError>
     requires open { connection.old.closing ≡ false }
     requires sent { connection.old.unsent ≡ [] }
-    ensures answered { IfOk result (λ done. IsResponse (view_of C.says site.old) at connection.old
+    ensures answered { IfOk result (λ done. IsResponse (view_of C.says pages.old) at connection.old
         done connection.new) }
     ensures kept { OnErr result (connection.new ≡ connection.old) }
     ensures cause { OnErr result (
-        (v : Verdict) × IsJudged (view_of C.says site.old).names connection.old.unread v) }
-    ensures site { view_of C.says site.new ≡ view_of C.says site.old }
+        (v : Verdict) × IsJudged (view_of C.says pages.old).names connection.old.unread v) }
+    ensures pages { view_of C.says pages.new ≡ view_of C.says pages.old }
 {
-    match connection.step(at.date, site.names())? {
-        Step::Wait => Ok(false),
-        Step::Refused => Ok(true),
-        Step::Asked(request) => {
-            answer_or_tell(connection, site, at, request)?;
+    match connection.step(at.date, pages.names())? {
+        StepOutcome::Wait => Ok(false),
+        StepOutcome::Refused => Ok(true),
+        StepOutcome::Asked(request) => {
+            answer_or_tell(connection, pages, at, request)?;
             Ok(true)
         }
     }
 }
 
-/// Answers a request for a host of the site's by what the site shows, or that there is no memory
+/// Answers a request for a host of the pages' by what the pages show, or that there is no memory
 /// for that.
 fn answer_or_tell<C: Content>(
     connection: &mut Connection,
-    site: &mut Site<C>,
+    pages: &mut Pages<C>,
     at: Moment,
     request: Request,
 ) -> Result<(), AllocError>
     requires open { connection.old.closing ≡ false }
     requires sent { connection.old.unsent ≡ [] }
-    requires asked { IsJudged (view_of C.says site.old).names connection.old.unread
+    requires asked { IsJudged (view_of C.says pages.old).names connection.old.unread
         (Verdicts.Asked request) }
     ensures answered { OnOk result (
         (connection.new ≡
-        with_reply at.date request (reply_for (view_of C.says site.old) at.now request.route)
+        with_reply at.date request (reply_for (view_of C.says pages.old) at.now request.route)
         connection.old)
         ⊎ (connection.new ≡ with_reply at.date request out_of_memory connection.old)) }
     ensures kept { OnErr result (connection.new ≡ connection.old) }
-    ensures site { view_of C.says site.new ≡ view_of C.says site.old }
+    ensures pages { view_of C.says pages.new ≡ view_of C.says pages.old }
 {
-    if site.make(request.route).is_err() {
-        return connection.answer(at.date, site.names(), request, Answer::OutOfMemory);
+    if pages.make(request.route).is_err() {
+        return connection.answer(at.date, pages.names(), request, Answer::OutOfMemory);
     }
-    let said = site.answer(request.route, at.now);
-    match connection.answer(at.date, site.names(), request, said) {
+    let said = pages.answer(request.route, at.now);
+    match connection.answer(at.date, pages.names(), request, said) {
         Ok(()) => Ok(()),
-        Err(_) => connection.answer(at.date, site.names(), request, Answer::OutOfMemory),
+        Err(_) => connection.answer(at.date, pages.names(), request, Answer::OutOfMemory),
     }
 }

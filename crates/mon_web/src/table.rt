@@ -2,16 +2,16 @@
 
 ghost use Rattle.std.specs.Prelude.{◌≡◌, ◌≢◌, ◌↔◌, IfOk, IsTrue, Some, true, option_map, slice_get, slice_set};
 ghost use Rattle.std.specs.Duration.{as_nanos};
-ghost use Rattle.mon_web.specs.Seat.{IsAdmission, IsLate, IsSeated, KeepsOthers, NoneLate, free_seat, has_done, has_newcomer_by, is_free, longest_wait, marked, marked_by, seat_in, settled};
+ghost use Rattle.mon_web.specs.Slot.{IsAdmission, IsLate, IsSeated, KeepsOthers, NoneLate, free_slot, has_done, has_newcomer_by, is_free, longest_wait, marked, marked_by, slot_in, settled};
 ghost use Rattle.mon_web.specs.declared.client.Turn.{Turn as TurnData};
 ghost use Rattle.std.specs.List.{list_all};
-ghost use Rattle.mon_web.specs.Site.{view_of};
+ghost use Rattle.mon_web.specs.Pages.{view_of};
 
 use crate::client::{Client, Turn};
 use crate::content::Content;
+use crate::pages::Pages;
 use crate::response::Moment;
-use crate::seat::{SEATS, SPARED_MS, Seat, Stage, choose_seat, is_late};
-use crate::site::Site;
+use crate::slot::{SEATS, SPARED_MS, Slot, Stage, choose_slot, is_late};
 use mio::net::{TcpListener, TcpStream};
 use mio::{Registry, Token};
 use std::alloc::{AllocError, Global};
@@ -28,17 +28,17 @@ const BUFFER: usize = 8192;
 const TICK_MS: u64 = 1000;
 
 /// A place without a client.
-const EMPTY: Seat = Seat {
+const EMPTY: Slot = Slot {
     stage: Stage::Free,
     since: 0,
     is_ready: false,
 };
 
 /// The place of a client whose stage starts now.
-fn seat_in(stage: Stage, now: u64) -> Seat
-    ensures { result ≡ seat_in stage now }
+fn slot_in(stage: Stage, now: u64) -> Slot
+    ensures { result ≡ slot_in stage now }
 {
-    Seat {
+    Slot {
         stage,
         since: now,
         is_ready: true,
@@ -49,14 +49,14 @@ fn seat_in(stage: Stage, now: u64) -> Seat
 pub(crate) struct Table<C> {
     alloc: Global,
     listener: TcpListener,
-    seats: Vec<Seat>,
+    slots: Vec<Slot>,
     clients: Vec<Option<Client<TcpStream>>>,
     /// A newcomer may be let in.
     has_newcomer: bool,
     /// Whose turn is next.
     next: usize,
     buffer: Vec<u8>,
-    pub(crate) site: Site<C>,
+    pub(crate) pages: Pages<C>,
 }
 
 // By hand: where one is let go, a proof has one call and not a drop of each field.
@@ -65,12 +65,12 @@ impl<C: Drop> Drop for Table<C> {
         let Table {
             alloc: _,
             listener: _,
-            seats: _,
+            slots: _,
             clients: _,
             has_newcomer: _,
             next: _,
             buffer: _,
-            site: _,
+            pages: _,
         } = self;
     }
 }
@@ -80,9 +80,9 @@ impl<C: Content> Table<C> {
     pub(crate) fn new(
         alloc: Global,
         listener: TcpListener,
-        site: Site<C>,
+        pages: Pages<C>,
     ) -> Result<Self, AllocError>
-        ensures { IfOk result (λ t. t.site ≡ site) }
+        ensures { IfOk result (λ t. t.pages ≡ pages) }
     {
         let mut clients = Vec::with_capacity(alloc, SEATS)?;
         for _ in 0..SEATS {
@@ -91,20 +91,21 @@ impl<C: Content> Table<C> {
         Ok(Table {
             alloc,
             listener,
-            seats: vec![in alloc; EMPTY; SEATS]?,
+            slots: vec![in alloc; EMPTY; SEATS]?,
             clients,
             has_newcomer: true,
             next: 0,
             buffer: vec![in alloc; 0u8; BUFFER]?,
-            site,
+            pages,
         })
     }
 
     /// Takes note that something may be done for the one of this token.
-    pub(crate) fn mark(&mut self, token: Token)
-        ensures site { self.new.site ≡ self.old.site }
-        ensures seats { self.new.seats.items ≡ marked_by token.0 true self.old.seats.items }
-        ensures door { self.new.has_newcomer ≡ has_newcomer_by token.0 true self.old.has_newcomer }
+    pub(crate) fn set_ready(&mut self, token: Token)
+        ensures pages { self.new.pages ≡ self.old.pages }
+        ensures slots { self.new.slots.items ≡ marked_by token.0 true self.old.slots.items }
+        ensures acceptor { self.new.has_newcomer
+            ≡ has_newcomer_by token.0 true self.old.has_newcomer }
     {
         if token.0 == DOOR {
             self.has_newcomer = true;
@@ -115,12 +116,12 @@ impl<C: Content> Table<C> {
 
     /// Notes whether something may be done at once for the client of a place.
     fn set_ready(&mut self, place: usize, ready: bool)
-        ensures site { self.new.site ≡ self.old.site }
-        ensures seats { self.new.seats.items ≡ marked place ready self.old.seats.items }
-        ensures door { self.new.has_newcomer ≡ self.old.has_newcomer }
+        ensures pages { self.new.pages ≡ self.old.pages }
+        ensures slots { self.new.slots.items ≡ marked place ready self.old.slots.items }
+        ensures acceptor { self.new.has_newcomer ≡ self.old.has_newcomer }
     {
-        if let Some(seat) = self.seats.get_mut(place) {
-            seat.is_ready = ready;
+        if let Some(slot) = self.slots.get_mut(place) {
+            slot.is_ready = ready;
         }
     }
 
@@ -130,8 +131,8 @@ impl<C: Content> Table<C> {
         if place == DOOR {
             return self.has_newcomer;
         }
-        match self.seats.get(place) {
-            Some(seat) => seat.is_ready,
+        match self.slots.get(place) {
+            Some(slot) => slot.is_ready,
             None => false,
         }
     }
@@ -139,7 +140,7 @@ impl<C: Content> Table<C> {
     /// Does one thing for one client, or lets a newcomer in. Returns `false` if there was nothing
     /// to do.
     pub(crate) fn turn(&mut self, registry: &Registry, at: Moment) -> bool
-        ensures { view_of C.says self.new.site ≡ view_of C.says self.old.site }
+        ensures { view_of C.says self.new.pages ≡ view_of C.says self.old.pages }
     {
         for _ in 0..=SEATS {
             let place = self.next;
@@ -151,23 +152,23 @@ impl<C: Content> Table<C> {
         false
     }
 
-    /// Does one thing for the client of a place, or at the door. Returns `false` if nothing was
+    /// Does one thing for the client of a place, or at the acceptor. Returns `false` if nothing was
     /// done.
     fn give_turn(&mut self, registry: &Registry, place: usize, at: Moment) -> bool
-        ensures site { view_of C.says self.new.site ≡ view_of C.says self.old.site }
-        ensures door { place ≡ 32
+        ensures pages { view_of C.says self.new.pages ≡ view_of C.says self.old.pages }
+        ensures acceptor { place ≡ 32
             → IsAdmission result at.now self.old.has_newcomer self.new.has_newcomer
-            self.old.seats.items self.new.seats.items }
+            self.old.slots.items self.new.slots.items }
         ensures client { place ≢ 32
             → (turn : TurnData) × (result ≡ has_done turn)
-            × (self.new.seats.items ≡ settled turn place at.now self.old.seats.items) }
+            × (self.new.slots.items ≡ settled turn place at.now self.old.slots.items) }
         ensures newcomer { place ≢ 32 → self.new.has_newcomer ≡ self.old.has_newcomer }
     {
         if place == DOOR {
             return self.admit(registry, at.now);
         }
         let turn = match self.clients.get_mut(place) {
-            Some(Some(client)) => client.turn(&mut self.site, self.buffer.as_mut_slice(), at),
+            Some(Some(client)) => client.turn(&mut self.pages, self.buffer.as_mut_slice(), at),
             _ => Turn::Waits,
         };
         self.settle(place, turn, at.now);
@@ -176,32 +177,32 @@ impl<C: Content> Table<C> {
 
     /// Does what a client's turn came to.
     fn settle(&mut self, place: usize, turn: Turn, now: u64)
-        ensures site { self.new.site ≡ self.old.site }
-        ensures seats { self.new.seats.items ≡ settled turn place now self.old.seats.items }
-        ensures door { self.new.has_newcomer ≡ self.old.has_newcomer }
+        ensures pages { self.new.pages ≡ self.old.pages }
+        ensures slots { self.new.slots.items ≡ settled turn place now self.old.slots.items }
+        ensures acceptor { self.new.has_newcomer ≡ self.old.has_newcomer }
     {
         match turn {
             Turn::Waits => self.set_ready(place, false),
             Turn::GoesOn => {}
-            Turn::Begins(stage) => self.set_seat(place, seat_in(stage, now)),
+            Turn::Begins(stage) => self.set_slot(place, slot_in(stage, now)),
             Turn::Ends => self.clear(place),
         }
     }
 
-    fn set_seat(&mut self, place: usize, seat: Seat)
-        ensures site { self.new.site ≡ self.old.site }
-        ensures door { self.new.has_newcomer ≡ self.old.has_newcomer }
-        ensures seats { self.new.seats.items ≡ slice_set self.old.seats.items place seat }
+    fn set_slot(&mut self, place: usize, slot: Slot)
+        ensures pages { self.new.pages ≡ self.old.pages }
+        ensures acceptor { self.new.has_newcomer ≡ self.old.has_newcomer }
+        ensures slots { self.new.slots.items ≡ slice_set self.old.slots.items place slot }
     {
-        if let Some(kept) = self.seats.get_mut(place) {
-            *kept = seat;
+        if let Some(kept) = self.slots.get_mut(place) {
+            *kept = slot;
         }
     }
 
     fn set_client(&mut self, place: usize, client: Option<Client<TcpStream>>)
-        ensures site { self.new.site ≡ self.old.site }
-        ensures door { self.new.has_newcomer ≡ self.old.has_newcomer }
-        ensures seats { self.new.seats.items ≡ self.old.seats.items }
+        ensures pages { self.new.pages ≡ self.old.pages }
+        ensures acceptor { self.new.has_newcomer ≡ self.old.has_newcomer }
+        ensures slots { self.new.slots.items ≡ self.old.slots.items }
     {
         if let Some(kept) = self.clients.get_mut(place) {
             *kept = client;
@@ -210,26 +211,26 @@ impl<C: Content> Table<C> {
 
     /// Closes the connection of a place.
     fn clear(&mut self, place: usize)
-        ensures site { self.new.site ≡ self.old.site }
-        ensures door { self.new.has_newcomer ≡ self.old.has_newcomer }
-        ensures seats { self.new.seats.items ≡ slice_set self.old.seats.items place free_seat }
+        ensures pages { self.new.pages ≡ self.old.pages }
+        ensures acceptor { self.new.has_newcomer ≡ self.old.has_newcomer }
+        ensures slots { self.new.slots.items ≡ slice_set self.old.slots.items place free_slot }
     {
         self.set_client(place, None);
-        self.set_seat(place, EMPTY);
+        self.set_slot(place, EMPTY);
     }
 
     /// Lets a newcomer in, if there is one and a place for it. Returns `true` if one came.
     fn admit(&mut self, registry: &Registry, now: u64) -> bool
-        ensures site { self.new.site ≡ self.old.site }
-        ensures seats { IsAdmission result now self.old.has_newcomer self.new.has_newcomer
-            self.old.seats.items self.new.seats.items }
+        ensures pages { self.new.pages ≡ self.old.pages }
+        ensures slots { IsAdmission result now self.old.has_newcomer self.new.has_newcomer
+            self.old.slots.items self.new.slots.items }
     {
-        let Some(place) = choose_seat(self.seats.as_slice(), now) else {
+        let Some(place) = choose_slot(self.slots.as_slice(), now) else {
             return false;
         };
         match self.listener.accept() {
             Ok((stream, _)) => {
-                self.seat(registry, place, stream, now);
+                self.slot(registry, place, stream, now);
                 true
             }
             Err(_) => {
@@ -240,25 +241,25 @@ impl<C: Content> Table<C> {
     }
 
     /// Seats a newcomer. If memory is refused for it, it is closed.
-    fn seat(&mut self, registry: &Registry, place: usize, stream: TcpStream, now: u64)
-        ensures site { self.new.site ≡ self.old.site }
-        ensures seats { IsSeated place now self.old.seats.items self.new.seats.items }
-        ensures door { self.new.has_newcomer ≡ self.old.has_newcomer }
+    fn slot(&mut self, registry: &Registry, place: usize, stream: TcpStream, now: u64)
+        ensures pages { self.new.pages ≡ self.old.pages }
+        ensures slots { IsSeated place now self.old.slots.items self.new.slots.items }
+        ensures acceptor { self.new.has_newcomer ≡ self.old.has_newcomer }
     {
         self.clear(place);
         if let Ok(client) = Client::new(self.alloc, registry, stream, Token(place)) {
             self.set_client(place, Some(client));
-            self.set_seat(place, seat_in(Stage::Asking, now));
+            self.set_slot(place, slot_in(Stage::Asking, now));
         }
     }
 
     /// Closes the connections of clients that are late.
     pub(crate) fn close_late(&mut self, now: u64)
-        ensures site { self.new.site ≡ self.old.site }
-        ensures none { NoneLate now self.new.seats.items }
-        ensures others { KeepsOthers (IsLate now) self.old.seats.items self.new.seats.items }
+        ensures pages { self.new.pages ≡ self.old.pages }
+        ensures none { NoneLate now self.new.slots.items }
+        ensures others { KeepsOthers (IsLate now) self.old.slots.items self.new.slots.items }
     {
-        for place in 0..self.seats.len() {
+        for place in 0..self.slots.len() {
             if self.is_late(place, now) {
                 self.clear(place);
             }
@@ -266,11 +267,11 @@ impl<C: Content> Table<C> {
     }
 
     fn is_late(&self, place: usize, now: u64) -> bool
-        ensures late { (seat : Seat) → slice_get self.now.seats.items place ≡ Some seat
-            → IsTrue result ↔ IsLate now seat }
+        ensures late { (slot : Slot) → slice_get self.now.slots.items place ≡ Some slot
+            → IsTrue result ↔ IsLate now slot }
     {
-        match self.seats.get(place) {
-            Some(seat) => is_late(*seat, now),
+        match self.slots.get(place) {
+            Some(slot) => is_late(*slot, now),
             None => false,
         }
     }
@@ -279,11 +280,11 @@ impl<C: Content> Table<C> {
     /// newcomer.
     pub(crate) fn longest_wait(&self) -> Option<Duration>
         ensures { option_map as_nanos result ≡ longest_wait self.now.has_newcomer
-            self.now.seats.items }
+            self.now.slots.items }
     {
         if self.is_ready(DOOR) {
             Some(Duration::from_millis(SPARED_MS))
-        } else if are_free(self.seats.as_slice()) {
+        } else if are_free(self.slots.as_slice()) {
             None
         } else {
             Some(Duration::from_millis(TICK_MS))
@@ -292,8 +293,8 @@ impl<C: Content> Table<C> {
 }
 
 /// Returns `true` if no place has a client.
-fn are_free(seats: &[Seat]) -> bool
-    ensures { result ≡ list_all (λ (seat : _). is_free seat.stage) seats.now }
+fn are_free(slots: &[Slot]) -> bool
+    ensures { result ≡ list_all (λ (slot : _). is_free slot.stage) slots.now }
 {
-    seats.iter().all(|seat| seat.stage.is_free())
+    slots.iter().all(|slot| slot.stage.is_free())
 }

@@ -13,7 +13,7 @@ use crate::socket::{Looks, PolledSocket};
 use mio::unix::SourceFd;
 use mon_rounds::{Arrival, Receiver, ReceiverFault, Wait, arrival_of, milliseconds};
 use mon_udp::{Ticks, Timer, datagram_buffer, failed_after};
-use mon_web::{Content, Moment, Web};
+use mon_web::{Content, Moment, Server};
 use std::alloc::Global;
 use std::io;
 use std::net::SocketAddr;
@@ -54,9 +54,15 @@ pub struct WebReceiver<'a, R: Dates, T: Ticks, S: Looks, W: Serves> {
     failures: u64,
 }
 
-impl<'a, C: Content, R: Dates + AllocGlobal, T: Ticks> WebReceiver<'a, R, T, PolledSocket, Web<C>> {
+impl<'a, C: Content, R: Dates + AllocGlobal, T: Ticks> WebReceiver<
+    'a,
+    R,
+    T,
+    PolledSocket,
+    Server<C>,
+> {
     /// Returns a receiver by this socket, in no wait yet. Waits are reckoned by `ticks`; the times
-    /// of the site are since `origin`.
+    /// of the pages are since `origin`.
     ///
     /// # Errors
     /// `OutOfMemory` if there is no memory for a datagram, else the system's fault.
@@ -64,10 +70,10 @@ impl<'a, C: Content, R: Dates + AllocGlobal, T: Ticks> WebReceiver<'a, R, T, Pol
         rt: &'a R,
         ticks: &'a T,
         socket: &'a PolledSocket,
-        web: Web<C>,
+        web: Server<C>,
         origin: Instant,
     ) -> io::Result<Self>
-        ensures site { IfOk result (λ r. r.web.table.site ≡ web.table.site) }
+        ensures pages { IfOk result (λ r. r.web.table.pages ≡ web.table.pages) }
         ensures origin { IfOk result (λ r. r.origin ≡ origin) }
         ensures over { IfOk result (λ r. r.timer ≡ begun 0 origin) }
         ensures room { IfOk result (λ r. length r.buffer.items ≡ 65507) }
@@ -122,7 +128,7 @@ impl<R: Dates, T: Ticks, S: Looks, W: Serves> WebReceiver<'_, R, T, S, W> {
             self.old.unserved self.new.unserved self.old.web self.new.web) }
         ensures timer { self.new.timer ≡ self.old.timer }
         ensures room { length self.new.buffer.items ≡ length self.old.buffer.items }
-        ensures site { W.site self.new.web ≡ W.site self.old.web }
+        ensures pages { W.pages self.new.web ≡ W.pages self.old.web }
         ensures origin { self.new.origin ≡ self.old.origin }
     {
         for _ in 0..TRIES {
@@ -149,7 +155,7 @@ impl<R: Dates, T: Ticks, S: Looks, W: Serves> WebReceiver<'_, R, T, S, W> {
             W.served self.old.origin self.new.timer)
             self.old.unserved self.new.unserved self.old.web self.new.web) }
         ensures room { length self.new.buffer.items ≡ length self.old.buffer.items }
-        ensures site { W.site self.new.web ≡ W.site self.old.web }
+        ensures pages { W.pages self.new.web ≡ W.pages self.old.web }
         ensures origin { self.new.origin ≡ self.old.origin }
     {
         match self.begin(wait) {
@@ -172,7 +178,7 @@ impl<R: Dates, T: Ticks, S: Looks, W: Serves> WebReceiver<'_, R, T, S, W> {
         ensures by { (self.new.ticks ≡ self.old.ticks) × (self.new.socket ≡ self.old.socket)
             × (self.new.rt ≡ self.old.rt) }
         ensures room { length self.new.buffer.items ≡ length self.old.buffer.items }
-        ensures site { W.site self.new.web ≡ W.site self.old.web }
+        ensures pages { W.pages self.new.web ≡ W.pages self.old.web }
         ensures origin { self.new.origin ≡ self.old.origin }
     {
         let now = self.ticks.after(self.timer.quiet())?;
@@ -224,7 +230,7 @@ impl<R: Dates, T: Ticks, S: Looks, W: Serves> WebReceiver<'_, R, T, S, W> {
         ensures by { (self.new.ticks ≡ self.old.ticks) × (self.new.socket ≡ self.old.socket)
             × (self.new.rt ≡ self.old.rt) }
         ensures room { self.new.buffer ≡ self.old.buffer }
-        ensures site { W.site self.new.web ≡ W.site self.old.web }
+        ensures pages { W.pages self.new.web ≡ W.pages self.old.web }
         ensures origin { self.new.origin ≡ self.old.origin }
     {
         let wait = if self.unserved < MAX_UNSERVED {
@@ -272,7 +278,7 @@ impl<R: Dates, T: Ticks, S: Looks, W: Serves> Receiver for WebReceiver<'_, R, T,
             W.served self.old.origin self.new.timer)
             self.old.unserved self.new.unserved self.old.web self.new.web) }
         ensures room { length self.new.buffer.items ≡ length self.old.buffer.items }
-        ensures site { W.site self.new.web ≡ W.site self.old.web }
+        ensures pages { W.pages self.new.web ≡ W.pages self.old.web }
         ensures origin { self.new.origin ≡ self.old.origin }
     {
         let failures = self.failures;
@@ -282,20 +288,20 @@ impl<R: Dates, T: Ticks, S: Looks, W: Serves> Receiver for WebReceiver<'_, R, T,
     }
 }
 
-impl<C: Content, R: Dates, T: Ticks, S: Looks> Shows<C> for WebReceiver<'_, R, T, S, Web<C>> {
+impl<C: Content, R: Dates, T: Ticks, S: Looks> Shows<C> for WebReceiver<'_, R, T, S, Server<C>> {
     ghost use Rattle.std.specs.Prelude.{Some, option_map};
-    ghost use Rattle.mon_web.specs.Site.{view_of, with_texts};
+    ghost use Rattle.mon_web.specs.Pages.{view_of, with_texts};
 
-    ghost shown = { λ r. Some (view_of C.says r.web.table.site) };
+    ghost shown = { λ r. Some (view_of C.says r.web.table.pages) };
 
     fn is_shown(&self) -> bool {
         true
     }
 
     fn show(&mut self, content: Option<C>)
-        ensures shown { Some (view_of C.says self.new.web.table.site)
+        ensures shown { Some (view_of C.says self.new.web.table.pages)
             ≡ option_map (with_texts (option_map C.says content))
-            (Some (view_of C.says self.old.web.table.site)) }
+            (Some (view_of C.says self.old.web.table.pages)) }
         ensures failures { self.new.failures ≡ self.old.failures }
     {
         self.web.show(content);

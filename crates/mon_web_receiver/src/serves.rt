@@ -1,7 +1,7 @@
 //! What serves HTTP while a station waits for datagrams, and the date that it says.
 
 use httpdate::HttpDate;
-use mon_web::{Content, Moment, Web};
+use mon_web::{Content, Moment, Server};
 use std::io;
 use std::rt::Clock;
 use std::time::{Duration, SystemTime, UNIX_EPOCH};
@@ -11,10 +11,10 @@ pub trait Serves {
     ghost use Rattle.std.specs.Prelude.{◌≡◌, OnOk, ℕ};
     ghost use Rattle.std.specs.Duration.{as_nanos};
     ghost use Rattle.mon_web.specs.declared.response.Moment.{Moment as At};
-    ghost use Rattle.mon_web.specs.Site.{View};
+    ghost use Rattle.mon_web.specs.Pages.{View};
 
     // What it shows.
-    ghost site: { Self → View };
+    ghost pages: { Self → View };
 
     // It had a turn at this moment, in which it could wait this many nanoseconds: what it was
     // before, and after. Code that is generic over what serves has this from a call alone, made
@@ -27,14 +27,14 @@ pub trait Serves {
     /// That of the system, if it cannot be waited.
     fn serve(&mut self, at: Moment, left: Duration) -> io::Result<()>
         ensures served { OnOk result (served self.old at (as_nanos left) self.new) }
-        ensures site { site self.new ≡ site self.old };
+        ensures pages { pages self.new ≡ pages self.old };
 }
 
 // What comes to a listener is not known.
-impl<C: Content> Serves for Web<C> {
-    ghost use Rattle.mon_web.specs.Site.{view_of};
+impl<C: Content> Serves for Server<C> {
+    ghost use Rattle.mon_web.specs.Pages.{view_of};
 
-    ghost site = { λ web. view_of C.says web.table.site };
+    ghost pages = { λ web. view_of C.says web.table.pages };
 
     ghost served = { λ _ _ _ _. Unit {0} };
 

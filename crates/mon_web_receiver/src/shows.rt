@@ -8,7 +8,7 @@ use mon_web::Content;
 pub trait Shows<C: Content>: Receiver {
     ghost use Rattle.std.specs.Prelude.{◌≡◌, None, Option, option_and_then, option_map};
     ghost use Rattle.std.specs.Option.{is_some};
-    ghost use Rattle.mon_web.specs.Site.{View, with_round, with_texts};
+    ghost use Rattle.mon_web.specs.Pages.{View, with_round, with_texts};
 
     // What it shows, if it shows anything.
     ghost shown: { Self → Option View };

@@ -4,7 +4,7 @@ use Rattle.std.specs.Prelude.{Bool, true, false, IsErrAnd, Option, Some, Result,
 use Rattle.mon_app.specs.Network.{Agents, Ports}
 use Rattle.mon_carry_commands.specs.Saving.{Saved}
 use Rattle.mon_health_commands.specs.Health.{Stations}
-use Rattle.mon_cli.specs.declared.meaning.Asked.{Asked}
+use Rattle.mon_cli.specs.declared.meaning.Invocation.{Invocation}
 use Rattle.mon_console.specs.Failure.{IsMemory}
 use Rattle.mon_console.specs.Files.{IsPrint}
 use Rattle.mon_console.specs.declared.failure.Failure.{Failure}
@@ -24,7 +24,7 @@ ends station What given status before between after done end = record {
   on = goes_on done.more end.more before between after done.on end.on;
 }
 
-pub runs : (agents : Agents) (ports : Ports) (saved : Saved) (stations : Stations) (asked : Asked) (reads station : Bool) (given : Result Unit Failure) (status : ℕ) (start before between after : Option (List AtHost))
+pub runs : (agents : Agents) (ports : Ports) (saved : Saved) (stations : Stations) (asked : Invocation) (reads station : Bool) (given : Result Unit Failure) (status : ℕ) (start before between after : Option (List AtHost))
     → reads ≡ reads_input asked → station ≡ is_station asked → GoesOnBy (IsBefore reads) start before → GoesOnBy (λ log. Does agents ports saved stations asked log given) before between
     → GoesOnBy (λ log. IsEnd station given log status) between after → GoesOnBy (λ log. IsRunFor agents ports saved stations asked log status) start after
 runs agents ports saved stations asked reads station given status start before between after is same first done end =

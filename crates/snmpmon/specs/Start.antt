@@ -10,11 +10,12 @@ use Rattle.clap.specs.declared.error.Error.{Error}
 use Rattle.clap.specs.declared.error.kind.ErrorKind.{ErrorKind as UsageKind}
 use Rattle.clap.specs.declared.error.kind.ErrorKind.TheVariants as usage
 use Rattle.mon_app.specs.Network.{Agents, Ports}
-use Rattle.mon_cli.specs.Asked.{AsksFor, LacksColumns, LacksInterval, LacksMachines, LacksNumber}
-use Rattle.mon_cli.specs.Asked.{LacksRounds, LacksSource, LacksSplit, is_on}
+use Rattle.mon_cli.specs.Invocation.{AsksFor, LacksColumns, LacksInterval, LacksMachines}
+use Rattle.mon_cli.specs.Invocation.{LacksNumber}
+use Rattle.mon_cli.specs.Invocation.{LacksRounds, LacksSource, LacksSplit, is_on}
 use Rattle.mon_cli.specs.Program.{IsParseOf, Reads}
-use Rattle.mon_cli.specs.declared.meaning.Asked.{Asked}
-use Rattle.mon_cli.specs.declared.meaning.Asked.TheVariants as asked
+use Rattle.mon_cli.specs.declared.meaning.Invocation.{Invocation}
+use Rattle.mon_cli.specs.declared.meaning.Invocation.TheVariants as asked
 use Rattle.mon_commands.specs.Agent.{IsAnswering}
 use Rattle.mon_commands.specs.Client.{IsAskingMany, IsGetting, IsGettingNext, IsSetting}
 use Rattle.mon_commands.specs.Mib.{IsMib}
@@ -99,7 +100,7 @@ IsUsage usage.DisplayVersion log status = IsRun false IsShown log status
 IsUsage _ log status = (line : List ℕ) × IsRefused line log status
 
 -- what a command does
-abbrev pub Does : Agents → Ports → Saved → Stations → Asked → List AtHost → Result Unit Failure
+abbrev pub Does : Agents → Ports → Saved → Stations → Invocation → List AtHost → Result Unit Failure
     → Type 0
 Does agents ports saved stations asked.Version log result = IsPrint (codes "snmpmon 0.1.0\n") log
     result
@@ -129,14 +130,14 @@ Does agents ports saved stations asked.SelfTest log result = IsSelfTest log resu
 Does agents ports saved stations (asked.Rehearse words) log result = IsRehearsing words log result
 
 -- whether a command reads lines from standard input
-abbrev pub reads_input : Asked → Bool
+abbrev pub reads_input : Invocation → Bool
 reads_input (asked.Replay words) = true
 reads_input (asked.Answer words) = true
 reads_input (asked.Rehearse words) = true
 reads_input _ = false
 
 -- whether a command is a running station
-abbrev pub is_station : Asked → Bool
+abbrev pub is_station : Invocation → Bool
 is_station (asked.Station words) = true
 is_station _ = false
 
@@ -157,7 +158,7 @@ IsBefore false log = log ≡ []
 
 -- the command is run; first comes the line at a terminal, if it reads from one
 pub record IsRunFor (agents : Agents) (ports : Ports) (saved : Saved) (stations : Stations)
-    (asked : Asked) (log : List AtHost) (status : ℕ) : Type 0 where
+    (asked : Invocation) (log : List AtHost) (status : ℕ) : Type 0 where
   pub begin : List AtHost
   pub before : IsBefore (reads_input asked) begin
   pub rest : List AtHost
@@ -200,7 +201,7 @@ no_columns = codes "snmpmon: --sort wants --columns; see snmpmon report --help\n
 
 -- The command is run, unless a station, a report or settings lack something, which one line says.
 pub record IsStartOf (agents : Agents) (ports : Ports) (saved : Saved) (stations : Stations)
-    (asked : Asked) (log : List AtHost) (status : ℕ) : Type 0 where
+    (asked : Invocation) (log : List AtHost) (status : ℕ) : Type 0 where
   pub rounds : LacksRounds asked → IsRefused no_rounds log status
   pub interval : ¬ (LacksRounds asked) → LacksInterval asked → IsRefused no_interval log status
   pub source : ¬ (LacksRounds asked) → ¬ (LacksInterval asked) → LacksSource asked
@@ -220,7 +221,7 @@ pub record IsStartOf (agents : Agents) (ports : Ports) (saved : Saved) (stations
       → ¬ (LacksColumns asked) → IsRunFor agents ports saved stations asked log status
 
 -- what arguments ask for, by the rows that the command line makes of them
-pub record IsAskedBy (words : List Text) (a : Asked) : Type 0 where
+pub record IsAskedBy (words : List Text) (a : Invocation) : Type 0 where
   pub matches : ArgMatches
   pub parse : IsParseOf words matches
   pub asks : AsksFor (is_on (codes "version") (rows_of (found_of matches)))
@@ -228,7 +229,7 @@ pub record IsAskedBy (words : List Text) (a : Asked) : Type 0 where
 
 -- what the program does with its arguments: it starts the command, or says why there is none
 abbrev pub IsStartWith : Agents → Ports → Saved → Stations → List Text → List AtHost → ℕ → Type 0
-IsStartWith agents ports saved stations words log status = ((a : Asked) × IsAskedBy words a
+IsStartWith agents ports saved stations words log status = ((a : Invocation) × IsAskedBy words a
     × IsStartOf agents ports saved stations a log status)
     ⊎ ((e : Error) × Reads words (Err e) × IsUsage (kind_of e) log status)
 

@@ -3,7 +3,7 @@
 ghost use Rattle.std.specs.Prelude.{◌≡◌, false, map, string_bytes};
 ghost use Rattle.clap.specs.Values.{kind_of};
 ghost use Rattle.mon_app.specs.Network.{agents_by, ports_by};
-ghost use Rattle.mon_cli.specs.Asked.{IsWithin};
+ghost use Rattle.mon_cli.specs.Invocation.{IsWithin};
 ghost use Rattle.mon_health_commands.specs.Health.{stations_by};
 ghost use Rattle.mon_host.specs.Log.{GoesOnBy};
 ghost use Rattle.mon_host.specs.Reason.{why};
@@ -12,7 +12,7 @@ ghost use Rattle.snmpmon.specs.Start.{Does, Hints, IsBefore, IsEnd, IsRefused, I
 use clap::error::ErrorKind;
 use mon_app::{Listens, Opens};
 use mon_carry_commands::{Saves, carry_windows};
-use mon_cli::{Asked, VERSION, read, read_command};
+use mon_cli::{Invocation, VERSION, read, read_command};
 use mon_commands::{
     bulk, get, next, print_answers, print_names, print_recorded, print_rehearsal, run_self_test,
     serve_agent, set, walk,
@@ -176,7 +176,7 @@ fn start_command<
     K: Saves,
     C: Connects,
     H: Host,
->(rt: &R, means: &Means<N, K, C>, host: &mut H, asked: Asked<'_, '_>) -> u8
+>(rt: &R, means: &Means<N, K, C>, host: &mut H, asked: Invocation<'_, '_>) -> u8
     requires { IsWithin asked }
     ensures { GoesOnBy (λ log. IsStartOf (agents_by (N.Opens.has_opened means.now.net)
         (N.Opens.has_failed means.now.net) N.Wire.told) (ports_by (N.Listens.has_opened means.now.net)
@@ -217,7 +217,7 @@ fn run_to_end<
     K: Saves,
     C: Connects,
     H: Host,
->(rt: &R, means: &Means<N, K, C>, host: &mut H, asked: Asked<'_, '_>) -> u8
+>(rt: &R, means: &Means<N, K, C>, host: &mut H, asked: Invocation<'_, '_>) -> u8
     requires { IsWithin asked }
     ensures { GoesOnBy (λ log. IsRunFor (agents_by (N.Opens.has_opened means.now.net)
         (N.Opens.has_failed means.now.net) N.Wire.told) (ports_by (N.Listens.has_opened means.now.net)
@@ -243,20 +243,20 @@ fn prepare<H: Host>(host: &mut H, reads: bool)
 }
 
 /// Returns `true` for a command that reads lines from standard input.
-fn reads_input(asked: &Asked<'_, '_>) -> bool
+fn reads_input(asked: &Invocation<'_, '_>) -> bool
     ensures { result ≡ reads_input asked.now }
 {
     matches!(
         asked,
-        Asked::Replay(_) | Asked::Answer(_) | Asked::Rehearse(_)
+        Invocation::Replay(_) | Invocation::Answer(_) | Invocation::Rehearse(_)
     )
 }
 
 /// Returns `true` for a station that runs, or that is to be checked.
-fn is_station(asked: &Asked<'_, '_>) -> bool
+fn is_station(asked: &Invocation<'_, '_>) -> bool
     ensures { result ≡ is_station asked.now }
 {
-    matches!(asked, Asked::Station(_))
+    matches!(asked, Invocation::Station(_))
 }
 
 /// Says at a terminal how lines that are read from it end.
@@ -304,7 +304,7 @@ fn run<
     K: Saves,
     C: Connects,
     H: Host,
->(rt: &R, means: &Means<N, K, C>, host: &mut H, asked: Asked<'_, '_>) -> Result<(), Failure>
+>(rt: &R, means: &Means<N, K, C>, host: &mut H, asked: Invocation<'_, '_>) -> Result<(), Failure>
     requires { IsWithin asked }
     ensures { GoesOnBy (λ log. Does (agents_by (N.Opens.has_opened means.now.net)
         (N.Opens.has_failed means.now.net) N.Wire.told) (ports_by (N.Listens.has_opened means.now.net)
@@ -315,22 +315,22 @@ fn run<
 {
     let (alloc, net, disks) = (rt.alloc(), &means.net, &means.disks);
     match asked {
-        Asked::Version => print(alloc, host, VERSION.as_bytes()),
-        Asked::Replay(words) => print_recorded(alloc, host, words),
-        Asked::Get(request) => get(alloc, host, net, request),
-        Asked::Next(request) => next(alloc, host, net, request),
-        Asked::Bulk(words) => bulk(alloc, host, net, words),
-        Asked::Walk(words) => walk(alloc, host, net, words),
-        Asked::Set(words) => set(alloc, host, net, words),
-        Asked::Settings(words) => print_settings(alloc, host, net, words),
-        Asked::Agent(words) => serve_agent(alloc, host, net, words),
-        Asked::Answer(words) => print_answers(alloc, host, words),
-        Asked::Mib(words) => print_names(alloc, host, words),
-        Asked::Station(words) => run_station(rt, host, words),
-        Asked::Report(words) => print_saved_report(alloc, host, words),
-        Asked::Carry(words) => carry_windows(alloc, disks, host, words),
-        Asked::Healthz(words) => ask_health(alloc, host, &means.streams, words.address),
-        Asked::SelfTest => run_self_test(alloc, host),
-        Asked::Rehearse(words) => print_rehearsal(alloc, host, words),
+        Invocation::Version => print(alloc, host, VERSION.as_bytes()),
+        Invocation::Replay(words) => print_recorded(alloc, host, words),
+        Invocation::Get(request) => get(alloc, host, net, request),
+        Invocation::Next(request) => next(alloc, host, net, request),
+        Invocation::Bulk(words) => bulk(alloc, host, net, words),
+        Invocation::Walk(words) => walk(alloc, host, net, words),
+        Invocation::Set(words) => set(alloc, host, net, words),
+        Invocation::Settings(words) => print_settings(alloc, host, net, words),
+        Invocation::Agent(words) => serve_agent(alloc, host, net, words),
+        Invocation::Answer(words) => print_answers(alloc, host, words),
+        Invocation::Mib(words) => print_names(alloc, host, words),
+        Invocation::Station(words) => run_station(rt, host, words),
+        Invocation::Report(words) => print_saved_report(alloc, host, words),
+        Invocation::Carry(words) => carry_windows(alloc, disks, host, words),
+        Invocation::Healthz(words) => ask_health(alloc, host, &means.streams, words.address),
+        Invocation::SelfTest => run_self_test(alloc, host),
+        Invocation::Rehearse(words) => print_rehearsal(alloc, host, words),
     }
 }

@@ -388,8 +388,8 @@ BUGS = {
     ),
     "forgets_the_last_line": (
         "src/walking.rt",
-        "            Step::On => print_line(alloc, host, binding, names)?,",
-        "            Step::On => {\n                if found.len() < 65_535 {\n                    print_line(alloc, host, binding, names)?;\n                }\n            }",
+        "            WalkStep::On => print_line(alloc, host, binding, names)?,",
+        "            WalkStep::On => {\n                if found.len() < 65_535 {\n                    print_line(alloc, host, binding, names)?;\n                }\n            }",
     ),
     "strides_by_one": (
         "src/walking.rt",
@@ -418,13 +418,13 @@ BUGS = {
     ),
     "passes_over_names_outside_its_start": (
         "src/walking.rt",
-        "            Step::Past => return Ok(Turned::Over(printed)),",
-        "            Step::Past => continue,",
+        "            WalkStep::Past => return Ok(Turned::Over(printed)),",
+        "            WalkStep::Past => continue,",
     ),
     "ends_well_at_a_refused_line": (
         "src/walking.rt",
-        "            Step::On => print_line(alloc, host, binding, names)?,",
-        "            Step::On => {\n                if print_line(alloc, host, binding, names).is_err() {\n                    return Ok(Turned::Over(printed));\n                }\n            }",
+        "            WalkStep::On => print_line(alloc, host, binding, names)?,",
+        "            WalkStep::On => {\n                if print_line(alloc, host, binding, names).is_err() {\n                    return Ok(Turned::Over(printed));\n                }\n            }",
     ),
     "writes_back_its_input": (
         "src/replaying.rt",
@@ -955,20 +955,20 @@ BUGS = {
         "src/walking.rt",
         "        match step_of(start, last, binding) {",
         "        print_line(alloc, host, binding, names)?;\n        match step_of(start, last, binding) {",
-        "            Step::On => print_line(alloc, host, binding, names)?,",
-        "            Step::On => {}",
+        "            WalkStep::On => print_line(alloc, host, binding, names)?,",
+        "            WalkStep::On => {}",
     ),
     "prints_the_line_before": (
         "src/walking.rt",
         "        match step_of(start, last, binding) {",
         "        let before = &found[0];\n        match step_of(start, last, binding) {",
-        "            Step::On => print_line(alloc, host, binding, names)?,",
-        "            Step::On => print_line(alloc, host, before, names)?,",
+        "            WalkStep::On => print_line(alloc, host, binding, names)?,",
+        "            WalkStep::On => print_line(alloc, host, before, names)?,",
     ),
     "ends_well_at_a_name_that_does_not_increase": (
         "src/walking.rt",
-        "            Step::Back => return Err(WalkFault::App(AppFault::NotIncreasing)),",
-        "            Step::Back => return Ok(None),",
+        "            WalkStep::Back => return Err(WalkFault::App(AppFault::NotIncreasing)),",
+        "            WalkStep::Back => return Ok(None),",
     ),
     "prints_an_answer_twice": (
         "src/walking.rt",

@@ -117,18 +117,18 @@ BUGS = {
     ),
     "an_end_is_a_success": (
         "src/exchange.rt",
-        "            Ok(0) => Step::Stops(Stop::Fails(Cause::Closed)),\n            Ok(_) =>",
-        "            Ok(0) => Step::Stops(Stop::Responds(200)),\n            Ok(_) =>",
+        "            Ok(0) => CallOutcome::Stops(Stop::Fails(Cause::Closed)),\n            Ok(_) =>",
+        "            Ok(0) => CallOutcome::Stops(Stop::Responds(200)),\n            Ok(_) =>",
     ),
     "each_response_is_a_success": (
         "src/exchange.rt",
-        "        Progress::Response { status, .. } => Step::Stops(Stop::Responds(status)),",
-        "        Progress::Response { .. } => Step::Stops(Stop::Responds(200)),",
+        "        Progress::Response { status, .. } => CallOutcome::Stops(Stop::Responds(status)),",
+        "        Progress::Response { .. } => CallOutcome::Stops(Stop::Responds(200)),",
     ),
     "gives_up_at_once": (
         "src/exchange.rt",
-        "            return Stop::Waits;\n        }\n        match self.step(stream) {\n            Step::GoesOn => self.go_on(stream, left - 1),",
-        "            return Stop::Waits;\n        }\n        match self.step(stream) {\n            Step::GoesOn => Stop::Waits,",
+        "            return Stop::Waits;\n        }\n        match self.step(stream) {\n            CallOutcome::GoesOn => self.go_on(stream, left - 1),",
+        "            return Stop::Waits;\n        }\n        match self.step(stream) {\n            CallOutcome::GoesOn => Stop::Waits,",
     ),
     "not_ready_is_a_failure": (
         "src/exchange.rt",

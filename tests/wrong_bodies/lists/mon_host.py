@@ -18,7 +18,7 @@ BUGS = {
     ),
     "shows_no_levels": (
         "src/recorder.rt",
-        "        self.record(Ok(Step::ShowLevels));",
+        "        self.record(Ok(RecordedCall::ShowLevels));",
         "",
     ),
     "a_notice_is_an_info": (
@@ -63,8 +63,8 @@ BUGS = {
     ),
     "permits_another_path": (
         "src/recorder.rt",
-        "    Ok(Step::Permit(String::from_str(alloc, path)?, given))",
-        "    let _ = path;\n    Ok(Step::Permit(String::from_str(alloc, \"other\")?, given))",
+        "    Ok(RecordedCall::Permit(String::from_str(alloc, path)?, given))",
+        "    let _ = path;\n    Ok(RecordedCall::Permit(String::from_str(alloc, \"other\")?, given))",
     ),
     "records_no_node": (
         "src/recorder.rt",
@@ -88,18 +88,18 @@ BUGS = {
     ),
     "records_no_look_at_the_output": (
         "src/recorder.rt",
-        "        self.record(Ok(Step::OutputAtTerminal(false)));\n        false",
+        "        self.record(Ok(RecordedCall::OutputAtTerminal(false)));\n        false",
         "        false",
     ),
     "records_the_output_as_the_input": (
         "src/recorder.rt",
-        "        self.record(Ok(Step::OutputAtTerminal(false)));",
-        "        self.record(Ok(Step::AtTerminal(false)));",
+        "        self.record(Ok(RecordedCall::OutputAtTerminal(false)));",
+        "        self.record(Ok(RecordedCall::AtTerminal(false)));",
     ),
     "answers_another_terminal_than_it_records": (
         "src/recorder.rt",
-        "        self.record(Ok(Step::OutputAtTerminal(false)));\n        false",
-        "        self.record(Ok(Step::OutputAtTerminal(false)));\n        true",
+        "        self.record(Ok(RecordedCall::OutputAtTerminal(false)));\n        false",
+        "        self.record(Ok(RecordedCall::OutputAtTerminal(false)));\n        true",
     ),
     "has_no_file_where_none_is_dated": (
         "src/recorder.rt",
@@ -109,7 +109,7 @@ BUGS = {
     "records_the_wall_clock_for_a_file": (
         "src/recorder.rt",
         "        self.record(date_file_step(self.alloc, path));",
-        "        let _ = path;\n        self.record(Ok(Step::Date));",
+        "        let _ = path;\n        self.record(Ok(RecordedCall::Date));",
     ),
 }
 

@@ -3,8 +3,8 @@
 BUGS = {
     "waits_for_ever": (
         "src/connection.rt",
-        "            None => Ok(Step::Wait),\n            Some(Verdict::Asked(request)) => Ok(Step::Asked(request)),",
-        "            None => Ok(Step::Wait),\n            Some(Verdict::Asked(_)) => Ok(Step::Wait),",
+        "            None => Ok(StepOutcome::Wait),\n            Some(Verdict::Asked(request)) => Ok(StepOutcome::Asked(request)),",
+        "            None => Ok(StepOutcome::Wait),\n            Some(Verdict::Asked(_)) => Ok(StepOutcome::Wait),",
     ),
     "refuses_what_is_whole": (
         "src/request.rt",
@@ -143,7 +143,7 @@ BUGS = {
     ),
     "gives_up_for_memory": (
         "src/connection.rt",
-        "            None => Ok(Step::Wait),\n",
+        "            None => Ok(StepOutcome::Wait),\n",
         "            None => Err(AllocError),\n",
     ),
     "serves_a_longer_path": (
@@ -268,8 +268,8 @@ BUGS = {
     ),
     "refuses_and_sends_nothing": (
         "src/connection.rt",
-        "                self.put(refusal.len, refusal.keep_alive, text);\n                Ok(Step::Refused)",
-        "                let _ = text;\n                Ok(Step::Refused)",
+        "                self.put(refusal.len, refusal.keep_alive, text);\n                Ok(StepOutcome::Refused)",
+        "                let _ = text;\n                Ok(StepOutcome::Refused)",
     ),
     "answers_a_request_again_and_again": (
         "src/connection.rt",

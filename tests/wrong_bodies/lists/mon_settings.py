@@ -308,8 +308,8 @@ BUGS = {
     ),
     "calls_an_unknown_object_an_unknown_key": (
         "src/leaf.rt",
-        "        _ => SettingsFault::UnknownObject(Place::At(Step::Value(key))),",
-        "        _ => SettingsFault::UnknownKey(Place::At(Step::Value(key))),",
+        "        _ => SettingsFault::UnknownObject(Place::At(PathPart::Value(key))),",
+        "        _ => SettingsFault::UnknownKey(Place::At(PathPart::Value(key))),",
     ),
     "takes_a_peer_of_number_0": (
         "src/station_tables.rt",
@@ -358,23 +358,23 @@ BUGS = {
     ),
     "counts_entries_from_0": (
         "src/list.rt",
-        "Step::Entry(key, index + 1), value)",
-        "Step::Entry(key, index), value)",
+        "PathPart::Entry(key, index + 1), value)",
+        "PathPart::Entry(key, index), value)",
     ),
     "blames_the_entry_after_the_bad_one": (
         "src/list.rt",
-        "Step::Entry(key, index + 1), value)",
-        "Step::Entry(key, index + 2), value)",
+        "PathPart::Entry(key, index + 1), value)",
+        "PathPart::Entry(key, index + 2), value)",
     ),
     "leaves_out_the_table_of_a_count": (
         "src/tables.rt",
-        "        Err(fault) => Err(fault.within(Step::Value(key))),",
+        "        Err(fault) => Err(fault.within(PathPart::Value(key))),",
         "        Err(fault) => Err(fault),",
     ),
     "leaves_out_the_alarm": (
         "src/placing.rt",
-        "Step::Entry(Key::Alarm, number))),",
-        "Step::Value(Key::Alarm))),",
+        "PathPart::Entry(Key::Alarm, number))),",
+        "PathPart::Value(Key::Alarm))),",
     ),
     "leaves_out_the_target_around_an_object": (
         "src/place.rt",

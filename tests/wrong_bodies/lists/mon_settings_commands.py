@@ -8,8 +8,8 @@ BUGS = {
     ),
     "reads_no_labels": (
         "src/updating.rt",
-        'match known_names(alloc, old, ground.survey.engine.as_slice()) {',
-        'match known_names(alloc, "", ground.survey.engine.as_slice()) {',
+        'match known_names(alloc, old, input.survey.engine.as_slice()) {',
+        'match known_names(alloc, "", input.survey.engine.as_slice()) {',
     ),
     "says_one_line": (
         "src/updating.rt",
@@ -173,28 +173,28 @@ BUGS = {
     ),
     "prints_no_settings": (
         "src/settings.rt",
-        "    write_labels(alloc, host, ground, \"\")?;\n    print_drafted(alloc, host, &drafted)\n",
-        "    write_labels(alloc, host, ground, \"\")\n",
+        "    write_labels(alloc, host, input, \"\")?;\n    print_drafted(alloc, host, &drafted)\n",
+        "    write_labels(alloc, host, input, \"\")\n",
     ),
     "prints_settings_twice": (
         "src/settings.rt",
-        "    write_labels(alloc, host, ground, \"\")?;\n    print_drafted(alloc, host, &drafted)\n",
-        "    write_labels(alloc, host, ground, \"\")?;\n    print_drafted(alloc, host, &drafted)?;\n    print_drafted(alloc, host, &drafted)\n",
+        "    write_labels(alloc, host, input, \"\")?;\n    print_drafted(alloc, host, &drafted)\n",
+        "    write_labels(alloc, host, input, \"\")?;\n    print_drafted(alloc, host, &drafted)?;\n    print_drafted(alloc, host, &drafted)\n",
     ),
     "prints_settings_before_labels_are_written": (
         "src/settings.rt",
-        "    write_labels(alloc, host, ground, old)?;\n    print_drafted(alloc, host, drafted)\n",
-        "    print_drafted(alloc, host, drafted)?;\n    write_labels(alloc, host, ground, old)\n",
+        "    write_labels(alloc, host, input, old)?;\n    print_drafted(alloc, host, drafted)\n",
+        "    print_drafted(alloc, host, drafted)?;\n    write_labels(alloc, host, input, old)\n",
     ),
     "prints_the_old_labels": (
         "src/settings.rt",
-        "    write_labels(alloc, host, ground, old)?;\n    print_drafted(alloc, host, drafted)\n",
-        "    write_labels(alloc, host, ground, old)?;\n    print_noted(alloc, host, old.as_bytes(), \"these settings\", drafted.longest)\n",
+        "    write_labels(alloc, host, input, old)?;\n    print_drafted(alloc, host, drafted)\n",
+        "    write_labels(alloc, host, input, old)?;\n    print_noted(alloc, host, old.as_bytes(), \"these settings\", drafted.longest)\n",
     ),
     "swallows_a_fault_of_labels": (
         "src/settings.rt",
-        "    write_labels(alloc, host, ground, old)?;\n",
-        "    let _ = write_labels(alloc, host, ground, old);\n",
+        "    write_labels(alloc, host, input, old)?;\n",
+        "    let _ = write_labels(alloc, host, input, old);\n",
     ),
     "asks_before_it_reads_modules": (
         "src/settings.rt",
@@ -218,8 +218,8 @@ BUGS = {
     ),
     "prints_in_place_of_splitting": (
         "src/settings.rt",
-        "        Some(folder) => write_parts(alloc, host, net, ground, folder),",
-        "        Some(_) => print_whole(alloc, host, net, ground),",
+        "        Some(folder) => write_parts(alloc, host, net, input, folder),",
+        "        Some(_) => print_whole(alloc, host, net, input),",
     ),
     "takes_labels_from_another_file": (
         "src/labelling.rt",
@@ -243,8 +243,8 @@ BUGS = {
     ),
     "labels_without_the_old_ones": (
         "src/labelling.rt",
-        "    match labels(alloc, old, &ground.agent(), &ground.choice(None)) {",
-        "    match labels(alloc, path, &ground.agent(), &ground.choice(None)) {",
+        "    match labels(alloc, old, &input.agent(), &input.choice(None)) {",
+        "    match labels(alloc, path, &input.agent(), &input.choice(None)) {",
     ),
     "names_a_part_by_its_place": (
         "src/parts.rt",
@@ -500,8 +500,8 @@ BUGS = {
     ),
     "counts_the_interfaces_with_a_speed": (
         "src/noting.rt",
-        "    note_count(host, ground.asked.percent, count);",
-        "    note_count(host, ground.asked.percent, ground.survey.answers.count() - count);",
+        "    note_count(host, input.asked.percent, count);",
+        "    note_count(host, input.asked.percent, input.survey.answers.count() - count);",
     ),
     "says_nothing_of_the_round": (
         "src/noting.rt",
@@ -556,7 +556,7 @@ BUGS = {
     "appends_a_part_twice": (
         "src/parts.rt",
         "    Ok(parts.push(part)?)",
-        "    let again = settings_of(alloc, ground, Some(group))?;\n    parts.push(part)?;\n    Ok(parts.push(again)?)",
+        "    let again = settings_of(alloc, input, Some(group))?;\n    parts.push(part)?;\n    Ok(parts.push(again)?)",
     ),
     "prints_only_the_text": (
         "src/settings.rt",
@@ -565,13 +565,13 @@ BUGS = {
     ),
     "says_of_speeds_before_it_prints": (
         "src/settings.rt",
-        "    put_texts(alloc, host, net, ground)?;\n    note_speeds(host, ground);\n    Ok(())\n",
-        "    note_speeds(host, ground);\n    put_texts(alloc, host, net, ground)\n",
+        "    put_texts(alloc, host, net, input)?;\n    note_speeds(host, input);\n    Ok(())\n",
+        "    note_speeds(host, input);\n    put_texts(alloc, host, net, input)\n",
     ),
     "says_nothing_of_speeds_of_a_further_agent": (
         "src/settings.rt",
-        "    put_longer(alloc, host, ground, drafted, old)?;\n    note_speeds(host, ground);\n",
-        "    put_longer(alloc, host, ground, drafted, old)?;\n",
+        "    put_longer(alloc, host, input, drafted, old)?;\n    note_speeds(host, input);\n",
+        "    put_longer(alloc, host, input, drafted, old)?;\n",
     ),
     "replaces_a_file_that_is_there": (
         "src/parts.rt",
@@ -595,8 +595,8 @@ BUGS = {
     ),
     "replaces_labels_before_it_looks": (
         "src/parts.rt",
-        "    require_absent(alloc, host, folder, parts.as_slice())?;\n    write_labels(alloc, host, ground, \"\")?;\n",
-        "    write_labels(alloc, host, ground, \"\")?;\n    require_absent(alloc, host, folder, parts.as_slice())?;\n",
+        "    require_absent(alloc, host, folder, parts.as_slice())?;\n    write_labels(alloc, host, input, \"\")?;\n",
+        "    write_labels(alloc, host, input, \"\")?;\n    require_absent(alloc, host, folder, parts.as_slice())?;\n",
     ),
     "a_file_that_is_there_is_a_bad_text": (
         "src/failing.rt",
@@ -630,7 +630,7 @@ BUGS = {
     ),
     "never_halves": (
         "src/trying.rt",
-        "        Some(less) => fit(alloc, net, ground, wish, less),",
+        "        Some(less) => fit(alloc, net, input, wish, less),",
         "        Some(_) => Err(failure),",
     ),
     "halves_after_any_fault": (
@@ -645,13 +645,13 @@ BUGS = {
     ),
     "prints_settings_whose_polls_were_not_tried": (
         "src/settings.rt",
-        "    let drafted = fit(alloc, net, ground, Wish::New(None), TargetSize::Sixteen)?;",
-        "    let _ = net;\n    let drafted = settings_of(alloc, ground, None, TargetSize::Sixteen)?;",
+        "    let drafted = fit(alloc, net, input, Wish::New(None), TargetSize::Sixteen)?;",
+        "    let _ = net;\n    let drafted = settings_of(alloc, input, None, TargetSize::Sixteen)?;",
     ),
     "tries_small_targets_first": (
         "src/settings.rt",
-        "    let drafted = fit(alloc, net, ground, Wish::New(None), TargetSize::Sixteen)?;",
-        "    let drafted = fit(alloc, net, ground, Wish::New(None), TargetSize::One)?;",
+        "    let drafted = fit(alloc, net, input, Wish::New(None), TargetSize::Sixteen)?;",
+        "    let drafted = fit(alloc, net, input, Wish::New(None), TargetSize::One)?;",
     ),
     "blames_the_settings_for_labels": (
         "src/failing.rt",
@@ -690,8 +690,8 @@ BUGS = {
     ),
     "counters_of_the_first_group": (
         "src/seating.rt",
-        "ground.choice(Some(seat.part))",
-        "ground.choice(Some(0))",
+        "input.choice(Some(seat.part))",
+        "input.choice(Some(0))",
     ),
     "a_peer_of_itself": (
         "src/seating.rt",
@@ -745,8 +745,8 @@ BUGS = {
     ),
     "no_labels_of_a_network": (
         "src/network.rt",
-        '    write_labels(alloc, host, ground, "")?;',
-        '    if ground.words.up {\n        write_labels(alloc, host, ground, "")?;\n    }',
+        '    write_labels(alloc, host, input, "")?;',
+        '    if input.words.up {\n        write_labels(alloc, host, input, "")?;\n    }',
     ),
     "writes_a_path_for_a_text": (
         "src/network.rt",

@@ -15,7 +15,7 @@ struct Tally {
 
 /// What the arguments ask for.
 #[derive(Clone, Copy)]
-struct Asked {
+struct Arguments {
     times: u32,
     place: usize,
 }
@@ -35,21 +35,26 @@ pub fn time_polls<R: Input + Print + AllocGlobal>(rt: &R, words: &[String]) -> O
 }
 
 /// Reads the two arguments.
-fn asked_of(words: &[String]) -> Option<Asked> {
-    Some(Asked {
+fn asked_of(words: &[String]) -> Option<Arguments> {
+    Some(Arguments {
         times: parsed(words.first()?)?,
         place: parsed(words.get(1)?)?,
     })
 }
 
 /// Polls and answers as often as is asked, with the response of these digits.
-fn answered(alloc: Global, digits: &str, asked: Asked) -> Option<Tally> {
+fn answered(alloc: Global, digits: &str, asked: Arguments) -> Option<Tally> {
     let mut octets = octets(alloc, digits)?;
     let mut polls = poller(alloc)?;
     answer_all(alloc, &mut polls, &mut octets, asked)
 }
 
-fn answer_all(alloc: Global, polls: &mut Poller, octets: &mut [u8], asked: Asked) -> Option<Tally> {
+fn answer_all(
+    alloc: Global,
+    polls: &mut Poller,
+    octets: &mut [u8],
+    asked: Arguments,
+) -> Option<Tally> {
     let mut tally = Tally {
         samples: 0,
         marks: 0,

@@ -22,7 +22,7 @@ returns-clause-reading g c =
       (λ next steps. longest (FitsWith start)
           (λ bindings more fits. omega (arith, c.grows.ensures (answered m []) bindings more, fits))
           (full_list next c.args.request.non_repeaters c.args.request.max_repetitions c.args.request.bindings) reply.bindings
-          (elim c.look.ensures [ inl none ↦ inl none | inr fits ↦ inr (fits_same start reply reply.bindings head_now limit_now fits) ])
+          (elim c.invariants.ensures [ inl none ↦ inl none | inr fits ↦ inr (fits_same start reply reply.bindings head_now limit_now fits) ])
           (ended_same start c.new-reply.result _ reply.bindings head limit (c.in_ok-bulk.ensures.put next steps))),
       ap (λ (h : Message). with_bindings h reply.bindings) head_now,
     )

@@ -3,7 +3,7 @@ use Rattle.std.specs.Prelude.{Option, Some, Result, Ok, Err, drop}
 use Rattle.mon_app.specs.declared.fault.WalkFault.{WalkFault}
 use Rattle.mon_app.specs.declared.fault.WalkFault.TheVariants.{App}
 use Rattle.mon_app.specs.declared.fault.AppFault.TheVariants.{NotIncreasing, OutOfMemory}
-use Rattle.mon_app.specs.declared.walking.Step.{Step}
+use Rattle.mon_app.specs.declared.walking.WalkStep.{WalkStep}
 use Rattle.mon_app.specs.declared.walking.Turned.TheVariants as turned
 use Rattle.mon_app.specs.Walk.{IsWalkStep, name_in}
 use Rattle.mon_app.proofs.Askings.{fault_is}
@@ -14,7 +14,7 @@ pub returns-in-Past-clause-lines : goal.returns-in-Past-clause-lines
 returns-in-Past-clause-lines g c =
     let at = c.loop-binding in
     let b = c.binding-item.result in
-    let step = subst (λ (s : Step). IsWalkStep c.args.at.start.now at.last.now b s) c.in-Past.is c.step_of.ensures in
+    let step = subst (λ (s : WalkStep). IsWalkStep c.args.at.start.now at.last.now b s) c.in-Past.is c.step_of.ensures in
     let here = at_next (g.S.NameTexts.shown c.args.names.now) c.args.at.start.now c.args.at.last.now c.args.found.now at.last.now at.binding-index b at.printed
     (g.H.Host.log c.args.host.now) (g.H.Host.log at.host) c.loop-binding-test.true c.binding-item.is at.invariant.within in
     ended_at (g.S.NameTexts.shown c.args.names.now) c.args.at.start.now c.args.at.last.now c.args.found.now at.last.now b (drop (at.binding-index + 1) c.args.found.now) at.printed
@@ -24,7 +24,7 @@ pub returns-in-Back-clause-lines : goal.returns-in-Back-clause-lines
 returns-in-Back-clause-lines g c =
     let at = c.loop-binding in
     let b = c.binding-item.result in
-    let step = subst (λ (s : Step). IsWalkStep c.args.at.start.now at.last.now b s) c.in-Back.is c.step_of.ensures in
+    let step = subst (λ (s : WalkStep). IsWalkStep c.args.at.start.now at.last.now b s) c.in-Back.is c.step_of.ensures in
     let here = at_next (g.S.NameTexts.shown c.args.names.now) c.args.at.start.now c.args.at.last.now c.args.found.now at.last.now at.binding-index b at.printed
     (g.H.Host.log c.args.host.now) (g.H.Host.log at.host) c.loop-binding-test.true c.binding-item.is at.invariant.within in
     ended_at (g.S.NameTexts.shown c.args.names.now) c.args.at.start.now c.args.at.last.now c.args.found.now at.last.now b (drop (at.binding-index + 1) c.args.found.now) at.printed
@@ -35,7 +35,7 @@ returns-in_err-print_line-in-On-clause-lines g c =
     let at = c.loop-binding in
     let b = c.binding-item.result in
     let fault = c.in_err-print_line-in-On.field-0.0 in
-    let step = subst (λ (s : Step). IsWalkStep c.args.at.start.now at.last.now b s) c.in-On.is c.step_of.ensures in
+    let step = subst (λ (s : WalkStep). IsWalkStep c.args.at.start.now at.last.now b s) c.in-On.is c.step_of.ensures in
     let here = at_next (g.S.NameTexts.shown c.args.names.now) c.args.at.start.now c.args.at.last.now c.args.found.now at.last.now at.binding-index b at.printed
     (g.H.Host.log c.args.host.now) (g.H.Host.log at.host) c.loop-binding-test.true c.binding-item.is at.invariant.within in
     refused_at (g.S.NameTexts.shown c.args.names.now) c.args.at.start.now c.args.at.last.now c.args.found.now at.last.now b (drop (at.binding-index + 1) c.args.found.now) at.printed
@@ -46,7 +46,7 @@ pub loop-binding-preserved : goal.loop-binding-preserved
 loop-binding-preserved g c =
     let at = c.loop-binding in
     let b = c.binding-item.result in
-    let step = subst (λ (s : Step). IsWalkStep c.args.at.start.now at.last.now b s) c.in-On.is c.step_of.ensures in
+    let step = subst (λ (s : WalkStep). IsWalkStep c.args.at.start.now at.last.now b s) c.in-On.is c.step_of.ensures in
     let here = at_next (g.S.NameTexts.shown c.args.names.now) c.args.at.start.now c.args.at.last.now c.args.found.now at.last.now at.binding-index b at.printed
     (g.H.Host.log c.args.host.now) (g.H.Host.log at.host) c.loop-binding-test.true c.binding-item.is at.invariant.within in
     record {

@@ -1,6 +1,6 @@
 use Rattle.std.proofs.Common.{◌≡◌, ◌+◌, ◌≤◌, List, vec_len}
 use Rattle.std.specs.Prelude.{vec_capacity}
-use Rattle.mon_mib.specs.declared.step.Step.{Step}
+use Rattle.mon_mib.specs.declared.planned_change.PlannedChange.{PlannedChange}
 use Rattle.mon_mib.specs.Assignment.{AreApart}
 use Rattle.mon_mib.specs.Commit.{changes, undoings, failures_after}
 use Rattle.mon_mib.specs.Held.{Held}
@@ -12,7 +12,7 @@ abbrev pub invariant-loop-undo : goal.invariant-loop-undo
 invariant-loop-undo g l = record {
   room : vec_len l.undos + vec_len l.standing ≤ vec_capacity l.standing;
   failures : g.D.Device.failed l.device ≡ failures_after l.standing.items (g.D.Device.failed l.fn.device);
-  at : (done : List Step) (before : Held) → AreApart done → l.fn.undos.items ≡ undoings done before → g.D.Device.held l.fn.device ≡ changes done before
+  at : (done : List PlannedChange) (before : Held) → AreApart done → l.fn.undos.items ≡ undoings done before → g.D.Device.held l.fn.device ≡ changes done before
       → IsAtUndo g.D.Device.held g.D.Device.refuses g.D.Device.failed done before l.undos.items l.standing.items l.device;
 }
 

@@ -4,7 +4,7 @@ use Rattle.mon_app.specs.Network.{agents_by}
 use Rattle.mon_console.specs.declared.failure.Failure.{Failure}
 use Rattle.mon_host.specs.Log.{GoesOnBy}
 use Rattle.mon_host.proofs.Promised.{stays}
-use Rattle.mon_settings_commands.specs.Asked.{IsAsking}
+use Rattle.mon_settings_commands.specs.AgentOptions.{IsAsking}
 use Rattle.mon_settings_commands.specs.declared.asking.Survey.{Survey}
 use Rattle.mon_settings_commands.proofs.Turns.{failure_is}
 use Rattle.mon_settings_commands.proofs.asking.ask_agent.Goals as goal

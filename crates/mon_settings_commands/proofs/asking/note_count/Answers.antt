@@ -3,7 +3,7 @@ use Rattle.std.specs.Prelude.{Some}
 use Rattle.mon_host.proofs.Promised.{weaker}
 use Rattle.mon_host.specs.AtHost.{IsNoted, Noted}
 use Rattle.mon_host.specs.declared.level.Level.TheVariants as level
-use Rattle.mon_settings_commands.specs.Asked.{count_line}
+use Rattle.mon_settings_commands.specs.AgentOptions.{count_line}
 use Rattle.mon_settings_commands.proofs.asking.note_count.Goals as goal
 
 pub returns : goal.returns

@@ -13,6 +13,6 @@ returns-in-Err c =
       fault,
       record { kinds = is.kinds; up = is.up; part = is.part; group = is.group },
       record { survey = c.labels_failure.ensures.survey; more = c.labels_failure.ensures.more },
-      subst (λ (cells : List Cell). IsNoLabels old (encode_lower c.args.ground.now.survey.now.engine.items) cells (indexes_of c.choice.result cells) fault) c.agent.ensures.answers
+      subst (λ (cells : List Cell). IsNoLabels old (encode_lower c.args.input.now.survey.now.engine.items) cells (indexes_of c.choice.result cells) fault) c.agent.ensures.answers
           (subst (λ (engine : List ℕ). IsNoLabels old (encode_lower engine) c.agent.result.answers.now (indexes_of c.choice.result c.agent.result.answers.now) fault) c.agent.ensures.engine c.in-Err.ensures.fault),
     )

@@ -6,5 +6,5 @@ use Rattle.mon_settings_commands.proofs.Turns.{fails_quietly}
 use Rattle.mon_settings_commands.proofs.labelling.write_labels_file.Goals as goal
 
 pub returns-in_err-text : goal.returns-in_err-text
-returns-in_err-text g c = fails_quietly (IsLabelsText (source_in c.args.ground.now) c.args.path.now c.args.old.now) (λ text. IsReplacing c.args.path.now (string_bytes text)) c.in_err-text.field-0.0
+returns-in_err-text g c = fails_quietly (IsLabelsText (source_in c.args.input.now) c.args.path.now c.args.old.now) (λ text. IsReplacing c.args.path.now (string_bytes text)) c.in_err-text.field-0.0
     c.from_residual.result (g.H.Host.log c.args.host.now) c.from_residual.ensures.1 c.in_err-text.ensures

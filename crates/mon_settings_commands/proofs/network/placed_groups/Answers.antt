@@ -10,7 +10,7 @@ use Rattle.mon_settings_commands.proofs.network.placed_groups.Goals as goal
 
 pub returns-in_err-groups-clause-refused : goal.returns-in_err-groups-clause-refused
 returns-in_err-groups-clause-refused c =
-    let s = source_in c.args.ground.now in
+    let s = source_in c.args.input.now in
     still (λ (f : Failure). HasNoPlan s f ⊎ ((groups : ℕ) × HasGroups s groups × IsUnported c.args.network groups f)) c.in_err-groups.field-0.0 c.from_residual.result c.from_residual.ensures.1 (inl c.in_err-groups.ensures.refused)
 
 pub returns-then-not-have_ports-clause-refused : goal.returns-then-not-have_ports-clause-refused

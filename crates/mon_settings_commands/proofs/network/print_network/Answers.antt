@@ -6,7 +6,7 @@ use Rattle.mon_host.specs.AtHost.{AtHost}
 use Rattle.mon_host.specs.Log.{GoesOnBy}
 use Rattle.mon_host.proofs.Promised.{then_follows, weaker}
 use Rattle.mon_placing.specs.declared.machines.Machine.{Machine}
-use Rattle.mon_settings_commands.specs.Asked.{IsAsking}
+use Rattle.mon_settings_commands.specs.AgentOptions.{IsAsking}
 use Rattle.mon_settings_commands.specs.Command.{source}
 use Rattle.mon_settings_commands.specs.Network.{AreMachines, IsNetworkNoted, IsNetworkOf, IsNoted}
 use Rattle.mon_settings_commands.proofs.Networks.{AfterAnswers, AfterMachines, AfterNames}

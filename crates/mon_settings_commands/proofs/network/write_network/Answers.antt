@@ -14,14 +14,14 @@ use Rattle.mon_settings_commands.proofs.network.write_network.Goals as goal
 pub returns-in_err-outputs : goal.returns-in_err-outputs
 returns-in_err-outputs g c =
     let agents = agents_by (g.N.Opens.has_opened c.args.net.now) (g.N.Opens.has_failed c.args.net.now) g.N.Wire.Wire.told in
-    let s = source_in c.args.ground.now in
+    let s = source_in c.args.input.now in
     fails_quietly (AreFilesOf agents s c.args.files.folder.now c.args.files.network) (AfterFiles s) c.in_err-outputs.field-0.0 c.from_residual.result (g.H.Host.log c.args.host.now) c.from_residual.ensures.1
     c.in_err-outputs.ensures
 
 pub returns-in_err-require_free : goal.returns-in_err-require_free
 returns-in_err-require_free g c =
     let agents = agents_by (g.N.Opens.has_opened c.args.net.now) (g.N.Opens.has_failed c.args.net.now) g.N.Wire.Wire.told in
-    let s = source_in c.args.ground.now in
+    let s = source_in c.args.input.now in
     let now = g.H.Host.log c.args.host.now in
     let looked = g.H.Host.log c.require_free.new.host in
     let outputs = c.in_ok-outputs.outputs in
@@ -34,7 +34,7 @@ returns-in_err-require_free g c =
 pub returns-in_err-write_labels : goal.returns-in_err-write_labels
 returns-in_err-write_labels g c =
     let agents = agents_by (g.N.Opens.has_opened c.args.net.now) (g.N.Opens.has_failed c.args.net.now) g.N.Wire.Wire.told in
-    let s = source_in c.args.ground.now in
+    let s = source_in c.args.input.now in
     let now = g.H.Host.log c.args.host.now in
     let looked = g.H.Host.log c.require_free.new.host in
     let labelled = g.H.Host.log c.write_labels.new.host in
@@ -48,7 +48,7 @@ returns-in_err-write_labels g c =
 pub returns : goal.returns
 returns g c =
     let agents = agents_by (g.N.Opens.has_opened c.args.net.now) (g.N.Opens.has_failed c.args.net.now) g.N.Wire.Wire.told in
-    let s = source_in c.args.ground.now in
+    let s = source_in c.args.input.now in
     let now = g.H.Host.log c.args.host.now in
     let looked = g.H.Host.log c.require_free.new.host in
     let labelled = g.H.Host.log c.write_labels.new.host in

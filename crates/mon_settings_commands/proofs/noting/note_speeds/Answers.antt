@@ -7,7 +7,7 @@ use Rattle.mon_settings_commands.proofs.noting.note_speeds.Goals as goal
 
 pub returns : goal.returns
 returns g c =
-    let s = source_in c.args.ground.now in
+    let s = source_in c.args.input.now in
     let percent = s.asked.percent in
     let is = c.choice.ensures in
     weaker (λ (log : List AtHost). log ≡ speed_notes percent c.count_without_speed-count.result) (AreSpeedsNoted s) (g.H.Host.log c.args.host.now) (g.H.Host.log c.note_count.new.host)

@@ -4,7 +4,7 @@ use Rattle.mon_app.specs.Network.{agents_by}
 use Rattle.mon_host.specs.Log.{GoesOnBy}
 use Rattle.mon_host.proofs.Promised.{then_follows}
 use Rattle.mon_settings_commands.specs.Appended.{AreOldLabels, IsAlone, IsAppendedOf, IsExisting, IsLonger}
-use Rattle.mon_settings_commands.specs.Asked.{IsAsking}
+use Rattle.mon_settings_commands.specs.AgentOptions.{IsAsking}
 use Rattle.mon_settings_commands.specs.Command.{source}
 use Rattle.mon_settings_commands.specs.Fitting.{AreFitting}
 use Rattle.mon_settings_commands.proofs.Sequences.{AfterAlone, AfterExisting, AfterFit, AfterOld, AfterSurvey}

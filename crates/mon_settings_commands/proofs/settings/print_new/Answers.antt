@@ -5,7 +5,7 @@ use Rattle.mon_console.specs.Naming.{AreNames}
 use Rattle.mon_host.specs.Then.{Then}
 use Rattle.mon_host.proofs.Promised.{then_follows}
 use Rattle.mon_smi.specs.declared.definition.Definition.{Definition}
-use Rattle.mon_settings_commands.specs.Asked.{IsAsking}
+use Rattle.mon_settings_commands.specs.AgentOptions.{IsAsking}
 use Rattle.mon_settings_commands.specs.Command.{AreNewTexts, source}
 use Rattle.mon_settings_commands.specs.declared.asking.Survey.{Survey}
 use Rattle.mon_settings_commands.proofs.Turns.{fails}

@@ -13,8 +13,8 @@ returns-in-Ok c =
     let o = c.options_of-options.result in
     let os = c.options_of-options.ensures in
     let lent = c.lend-lent.ensures in
-    let names = c.args.ground.now.names.now in
-    let made = options (source_in c.args.ground.now) (up_of c.args.group) c.args.size c.args.texts.now o c.requires os.station os.window os.wait_ms (os.size ∙ lent.size) os.tries os.same
+    let names = c.args.input.now.names.now in
+    let made = options (source_in c.args.input.now) (up_of c.args.group) c.args.size c.args.texts.now o c.requires os.station os.window os.wait_ms (os.size ∙ lent.size) os.tries os.same
     (os.listen ∙ ap (λ (t : Texts). string_bytes t.listen) lent.texts) (os.file ∙ ap (λ (t : Texts). string_bytes t.file) lent.texts)
     (os.peers ∙ ap (λ (t : Texts). t.peers.items) lent.texts) (os.modules ∙ lent.modules) (os.address ∙ lent.address) (os.community ∙ lent.community) in
     let is = c.choice.ensures in (
@@ -22,7 +22,7 @@ returns-in-Ok c =
       c.choice.result,
       made,
       record { kinds = is.kinds; up = is.up; part = is.part; group = is.group },
-      subst (λ (cells : List Cell). IsSettingsText names (shown_by names (length o.modules.now)) c.choice.result o c.args.ground.now.survey.now.engine.items cells (string_bytes c.in-Ok.drafted.text) c.in-Ok.drafted.longest c.in-Ok.drafted.targets.items) c.agent.ensures.answers
+      subst (λ (cells : List Cell). IsSettingsText names (shown_by names (length o.modules.now)) c.choice.result o c.args.input.now.survey.now.engine.items cells (string_bytes c.in-Ok.drafted.text) c.in-Ok.drafted.longest c.in-Ok.drafted.targets.items) c.agent.ensures.answers
           (subst (λ (engine : List ℕ). IsSettingsText names (shown_by names (length o.modules.now)) c.choice.result o engine c.agent.result.answers.now (string_bytes c.in-Ok.drafted.text) c.in-Ok.drafted.longest c.in-Ok.drafted.targets.items) c.agent.ensures.engine c.in-Ok.ensures.reads),
     )
 
@@ -31,8 +31,8 @@ returns-in-Err c =
     let o = c.options_of-options.result in
     let os = c.options_of-options.ensures in
     let lent = c.lend-lent.ensures in
-    let names = c.args.ground.now.names.now in
-    let made = options (source_in c.args.ground.now) (up_of c.args.group) c.args.size c.args.texts.now o c.requires os.station os.window os.wait_ms (os.size ∙ lent.size) os.tries os.same
+    let names = c.args.input.now.names.now in
+    let made = options (source_in c.args.input.now) (up_of c.args.group) c.args.size c.args.texts.now o c.requires os.station os.window os.wait_ms (os.size ∙ lent.size) os.tries os.same
     (os.listen ∙ ap (λ (t : Texts). string_bytes t.listen) lent.texts) (os.file ∙ ap (λ (t : Texts). string_bytes t.file) lent.texts)
     (os.peers ∙ ap (λ (t : Texts). t.peers.items) lent.texts) (os.modules ∙ lent.modules) (os.address ∙ lent.address) (os.community ∙ lent.community) in
     let is = c.choice.ensures in
@@ -44,6 +44,6 @@ returns-in-Err c =
       made,
       record { kinds = is.kinds; up = is.up; part = is.part; group = is.group },
       record { part = said.part; number = said.number; name = said.name },
-      subst (λ (cells : List Cell). IsFault names (shown_by names (length o.modules.now)) c.choice.result o c.args.ground.now.survey.now.engine.items cells c.in-Err.fault) c.agent.ensures.answers
+      subst (λ (cells : List Cell). IsFault names (shown_by names (length o.modules.now)) c.choice.result o c.args.input.now.survey.now.engine.items cells c.in-Err.fault) c.agent.ensures.answers
           (subst (λ (engine : List ℕ). IsFault names (shown_by names (length o.modules.now)) c.choice.result o engine c.agent.result.answers.now c.in-Err.fault) c.agent.ensures.engine c.in-Err.ensures.fault),
     )

@@ -10,7 +10,7 @@ returns c =
     let o = c.options_of-options.result in
     let os = c.options_of-options.ensures in
     let lent = c.lend-lent.ensures in
-    let made = options (source_in c.args.ground.now) 0 c.args.size c.args.texts.now o c.requires os.station os.window os.wait_ms (os.size ∙ lent.size) os.tries os.same
+    let made = options (source_in c.args.input.now) 0 c.args.size c.args.texts.now o c.requires os.station os.window os.wait_ms (os.size ∙ lent.size) os.tries os.same
     (os.listen ∙ ap (λ (t : Texts). string_bytes t.listen) lent.texts) (os.file ∙ ap (λ (t : Texts). string_bytes t.file) lent.texts)
     (os.peers ∙ ap (λ (t : Texts). t.peers.items) lent.texts) (os.modules ∙ lent.modules) (os.address ∙ lent.address) (os.community ∙ lent.community) in
-    renewed (source_in c.args.ground.now) c.args.news.existing.now c.args.news.known.now c.args.size o c.updated_on.result made c.updated_on.ensures
+    renewed (source_in c.args.input.now) c.args.news.existing.now c.args.news.known.now c.args.size o c.updated_on.result made c.updated_on.ensures

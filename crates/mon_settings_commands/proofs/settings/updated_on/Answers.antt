@@ -12,7 +12,7 @@ pub returns-in-Ok : goal.returns-in-Ok
 returns-in-Ok c =
     let o = c.args.options.now in
     let e = c.args.news.existing.now in
-    let a = at_source (source_in c.args.ground.now) c.args.news.known.now in
+    let a = at_source (source_in c.args.input.now) c.args.news.known.now in
     let d = c.in-Ok.drafted in
     let is = c.choice.ensures in (
       c.choice.result,
@@ -27,7 +27,7 @@ pub returns-in-Err : goal.returns-in-Err
 returns-in-Err c =
     let o = c.args.options.now in
     let e = c.args.news.existing.now in
-    let a = at_source (source_in c.args.ground.now) c.args.news.known.now in
+    let a = at_source (source_in c.args.input.now) c.args.news.known.now in
     let fault = c.in-Err.fault in
     let said = c.survey_failure.ensures in
     let is = c.choice.ensures in (

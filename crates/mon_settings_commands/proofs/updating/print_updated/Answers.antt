@@ -4,7 +4,7 @@ use Rattle.mon_app.specs.Network.{agents_by}
 use Rattle.mon_host.specs.Log.{GoesOnBy}
 use Rattle.mon_host.proofs.Promised.{then_follows}
 use Rattle.mon_settings_commands.specs.Appended.{AreOldLabels, IsExisting}
-use Rattle.mon_settings_commands.specs.Asked.{IsAsking}
+use Rattle.mon_settings_commands.specs.AgentOptions.{IsAsking}
 use Rattle.mon_settings_commands.specs.Command.{IsUpdatedBy, source}
 use Rattle.mon_settings_commands.specs.Updated.{IsApart}
 use Rattle.mon_settings_commands.proofs.Sequences.{AfterApart, AfterNews, AfterOldNames, AfterThere}

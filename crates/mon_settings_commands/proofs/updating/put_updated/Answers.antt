@@ -13,14 +13,14 @@ use Rattle.mon_settings_commands.proofs.updating.put_updated.Goals as goal
 
 pub returns-in_err-write_relabelled : goal.returns-in_err-write_relabelled
 returns-in_err-write_relabelled g c =
-    let s = source_in c.args.ground.now in
+    let s = source_in c.args.input.now in
     let u = c.args.update in
     fails (AreRelabelled s u.old.existing.now u.known.now u.old.labels.now) (AfterLabelled c.args.drafted.now (map string_bytes u.lines.now.items)) c.in_err-write_relabelled.field-0.0 c.from_residual.result (g.H.Host.log c.args.host.now)
     (g.H.Host.log c.write_relabelled.new.host) c.from_residual.ensures.1 c.in_err-write_relabelled.ensures
 
 pub returns-in_err-print_drafted : goal.returns-in_err-print_drafted
 returns-in_err-print_drafted g c =
-    let s = source_in c.args.ground.now in
+    let s = source_in c.args.input.now in
     let u = c.args.update in
     let lines = map string_bytes u.lines.now.items in
     let before = g.H.Host.log c.args.host.now in
@@ -32,7 +32,7 @@ returns-in_err-print_drafted g c =
 
 pub returns : goal.returns
 returns g c =
-    let s = source_in c.args.ground.now in
+    let s = source_in c.args.input.now in
     let u = c.args.update in
     let lines = map string_bytes u.lines.now.items in
     let before = g.H.Host.log c.args.host.now in

@@ -11,7 +11,7 @@ pub returns-in-Ok : goal.returns-in-Ok
 returns-in-Ok c =
     let is = c.choice.ensures in
     let f = c.args.file in
-    let a = at_source (source_in c.args.ground.now) f.known.now in
+    let a = at_source (source_in c.args.input.now) f.known.now in
     let ws = f.old.existing.now.station.core.watch.instances in
     let watched : c.instances-instances.result.now ≡ ws = c.instances-instances.ensures.instances ∙ ap (λ w. w.instances) c.watch.ensures.watch in (
       c.choice.result,
@@ -24,7 +24,7 @@ pub returns-in-Err : goal.returns-in-Err
 returns-in-Err c =
     let is = c.choice.ensures in
     let f = c.args.file in
-    let a = at_source (source_in c.args.ground.now) f.known.now in
+    let a = at_source (source_in c.args.input.now) f.known.now in
     let ws = f.old.existing.now.station.core.watch.instances in
     let watched : c.instances-instances.result.now ≡ ws = c.instances-instances.ensures.instances ∙ ap (λ w. w.instances) c.watch.ensures.watch in (
       c.choice.result,

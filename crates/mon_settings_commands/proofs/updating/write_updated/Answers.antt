@@ -13,7 +13,7 @@ use Rattle.mon_settings_commands.proofs.updating.write_updated.Goals as goal
 pub returns-in_err-known : goal.returns-in_err-known
 returns-in_err-known g c =
     let agents = agents_by (g.N.Opens.has_opened c.args.net.now) (g.N.Opens.has_failed c.args.net.now) g.N.Wire.Wire.told in
-    let s = source_in c.args.ground.now in
+    let s = source_in c.args.input.now in
     let existing = c.args.old.existing.now in
     let old = c.args.old.labels.now in
     let now = g.H.Host.log c.args.host.now in
@@ -22,7 +22,7 @@ returns-in_err-known g c =
 pub returns-in_err-lines : goal.returns-in_err-lines
 returns-in_err-lines g c =
     let agents = agents_by (g.N.Opens.has_opened c.args.net.now) (g.N.Opens.has_failed c.args.net.now) g.N.Wire.Wire.told in
-    let s = source_in c.args.ground.now in
+    let s = source_in c.args.input.now in
     let existing = c.args.old.existing.now in
     let old = c.args.old.labels.now in
     let now = g.H.Host.log c.args.host.now in
@@ -34,7 +34,7 @@ returns-in_err-lines g c =
 pub returns-in_err-drafted : goal.returns-in_err-drafted
 returns-in_err-drafted g c =
     let agents = agents_by (g.N.Opens.has_opened c.args.net.now) (g.N.Opens.has_failed c.args.net.now) g.N.Wire.Wire.told in
-    let s = source_in c.args.ground.now in
+    let s = source_in c.args.input.now in
     let existing = c.args.old.existing.now in
     let old = c.args.old.labels.now in
     let now = g.H.Host.log c.args.host.now in
@@ -49,7 +49,7 @@ returns-in_err-drafted g c =
 pub returns : goal.returns
 returns g c =
     let agents = agents_by (g.N.Opens.has_opened c.args.net.now) (g.N.Opens.has_failed c.args.net.now) g.N.Wire.Wire.told in
-    let s = source_in c.args.ground.now in
+    let s = source_in c.args.input.now in
     let existing = c.args.old.existing.now in
     let old = c.args.old.labels.now in
     let now = g.H.Host.log c.args.host.now in

@@ -6,7 +6,7 @@ use Rattle.mon_station_commands.specs.Snapshot.{texts_of}
 use Rattle.mon_station_commands.specs.declared.snapshot.Snapshot.{Snapshot}
 use Rattle.mon_station_commands.proofs.Copies.{shown_anew}
 use Rattle.mon_station_commands.proofs.showing.show.Goals as goal
-use Rattle.mon_web.specs.Site.{with_texts}
+use Rattle.mon_web.specs.Pages.{with_texts}
 use Rattle.mon_web.specs.Texts.{Texts}
 
 pub returns-then-is_shown-clause-shown : goal.returns-then-is_shown-clause-shown

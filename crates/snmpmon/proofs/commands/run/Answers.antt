@@ -1,5 +1,5 @@
 use Rattle.std.proofs.Common.{subst}
-use Rattle.mon_cli.specs.Asked.{IsWithin}
+use Rattle.mon_cli.specs.Invocation.{IsWithin}
 use Rattle.snmpmon.proofs.commands.run.Goals as goal
 
 pub print_settings-requires : goal.print_settings-requires

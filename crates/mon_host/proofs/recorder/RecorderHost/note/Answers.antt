@@ -5,14 +5,14 @@ use Rattle.mon_host.specs.AtHost.{AtHost, IsNoted, Noted}
 use Rattle.mon_host.specs.Log.{GoesOn, GoesOnBy}
 use Rattle.mon_host.specs.Recorded.{recorded, step_of}
 use Rattle.mon_host.specs.declared.level.Level.{Level}
-use Rattle.mon_host.specs.declared.recorder.Step.{Step}
+use Rattle.mon_host.specs.declared.recorder.RecordedCall.{RecordedCall}
 use Rattle.mon_host.proofs.recorder.RecorderHost.note.Goals as goal
 
 some_text : (level : Level) (text : Option (List ℕ)) → (log : List AtHost) × IsNoted level text log
 some_text level None = (Noted level [] ∷ [], ([], tt, refl))
 some_text level (Some t) = (Noted level t ∷ [], (t, refl, refl))
 
-of_step : (level : Level) (text : Option (List ℕ)) (step : Result Step AllocError) (before after : Option (List AtHost))
+of_step : (level : Level) (text : Option (List ℕ)) (step : Result RecordedCall AllocError) (before after : Option (List AtHost))
     → IfOk step (λ s. IsNoted level text (step_of s ∷ []))
     → IfOk step (λ s. GoesOn (step_of s ∷ []) before after) → IfErr step (λ _. after ≡ None) → GoesOnBy (IsNoted level text) before after
 of_step level text (Ok s) before after is kept lost = record { more = step_of s ∷ []; holds = is; on = kept }

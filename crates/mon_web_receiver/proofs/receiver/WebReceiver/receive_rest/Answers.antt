@@ -32,7 +32,7 @@ loop-preserved g c =
       kept.by.0 ∙ stays.1,
       kept.by.1 ∙ stays.2,
       kept.room ∙ stays.3,
-      kept.site ∙ stays.4,
+      kept.pages ∙ stays.4,
       kept.origin ∙ stays.5,
       kept.by.2 ∙ stays.6,
       suc stays.7,

@@ -17,10 +17,10 @@ use Rattle.mon_settings_commands.specs.Refused.{OrLater}
 use Rattle.mon_settings_commands.specs.Source.{peers_named}
 use Rattle.mon_settings_commands.specs.Surveyed.{IsSurveyed}
 use Rattle.mon_settings_commands.specs.declared.asking.Survey.{Survey}
-use Rattle.mon_settings_commands.specs.declared.settings.Asked.{Asked}
+use Rattle.mon_settings_commands.specs.declared.settings.AgentOptions.{AgentOptions}
 
 -- what the arguments say of the agent; each peer is named
-pub record SaysOf (words : SettingsArgs) (asked : Asked) : Type 0 where
+pub record SaysOf (words : SettingsArgs) (asked : AgentOptions) : Type 0 where
   pub word : asked.agent.word.now ≡ words.address.now
   pub address : addr_of words.address.now ≡ Some asked.agent.address
   pub community : asked.community.now ≡ words.community.now
@@ -41,7 +41,7 @@ IsRefused words failure =
     (IsFirstNoPeer (peers_named words) failure))))
 
 -- What the arguments say of the agent; or why they are refused.
-abbrev pub IsAsked : SettingsArgs → Result Asked Failure → Type 0
+abbrev pub IsAsked : SettingsArgs → Result AgentOptions Failure → Type 0
 IsAsked words (Ok asked) = SaysOf words asked
 IsAsked words (Err failure) = IsRefused words failure
 
@@ -60,7 +60,7 @@ count_lines agent (Some number) count = if number == count then []
 
 -- An agent is asked: nothing is printed, read or replaced. If it answered all, at most one line is
 -- said, of its ifNumber.
-abbrev pub IsAsking : Agents → Asked → List AtHost → Result Survey Failure → Type 0
+abbrev pub IsAsking : Agents → AgentOptions → List AtHost → Result Survey Failure → Type 0
 IsAsking agents asked log (Ok survey) = IsSurveyed agents asked (Ok survey)
     × (log ≡ count_lines asked.agent.word.now survey.number (count_of survey.answers))
 IsAsking agents asked log (Err failure) = IsSurveyed agents asked (Err failure) × (log ≡ [])

@@ -1,6 +1,6 @@
 use Rattle.std.proofs.Common.{◌≡◌, ◌<◌, ℕ, [], length, get_or}
 use Rattle.mon_poller.specs.Target.{IsAsked, SpellNames, poll_names, target_at}
-use Rattle.mon_poller.proofs.asked.Asked.new.Given as goal
+use Rattle.mon_poller.proofs.asked.PolledTargets.new.Given as goal
 
 -- what the targets so far are asked for is written, and their names are spelled
 abbrev pub invariant-loop-target : goal.invariant-loop-target

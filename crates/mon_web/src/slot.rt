@@ -2,7 +2,7 @@
 
 ghost use Rattle.std.specs.Prelude.{◌≡◌, ◌↔◌, IfNone, IfSome, IsTrue};
 ghost use Rattle.std.specs.List.{position};
-ghost use Rattle.mon_web.specs.Seat.{IsChosen, IsLate, IsOldest, NoneFits, is_free, limit_of, may_yield};
+ghost use Rattle.mon_web.specs.Slot.{IsChosen, IsLate, IsOldest, NoneFits, is_free, limit_of, may_yield};
 
 /// How many connections there are at most.
 pub(crate) const SEATS: usize = 32;
@@ -57,7 +57,7 @@ impl Stage {
 
 /// A place for a connection.
 #[derive(Clone, Copy, Debug, PartialEq, Eq)]
-pub struct Seat {
+pub struct Slot {
     pub stage: Stage,
     /// When this stage started, in milliseconds since the station's start.
     pub since: u64,
@@ -67,59 +67,59 @@ pub struct Seat {
 
 /// Returns `true` if a client has been in its stage for as long as it may: 10 seconds for a request
 /// or for a response, 2 seconds after its last one.
-pub fn is_late(seat: Seat, now: u64) -> bool
-    ensures { IsTrue result ↔ IsLate now seat }
+pub fn is_late(slot: Slot, now: u64) -> bool
+    ensures { IsTrue result ↔ IsLate now slot }
 {
-    match seat.stage.limit() {
-        Some(limit) => now.saturating_sub(seat.since) >= limit,
+    match slot.stage.limit() {
+        Some(limit) => now.saturating_sub(slot.since) >= limit,
         None => false,
     }
 }
 
 /// Returns `true` if a client may be closed for a newcomer: nothing that it sent is unread, and it
 /// owes a further request, or for 100 ms its first one or its close.
-fn may_yield(seat: Seat, now: u64) -> bool
-    ensures { result ≡ may_yield now seat }
+fn may_yield(slot: Slot, now: u64) -> bool
+    ensures { result ≡ may_yield now slot }
 {
-    if seat.is_ready {
+    if slot.is_ready {
         return false;
     }
-    match seat.stage {
+    match slot.stage {
         Stage::Idle => true,
-        Stage::Asking | Stage::Closing => now.saturating_sub(seat.since) >= SPARED_MS,
+        Stage::Asking | Stage::Closing => now.saturating_sub(slot.since) >= SPARED_MS,
         Stage::Free | Stage::Sending => false,
     }
 }
 
 /// Returns which place a newcomer gets: the first free one; or else that of the client that waits
 /// longest, of those that may be closed for it. `None` if there is none: then the newcomer waits.
-pub fn choose_seat(seats: &[Seat], now: u64) -> Option<usize>
-    ensures chosen { IfSome result (λ place. IsChosen now seats.now place) }
-    ensures none { IfNone result (NoneFits now seats.now) }
+pub fn choose_slot(slots: &[Slot], now: u64) -> Option<usize>
+    ensures chosen { IfSome result (λ place. IsChosen now slots.now place) }
+    ensures none { IfNone result (NoneFits now slots.now) }
 {
-    match free_seat(seats) {
+    match free_slot(slots) {
         Some(place) => Some(place),
-        None => oldest(seats, now),
+        None => oldest(slots, now),
     }
 }
 
 /// Returns the first free place.
-fn free_seat(seats: &[Seat]) -> Option<usize>
-    ensures { result ≡ position (λ (s : _). is_free s.stage) seats.now }
+fn free_slot(slots: &[Slot]) -> Option<usize>
+    ensures { result ≡ position (λ (s : _). is_free s.stage) slots.now }
 {
-    seats.iter().position(|seat| seat.stage.is_free())
+    slots.iter().position(|slot| slot.stage.is_free())
 }
 
 /// Returns the place of the client that waits longest, of those that may be closed for a newcomer.
-fn oldest(seats: &[Seat], now: u64) -> Option<usize>
-    ensures { IsOldest now seats.now result }
+fn oldest(slots: &[Slot], now: u64) -> Option<usize>
+    ensures { IsOldest now slots.now result }
 {
     let mut found: Option<usize> = None;
     let mut since = u64::MAX;
-    for (place, seat) in seats.iter().enumerate() {
-        if may_yield(*seat, now) && (found.is_none() || seat.since < since) {
+    for (place, slot) in slots.iter().enumerate() {
+        if may_yield(*slot, now) && (found.is_none() || slot.since < since) {
             found = Some(place);
-            since = seat.since;
+            since = slot.since;
         }
     }
     found

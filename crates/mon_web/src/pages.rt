@@ -3,7 +3,7 @@
 ghost use Rattle.std.specs.Prelude.{◌≡◌, IfSome, IsTrue, None, OnOk, Some};
 ghost use Rattle.mon_http.specs.Response.{fits, reply_of};
 ghost use Rattle.mon_http.specs.declared.route.Route.TheVariants as Route;
-ghost use Rattle.mon_web.specs.Site.{IsMadeFor, ended_at, health_reply, is_healthy, last_round, metrics_reply, open_metrics_reply, page_reply, reply_for, report_reply, text_reply, view_of};
+ghost use Rattle.mon_web.specs.Pages.{IsMadeFor, ended_at, health_reply, is_healthy, last_round, metrics_reply, open_metrics_reply, page_reply, reply_for, report_reply, text_reply, view_of};
 ghost use Rattle.mon_web.specs.declared.content.Text.TheVariants as Texts;
 
 use crate::content::{Content, Text};
@@ -32,7 +32,7 @@ impl Ended {
 }
 
 /// What is shown: the texts, and whether rounds end in time; and by which names.
-pub struct Site<C> {
+pub struct Pages<C> {
     /// The names of the host that are served, besides `localhost` and addresses.
     pub(crate) names: Vec<String>,
     /// What the texts are built from. None if there was no memory for it.
@@ -44,9 +44,9 @@ pub struct Site<C> {
 }
 
 // By hand: where one is let go, a proof has one call and not a drop of each field.
-impl<C: Drop> Drop for Site<C> {
+impl<C: Drop> Drop for Pages<C> {
     fn drop(self) {
-        let Site {
+        let Pages {
             names: _,
             content: _,
             ended: _,
@@ -55,8 +55,8 @@ impl<C: Drop> Drop for Site<C> {
     }
 }
 
-impl<C: Content> Site<C> {
-    /// A site without texts, of a station whose rounds have to end within `limit` milliseconds of
+impl<C: Content> Pages<C> {
+    /// Pages without texts, of a station whose rounds have to end within `limit` milliseconds of
     /// one another. A request for a host by a name is answered if the name is `localhost` or one of
     /// these, in any case and with any port; by an address it always is.
     pub fn new(limit: u64, names: Vec<String>) -> Self
@@ -65,7 +65,7 @@ impl<C: Content> Site<C> {
         ensures ended { result.ended ≡ None }
         ensures limit { result.limit ≡ limit }
     {
-        Site {
+        Pages {
             names,
             content: None,
             ended: None,
@@ -126,7 +126,7 @@ impl<C: Content> Site<C> {
     /// Makes the text for this route, if the route has one.
     ///
     /// # Errors
-    /// `AllocError` if there is no memory for it. What the site answers stays in any case.
+    /// `AllocError` if there is no memory for it. What the pages answer stays in any case.
     pub(crate) fn make(&mut self, route: Route) -> Result<(), AllocError>
         ensures made { OnOk result (IsMadeFor C.made self.new.content route) }
         ensures view { view_of C.says self.new ≡ view_of C.says self.old }

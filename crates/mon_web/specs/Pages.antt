@@ -13,10 +13,10 @@ use Rattle.mon_http.specs.declared.answer.LastRound.{LastRound}
 use Rattle.mon_web.specs.Texts.{Texts}
 use Rattle.mon_web.specs.declared.content.Text.{Text}
 use Rattle.mon_web.specs.declared.content.Text.TheVariants as texts
-use Rattle.mon_web.specs.declared.site.Ended.{Ended}
-use Rattle.mon_web.specs.declared.site.Site.{Site}
+use Rattle.mon_web.specs.declared.pages.Ended.{Ended}
+use Rattle.mon_web.specs.declared.pages.Pages.{Pages}
 
--- what a site answers by: the names of hosts that it serves, besides localhost and addresses; what
+-- what pages answer by: the names of hosts that it serves, besides localhost and addresses; what
 -- its texts say, if it has any; the end of the last round, and how long after it the station is
 -- healthy
 pub record View : Type 0 where
@@ -25,13 +25,13 @@ pub record View : Type 0 where
   pub ended : Option Ended
   pub limit : ℕ
 
--- what a site answers by, whose content says so
-abbrev pub view_of : {C : Type 0} → (says : C → Texts) → Site C → View
-view_of says site = record {
-  names = map string_bytes site.names.items;
-  texts = option_map says site.content;
-  ended = site.ended;
-  limit = site.limit;
+-- what pages answer by, whose content says so
+abbrev pub view_of : {C : Type 0} → (says : C → Texts) → Pages C → View
+view_of says pages = record {
+  names = map string_bytes pages.names.items;
+  texts = option_map says pages.content;
+  ended = pages.ended;
+  limit = pages.limit;
 }
 
 -- content has the text for a route, if there is content and the route has a text
@@ -92,7 +92,7 @@ abbrev pub text_reply : (Texts → Reply) → Option Texts → Reply
 text_reply reply None = out_of_memory
 text_reply reply (Some texts) = reply texts
 
--- the reply of a site to a request for a route at this time
+-- the reply of pages to a request for a route at this time
 abbrev pub reply_for : View → ℕ → Route → Reply
 reply_for view now Metrics = text_reply metrics_reply view.texts
 reply_for view now OpenMetrics = text_reply open_metrics_reply view.texts
@@ -100,10 +100,10 @@ reply_for view now Report = text_reply report_reply view.texts
 reply_for view now Page = text_reply page_reply view.texts
 reply_for view now Health = health_reply view.ended view.limit now
 
--- a site with these texts
+-- pages with these texts
 abbrev pub with_texts : Option Texts → View → View
 with_texts texts view = record view { texts = texts }
 
--- a site of a station whose last round had this number and ended at this time
+-- the pages of a station whose last round had this number and ended at this time
 abbrev pub with_round : ℕ → ℕ → View → View
 with_round at number view = record view { ended = Some (ended_at at number) }

@@ -1,7 +1,7 @@
 //! Where clients of HTTP come in.
 
 ghost use Rattle.std.specs.Prelude.{IfOk};
-ghost use Rattle.mon_web.specs.Door.{IsOpenAt};
+ghost use Rattle.mon_web.specs.Acceptor.{IsOpenAt};
 
 use crate::table::DOOR;
 use mio::net::TcpListener;
@@ -52,30 +52,30 @@ impl Listener for TcpListener {
 
 /// A listener, and what a station waits by.
 #[derive(Drop)]
-pub struct DoorBy<L> {
+pub struct AcceptorBy<L> {
     pub(crate) listener: L,
     pub(crate) poll: Poll,
 }
 
 /// A listener of the operating system's, and what a station waits by.
-pub type Door = DoorBy<TcpListener>;
+pub type Acceptor = AcceptorBy<TcpListener>;
 
-impl<L: Listener + Drop> DoorBy<L> {
+impl<L: Listener + Drop> AcceptorBy<L> {
     /// Listens at this address; port 0 takes a free one.
     ///
     /// # Errors
     /// That of the system, if the address is not available.
     pub fn open<R: Net>(rt: &R, at: SocketAddr) -> io::Result<Self>
-        ensures { IfOk result (λ door. IsOpenAt (L.bound at) L.watched door.listener) }
+        ensures { IfOk result (λ acceptor. IsOpenAt (L.bound at) L.watched acceptor.listener) }
     {
         let poll = Poll::new(rt)?;
         let mut listener = L::listen(rt, at)?;
         listener.watch(poll.registry())?;
-        Ok(DoorBy { listener, poll })
+        Ok(AcceptorBy { listener, poll })
     }
 }
 
-impl DoorBy<TcpListener> {
+impl AcceptorBy<TcpListener> {
     /// Returns the address that it is at.
     ///
     /// # Errors

@@ -4,7 +4,7 @@ use crate::change::Change;
 
 /// The assignment that a binding asks for.
 #[derive(Debug, Drop)]
-pub struct Step {
+pub struct PlannedChange {
     /// Which binding, counted from 1.
     pub index: usize,
     /// What it changes.

@@ -35,8 +35,8 @@ use Rattle.mon_cli.specs.declared.meaning.SettingsArgs.{SettingsArgs}
 use Rattle.mon_cli.specs.declared.meaning.ReportArgs.{ReportArgs}
 use Rattle.mon_cli.specs.declared.meaning.CarryArgs.{CarryArgs}
 use Rattle.mon_cli.specs.declared.meaning.Timing.{Timing}
-use Rattle.mon_cli.specs.declared.meaning.Asked.{Asked}
-use Rattle.mon_cli.specs.declared.meaning.Asked.TheVariants as asked
+use Rattle.mon_cli.specs.declared.meaning.Invocation.{Invocation}
+use Rattle.mon_cli.specs.declared.meaning.Invocation.TheVariants as asked
 
 -- the text of an argument, empty where it has none
 abbrev pub text_in : Text → List Row → Text
@@ -217,7 +217,7 @@ IsCarry rows w = (w.old.now ≡ text_in (codes "OLD") rows)
     × (w.previous ≡ is_on (codes "previous") rows)
 
 -- what the rows of a command's arguments ask for
-abbrev pub Says : Choice → List Row → Asked → Type 0
+abbrev pub Says : Choice → List Row → Invocation → Type 0
 Says commands.Replay rows (asked.Replay w) =
     IsNumberOr 32 8 (one_of (codes "N") rows) w.size × (w.reports ≡ wants_report rows)
     × IsPrinted rows w.printed
@@ -246,7 +246,7 @@ Says _ rows _ = ⊥
 
 -- What all the arguments ask for, by three things: whether --version was given, the rows before any
 -- command, and the command that was met, with its rows.
-abbrev pub AsksFor : Bool → List Row → Option (Text × List Row) → Asked → Type 0
+abbrev pub AsksFor : Bool → List Row → Option (Text × List Row) → Invocation → Type 0
 AsksFor true rows command a = a ≡ asked.Version
 AsksFor false rows None a = Says commands.Replay rows a
 AsksFor false rows (Some command) a = (choice : Choice) × (command.0 ≡ word_of choice)
@@ -299,7 +299,7 @@ IsTimingIn t = ((t.rounds ≡ 0) ⊎ IsIn (value_of commands.Station (codes "rou
 
 -- Each number is within the bounds of its argument in the table, whether it was given or is a
 -- default.
-abbrev pub IsWithin : Asked → Type 0
+abbrev pub IsWithin : Invocation → Type 0
 IsWithin (asked.Replay w) = IsIn (value_of commands.Replay (codes "N")) w.size
 IsWithin (asked.Bulk w) = IsSignedIn (value_of commands.Bulk (codes "non-repeaters"))
     w.non_repeaters
@@ -323,33 +323,33 @@ IsWithin (asked.Rehearse w) = IsIn (value_of commands.Rehearse (codes "K")) w.st
 IsWithin _ = ⊤
 
 -- a station that is neither to be checked nor to run any rounds
-abbrev pub LacksRounds : Asked → Type 0
+abbrev pub LacksRounds : Invocation → Type 0
 LacksRounds (asked.Station w) = (w.checks ≡ false) × (w.timing.rounds ≡ 0)
 LacksRounds _ = ⊥
 
 -- a station that is given a phase, and no interval that it would be in
-abbrev pub LacksInterval : Asked → Type 0
+abbrev pub LacksInterval : Invocation → Type 0
 LacksInterval (asked.Station w) = IsSome w.timing.phase × (w.timing.interval ≡ 0)
 LacksInterval _ = ⊥
 
 -- a report of saved windows that is given no settings and no file, or both
-abbrev pub LacksSource : Asked → Type 0
+abbrev pub LacksSource : Invocation → Type 0
 LacksSource (asked.Report w) = is_some w.settings ≡ is_some w.file
 LacksSource _ = ⊥
 
 -- a report of saved windows whose series get the station's number, and no settings that have the
 -- number
-abbrev pub LacksNumber : Asked → Type 0
+abbrev pub LacksNumber : Invocation → Type 0
 LacksNumber (asked.Report w) = (w.printed.station_label ≡ true) × (w.settings ≡ None)
 LacksNumber _ = ⊥
 
 -- stations that are to be placed on machines, and no folder for their settings
-abbrev pub LacksSplit : Asked → Type 0
+abbrev pub LacksSplit : Invocation → Type 0
 LacksSplit (asked.Settings w) = IsSome w.machines × (w.split ≡ None)
 LacksSplit _ = ⊥
 
 -- how many stations a group has, or the number of the first group, and no machines
-abbrev pub LacksMachines : Asked → Type 0
+abbrev pub LacksMachines : Invocation → Type 0
 LacksMachines (asked.Settings w) = (w.numbered ≡ true) × (w.machines ≡ None)
 LacksMachines _ = ⊥
 
@@ -358,7 +358,7 @@ abbrev pub SortsNoTable : Printed → Type 0
 SortsNoTable p = IsSome p.sort × (p.format ≢ report.Columns)
 
 -- the rows of a station's report or of a saved one are sorted, and it is no table
-abbrev pub LacksColumns : Asked → Type 0
+abbrev pub LacksColumns : Invocation → Type 0
 LacksColumns (asked.Station w) = SortsNoTable w.printed
 LacksColumns (asked.Report w) = SortsNoTable w.printed
 LacksColumns _ = ⊥
