@@ -20,7 +20,7 @@ abbrev pub after : Replies → Verdict → Conversation → Conversation
 after replies verdict c = with_text (len_of verdict) (keeps verdict) (said replies verdict) c
 
 -- Nothing is answered, and more octets are needed; or what was judged is answered by what the pages
--- shows, or that there is no memory for that. These are the steps of mon_http's histories.
+-- show, or that there is no memory for that. These are the steps of mon_http's histories.
 abbrev pub IsResponse : View → Moment → Conversation → Bool → Conversation → Type 0
 IsResponse view at old false new = IsQuiet old.unread × (new ≡ old)
 IsResponse view at old true new = (verdict : Verdict) × IsJudged view.names old.unread verdict

@@ -111,11 +111,11 @@ impl<C: Content> Server<C> {
         let longest = self.table.longest_wait().unwrap_or(left);
         self.poll.poll(&mut self.events, Some(left.min(longest)))?;
         for event in self.events.iter() {
-            self.table.set_ready(event.token());
+            self.table.set_token_ready(event.token());
         }
         if self.events.is_empty() {
             // A newcomer that could not be let in, as without a descriptor, is tried again.
-            self.table.set_ready(Token(DOOR));
+            self.table.set_token_ready(Token(DOOR));
         }
         Ok(())
     }

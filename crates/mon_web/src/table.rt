@@ -101,7 +101,7 @@ impl<C: Content> Table<C> {
     }
 
     /// Takes note that something may be done for the one of this token.
-    pub(crate) fn set_ready(&mut self, token: Token)
+    pub(crate) fn set_token_ready(&mut self, token: Token)
         ensures pages { self.new.pages ≡ self.old.pages }
         ensures slots { self.new.slots.items ≡ marked_by token.0 true self.old.slots.items }
         ensures acceptor { self.new.has_newcomer
