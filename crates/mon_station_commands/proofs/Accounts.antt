@@ -37,7 +37,7 @@ use Rattle.mon_station.specs.declared.running.Run.{Run}
 use Rattle.mon_file_commands.specs.Line.{AreNoted, noted}
 use Rattle.mon_station_commands.specs.Pace.{IsDate, IsPassed, IsStopped, IsWait}
 use Rattle.mon_station_commands.specs.Quiet.{AreQuiet}
-use Rattle.mon_station_commands.specs.Spans.{AreAlarms, AreChanges, AreTroubles, AreTroublesOf, IsAccount, IsAccountOf, IsNoReport, IsOfRun, IsOfSpan, IsReportOr, IsSavedAfter, IsSpan, IsSpanRun, IsTimedRun, IsUnsavedBy, is_round, round_after}
+use Rattle.mon_station_commands.specs.Spans.{AreAlarms, AreChanges, AreTroubles, AreTroublesOf, IsAccount, IsAccountOf, IsNoReport, IsOfRun, IsOfSpan, IsReportOr, IsSavedAfter, IsSpan, IsSpanRun, IsTimedAt, IsTimedRun, IsUnsavedBy, is_round, round_after}
 use Rattle.mon_station_commands.specs.Steps.{IsSaidOf, IsTried}
 use Rattle.mon_station_commands.specs.Telling.{AreSaid, restart_lines, round_lines}
 use Rattle.mon_station_commands.specs.Troubles.{key_of, lines_before}
@@ -259,6 +259,22 @@ timed value span one two a b ms was is t0 t1 t2 t3 first second third whole betw
     third.holds.0,
     λ i. (first.holds.1 i ++ second.holds.1 i) ++ third.holds.1 i,
     dated span ms third.holds.0 was is whole between third.holds.2,
+  );
+  on = goes_on (first.more ++ second.more) third.more t0 t2 t3 (goes_on first.more second.more t0 t1 t2 first.on second.on) third.on;
+}
+
+-- when what ended by those did so
+pub timed_at : (origin : Instant) (a b ms seconds : ℕ) (t0 t1 t2 t3 : Option (List AtHost)) → GoesOnBy (λ log. IsPassed origin log (Ok a)) t0 t1
+    → GoesOnBy (λ log. IsPassed origin log (Ok b)) t1 t2 → GoesOnBy (λ log. IsDate log (Ok ms)) t2 t3 → seconds ≡ ms / 1000 → GoesOnBy (IsTimedAt origin b seconds) t0 t3
+timed_at origin a b ms seconds t0 t1 t2 t3 first second third is = record {
+  more = (first.more ++ second.more) ++ third.more;
+  holds = (
+    first.holds.0,
+    second.holds.0,
+    third.holds.0,
+    λ i. (first.holds.1 i ++ second.holds.1 i) ++ third.holds.1 i,
+    second.holds.2,
+    is ∙ ap (λ (m : ℕ). m / 1000) third.holds.2,
   );
   on = goes_on (first.more ++ second.more) third.more t0 t2 t3 (goes_on first.more second.more t0 t1 t2 first.on second.on) third.on;
 }

@@ -1,7 +1,6 @@
 -- What a running station puts for the receiver of notifications, and its delivery.
 use Rattle.std.specs.Prelude.{◌≡◌, ◌⊎◌, ℕ, max, min, Bool, true, false, List, [], ◌∷◌, ◌++◌, Option}
-use Rattle.std.specs.Prelude.{Some, None, Result, Ok, Err, codes, map, option_map, slice_get}
-use Rattle.std.specs.List.{fold}
+use Rattle.std.specs.Prelude.{Some, None, Result, Ok, Err, codes, slice_get}
 use Rattle.httpdate.specs.Date.{unix_secs}
 use Rattle.httpdate.specs.declared.date.HttpDate.{HttpDate as Date}
 use Rattle.mio.specs.declared.net.stream.TcpStream.{TcpStream}
@@ -12,18 +11,20 @@ use Rattle.mon_console.specs.declared.failure.Failure.{Failure}
 use Rattle.mon_board.specs.declared.board.Board.{Board}
 use Rattle.mon_console.specs.declared.printing.Printing.{Printing}
 use Rattle.mon_console.specs.declared.seen.Seen.{Seen}
-use Rattle.mon_courier.specs.Courier.{State, all_dropped, fresh, rest_of}
+use Rattle.mon_courier.specs.Courier.{State, all_dropped, fresh, rest_of, with_mail, with_plan}
+use Rattle.mon_courier.specs.Plan.{after_loss}
 use Rattle.mon_courier.specs.Turn.{IsTurn}
 use Rattle.mon_courier.specs.News.{news_text}
 use Rattle.mon_courier.specs.declared.news.News.{News}
 use Rattle.mon_courier.specs.declared.news.News.TheVariants.{Again}
-use Rattle.mon_file_commands.specs.Line.{Line, stated}
+use Rattle.mon_file_commands.specs.Line.{AreNoted, Line, stated}
+use Rattle.mon_host.specs.AtHost.{AtHost}
 use Rattle.mon_host.specs.declared.level.Level.{Level}
 use Rattle.mon_host.specs.declared.level.Level.TheVariants as level
 use Rattle.mon_http_client.specs.Target.{target_of}
 use Rattle.mon_http_client.specs.declared.target.TargetFault.{TargetFault}
 use Rattle.mon_http_client.specs.declared.target.TargetFault.TheVariants.{Https}
-use Rattle.mon_notify.specs.Mail.{Mail, after_put}
+use Rattle.mon_notify.specs.Mail.{after_put}
 use Rattle.mon_rounds.specs.declared.changes.Change.{Change}
 use Rattle.mon_rounds.specs.declared.changes.Trouble.{Trouble}
 use Rattle.mon_rounds.specs.declared.changes.Trouble.TheVariants.{SilentTarget}
@@ -50,13 +51,31 @@ IsCourier (Some url) (Ok courier) = (host : List ℕ) × (address : Addr) × (pa
 IsCourier (Some url) (Err failure) = IsMemory failure
     ⊎ ((fault : TargetFault) × (target_of url ≡ Err fault) × IsOfText url (wanted_of fault) failure)
 
--- the texts that wait, if there is a receiver
-abbrev pub mail_in : Option Courier → Option Mail
-mail_in courier = option_map (λ (c : Courier). c.mail) courier
+-- a text was put
+abbrev pub with_text : List ℕ → Courier → Courier
+with_text text c = with_mail (after_put text c.mail) c
 
--- texts that wait after these were put, in order
-abbrev pub all_put : List (List ℕ) → Mail → Mail
-all_put texts mail = fold (λ (m : Mail) (text : List ℕ). after_put text m) mail texts
+-- there was no memory for a text, which is counted
+abbrev pub lost : Courier → Courier
+lost c = with_plan (after_loss c.plan) c
+
+-- something done once for each of a list, in order
+abbrev pub Chain : {X : Type 0} → (Step : X → Courier → Courier → Type 0) → List X
+    → (before after : Courier) → Type 0
+Chain Step [] before after = after ≡ before
+Chain Step (x ∷ xs) before after = (between : Courier) × Step x before between
+    × Chain Step xs between after
+
+-- something was done; or there was no memory for it, which is counted
+abbrev pub OrLost : {X : Type 0} → (Step : X → Courier → Courier → Type 0) → X
+    → (before after : Courier) → Type 0
+OrLost Step x before after = Step x before after ⊎ (after ≡ lost before)
+
+-- something was done if there is a receiver
+abbrev pub IfCarried : (Courier → Courier → Type 0) → (before after : Option Courier) → Type 0
+IfCarried Done None after = after ≡ None
+IfCarried Done (Some before) None = ⊥
+IfCarried Done (Some before) (Some after) = Done before after
 
 -- the date at a time in seconds since 1970; a time after the year 9999 counts as its end
 abbrev pub IsDateAt : ℕ → Date → Type 0
@@ -66,21 +85,18 @@ IsDateAt seconds date = unix_secs date ≡ min seconds 253402300799
 abbrev pub IsSeenAt : (station seconds : ℕ) → Seen → Type 0
 IsSeenAt station seconds seen = (seen.station ≡ station) × IsDateAt seconds seen.date
 
--- the notice of a change of an alarm at a look
-abbrev pub alarm_notice_at : Look → AlarmChange → List ℕ
-alarm_notice_at look = alarm_notice look.printing.now look.board.now look.seen
-
--- those of changes
-abbrev pub alarm_texts : Look → List AlarmChange → List (List ℕ)
-alarm_texts look changes = map (alarm_notice_at look) changes
+-- the notice of a change of an alarm is put
+abbrev pub IsAlarmPut : Printing → Board → Seen → AlarmChange → (before after : Courier) → Type 0
+IsAlarmPut printing board seen change before after =
+    after ≡ with_text (alarm_notice printing board seen change) before
 
 -- The changes of a board's alarms that a station sees at a time, in seconds since 1970, are put in
 -- their order, if there is a receiver.
 abbrev pub AreAlarmsPut : Printing → (station seconds : ℕ) → Board → List AlarmChange
-    → (before after : Option Mail) → Type 0
+    → (before after : Option Courier) → Type 0
 AreAlarmsPut printing station seconds board changes before after = (seen : Seen)
     × IsSeenAt station seconds seen
-    × (after ≡ option_map (all_put (map (alarm_notice printing board seen) changes)) before)
+    × IfCarried (Chain (IsAlarmPut printing board seen) changes) before after
 
 -- whether a trouble is that a target gives no answer
 abbrev pub is_silence : Trouble → Bool
@@ -89,46 +105,32 @@ is_silence other = false
 
 -- a notice of a device is put that is down or up again, if there is such a target, with its line
 abbrev pub IsDevicePut : Printing → Seen → (is_down : Bool) → Option TargetAge
-    → (before after : Mail) → Type 0
+    → (before after : Courier) → Type 0
 IsDevicePut printing seen is_down None before after = after ≡ before
 IsDevicePut printing seen is_down (Some target) before after = (line : List ℕ)
     × IsText (silent_text is_down target) line
-    × (after ≡ after_put (device_notice printing seen
+    × (after ≡ with_text (device_notice printing seen
     record { target = target.address; is_down = is_down } line) before)
 
 -- a change is put if it is that a target gives no answer, or answers again
 abbrev pub IsPutIf : (is_silent : Bool) → Printing → Seen → List TargetAge → Change
-    → (before after : Mail) → Type 0
+    → (before after : Courier) → Type 0
 IsPutIf true printing seen targets change before after =
     IsDevicePut printing seen change.begins (slice_get targets change.number) before after
 IsPutIf false printing seen targets change before after = after ≡ before
 
 -- the same, by what the change is of
-abbrev pub IsPut : Printing → Seen → List TargetAge → Change → (before after : Mail) → Type 0
-IsPut printing seen targets change = IsPutIf (is_silence change.trouble) printing seen targets
-    change
-
--- changes are put in their order
-abbrev pub ArePut : Printing → Seen → List TargetAge → List Change → (before after : Mail) → Type 0
-ArePut printing seen targets [] before after = after ≡ before
-ArePut printing seen targets (change ∷ changes) before after = (between : Mail)
-    × IsPut printing seen targets change before between
-    × ArePut printing seen targets changes between after
-
--- the same, if there is a receiver
-abbrev pub AreDevicesPut : Printing → Seen → List TargetAge → List Change
-    → (before after : Option Mail) → Type 0
-AreDevicesPut printing seen targets changes None after = after ≡ None
-AreDevicesPut printing seen targets changes (Some before) None = ⊥
-AreDevicesPut printing seen targets changes (Some before) (Some after) =
-    ArePut printing seen targets changes before after
+abbrev pub IsPut : Printing → Seen → List TargetAge → Change → (before after : Courier) → Type 0
+IsPut printing seen targets change before after =
+    IsPutIf (is_silence change.trouble) printing seen targets change before after
 
 -- The changes of trouble that a station sees at a time, in seconds since 1970, are put in their
 -- order as far as they are of devices, if there is a receiver.
 abbrev pub AreTroublesPut : Printing → (station seconds : ℕ) → List TargetAge → List Change
-    → (before after : Option Mail) → Type 0
+    → (before after : Option Courier) → Type 0
 AreTroublesPut printing station seconds targets changes before after = (seen : Seen)
-    × IsSeenAt station seconds seen × AreDevicesPut printing seen targets changes before after
+    × IsSeenAt station seconds seen
+    × IfCarried (Chain (IsPut printing seen targets) changes) before after
 
 -- how many texts were not delivered and never will be, as far as 64 bits go
 abbrev pub dropped_of : Courier → ℕ
@@ -154,10 +156,21 @@ abbrev pub news_line : News → Line
 news_line news = stated (news_level news) (codes "snmpmon: notifications: " ++ news_text news
     ++ codes "\n")
 
--- What delivers had a turn at this time, if there is a receiver. What the system answered is not
--- known.
-abbrev pub HasTurn : (now : ℕ) → (before after : Option Courier) → Type 0
-HasTurn now None after = after ≡ None
-HasTurn now (Some before) after = (new : Courier) × (said : Option News) × (after ≡ Some new)
+-- the lines of what a turn came to, which is one or none
+abbrev pub news_lines : Option News → List Line
+news_lines None = []
+news_lines (Some news) = news_line news ∷ []
+
+-- What delivers had a turn at this time, and what it came to was said. What the system answered is
+-- not known.
+abbrev pub IsTurnSaid : (now : ℕ) → (before after : Courier) → List AtHost → Type 0
+IsTurnSaid now before after log = (said : Option News)
     × IsTurn (λ at answer. Unit {0}) (λ stream octets answer next. Unit {0})
-    (λ stream octets answer next. Unit {0}) now before new said
+    (λ stream octets answer next. Unit {0}) now before after said
+    × AreNoted (news_lines said) log
+
+-- the same, if there is a receiver; else nothing is done
+abbrev pub HasTurn : (now : ℕ) → (before after : Option Courier) → List AtHost → Type 0
+HasTurn now None after log = (after ≡ None) × (log ≡ [])
+HasTurn now (Some before) None log = ⊥
+HasTurn now (Some before) (Some after) log = IsTurnSaid now before after log

@@ -1,8 +1,8 @@
 -- What is said of a round, or of the time after it.
-use Rattle.std.specs.Prelude.{◌≡◌, ◌⊎◌, ◌≤◌, ◌/◌, ℕ, Bool, true, false, IsErrAnd, List, [], ◌∷◌}
-use Rattle.std.specs.Prelude.{◌++◌, Option, Some, None, Result, Ok, Err, length, map, take}
+use Rattle.std.specs.Prelude.{◌≡◌, ◌⊎◌, ◌≤◌, ◌-◌, ◌/◌, ℕ, Bool, true, false, IsErrAnd, List, []}
+use Rattle.std.specs.Prelude.{◌∷◌, ◌++◌, Option, Some, None, Result, Ok, Err, length, map, take}
 use Rattle.std.specs.List.{flat_map}
-use Rattle.std.specs.Time.{system_time_nanos}
+use Rattle.std.specs.Time.{instant_nanos, system_time_nanos}
 use Rattle.std.specs.declared.time.Instant.{Instant}
 use Rattle.std.specs.declared.time.SystemTime.{SystemTime}
 use Rattle.mon_console.specs.Failure.{IsMemory, IsPlain}
@@ -188,3 +188,11 @@ abbrev pub IsTimedRun : {T : Type 0} → (whole : Bool) → (before after : Opti
 IsTimedRun whole before after log (Ok ran) = (began ended : Instant) × (date : SystemTime)
     × (log ≡ Timed began ∷ Timed ended ∷ Dated date ∷ []) × (after ≡ round_after whole date before)
 IsTimedRun whole before after log (Err failure) = IsStopped log failure × (after ≡ before)
+
+-- The clock was looked at twice, and then the date. By the second look it is known how many
+-- milliseconds after the start something ended, and by the date when, in seconds since 1970.
+abbrev pub IsTimedAt : (origin : Instant) → (ended seconds : ℕ) → List AtHost → Type 0
+IsTimedAt origin ended seconds log = (began now : Instant) × (date : SystemTime)
+    × (log ≡ Timed began ∷ Timed now ∷ Dated date ∷ [])
+    × (ended ≡ milliseconds_of (instant_nanos now - instant_nanos origin))
+    × (seconds ≡ milliseconds_of (system_time_nanos date) / 1000)

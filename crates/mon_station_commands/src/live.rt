@@ -11,11 +11,11 @@ ghost use Rattle.mon_rounds.specs.Orderly.{begun};
 ghost use Rattle.mon_rounds.specs.Whole.{HasRun, IsWhole, view_of};
 ghost use Rattle.mon_alarms.specs.Announcing.{announced_of};
 ghost use Rattle.mon_rounds.specs.Totals.{changes_since};
-ghost use Rattle.mon_station_commands.specs.Notifying.{AreAlarmsPut, AreTroublesPut, mail_in};
+ghost use Rattle.mon_station_commands.specs.Notifying.{AreAlarmsPut, AreTroublesPut};
 ghost use Rattle.mon_station_commands.specs.Opening.{IsNoStation, last_of, unsaved_in};
 ghost use Rattle.mon_station_commands.specs.Places.{IsNoSocket};
 ghost use Rattle.mon_station_commands.specs.Rounds.{nothing_kept};
-ghost use Rattle.mon_station_commands.specs.Spans.{AreAlarms, AreChanges, AreTroubles, AreTroublesOf, IsAccountOf, IsOfRun, IsOfSpan, IsReportOr, IsSavedAfter, IsSpanRun, IsTimedRun, is_round};
+ghost use Rattle.mon_station_commands.specs.Spans.{AreAlarms, AreChanges, AreTroubles, AreTroublesOf, IsAccountOf, IsOfRun, IsOfSpan, IsReportOr, IsSavedAfter, IsSpanRun, IsTimedAt, IsTimedRun, is_round};
 ghost use Rattle.mon_station_commands.specs.Steps.{SomeOr, only};
 ghost use Rattle.mon_file_commands.specs.Line.{AreNoted};
 ghost use Rattle.mon_station_commands.specs.Telling.{IsOpening, announced_notes, new_lines, start_lines};
@@ -470,6 +470,9 @@ fn run_timed<H: Host, S: Receiver + Drop, O: Outbox + Drop>(
         (seen live.new.station (view_of live.new.transport.rounds.round
         (S.heard live.new.transport.rounds.receiver) (kept_in live.new.transport.rounds.latest))
         (O.handed live.new.transport.outbox)) live.new.run)) }
+    // When it ended is what the clocks gave.
+    ensures at { IfOk result (λ ran. GoesOnBy (IsTimedAt live.old.origin live.new.ended
+        live.new.date) (H.log host.old) (H.log host.new)) }
     ensures span { IfOk result (λ ran. IfOk ran (λ spell. spell.span ≡ span)) }
     ensures fault { IfOk result (λ ran. IfErr ran (λ fault. fault ≡ StationFault.OutOfMemory)) }
     ensures printing { live.new.reports.printing ≡ live.old.reports.printing }
@@ -635,7 +638,7 @@ fn tell_alarm_changes<H: Host, S: Receiver + Drop, O: Outbox + Drop>(
         live.old.date (state_of live.old.station.life).board
         (announced_of looks (changes_since (state_of live.old.station.life).board
         (map (λ w. w.items) live.old.course.windows.items)) live.old.course.announcer)
-        (mail_in live.old.courier) (mail_in live.new.courier)) }
+        live.old.courier live.new.courier) }
     ensures printing { live.new.reports.printing ≡ live.old.reports.printing }
     ensures paths { live.new.reports.paths ≡ live.old.reports.paths }
     ensures kept { live.new.kept ≡ live.old.kept }
@@ -704,7 +707,7 @@ fn report_troubles<H: Host, S: Receiver + Drop, O: Outbox + Drop>(
         (troubles_after live.old.reports.stale_after (told_by live.old.troubles)
         (others_of live.old.transport.rounds.latest.datagrams.items live.old.freshness.targets.items
         live.old.transport.engines.items (length live.old.freshness.targets.items))
-        live.old.freshness)) (mail_in live.old.courier) (mail_in live.new.courier)) }
+        live.old.freshness)) live.old.courier live.new.courier) }
     ensures printing { live.new.reports.printing ≡ live.old.reports.printing }
     ensures paths { live.new.reports.paths ≡ live.old.reports.paths }
     ensures kept { live.new.kept ≡ live.old.kept }

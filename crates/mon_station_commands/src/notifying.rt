@@ -1,10 +1,9 @@
 //! Notifications of a running station: what is put for the receiver, and its delivery.
 
-ghost use Rattle.std.specs.Prelude.{◌≡◌, ◌∷◌, [], OnOk, Some, option_copied, option_map};
+ghost use Rattle.std.specs.Prelude.{◌≡◌, ◌×◌, Ok, OnErr, OnOk, Some, option_copied, option_map};
 ghost use Rattle.mon_host.specs.Log.{GoesOnBy};
 ghost use Rattle.mon_file_commands.specs.Line.{AreNoted};
-ghost use Rattle.mon_notify.specs.Mail.{after_put};
-ghost use Rattle.mon_station_commands.specs.Notifying.{AreDevicesPut, ArePut, HasTurn, IsCourier, IsDateAt, IsDevicePut, IsPut, IsSeenAt, alarm_notice_at, alarm_texts, all_put, dropped_of, is_silence, mail_in, news_level, news_line, until_turn, wanted_of};
+ghost use Rattle.mon_station_commands.specs.Notifying.{Chain, HasTurn, IfCarried, IsAlarmPut, IsCourier, IsDateAt, IsDevicePut, IsPut, IsSeenAt, IsTurnSaid, OrLost, dropped_of, is_silence, lost, news_level, news_lines, until_turn, wanted_of};
 ghost use Rattle.mon_station_commands.specs.Quiet.{AreQuiet};
 
 use crate::live::Live;
@@ -83,16 +82,18 @@ fn date_of(seconds: u64) -> HttpDate
     HttpDate::from_unix_secs(seconds.min(LAST_SECOND)).unwrap()
 }
 
-/// Puts a notice of each of these changes of alarms, in order, if there is a receiver. If there is
-/// no memory for one, it and those after it are counted as dropped.
+/// Puts a notice of each of these changes of alarms, in order, if there is a receiver. One for
+/// which there is no memory is counted as dropped.
 pub(crate) fn notify_alarms(
     alloc: Global,
     courier: &mut Option<Courier>,
     look: Look<'_>,
     changes: &[AlarmChange],
 ) -> Result<(), AllocError>
-    ensures { OnOk result (mail_in courier.new
-        ≡ option_map (all_put (alarm_texts look.entry changes.now)) (mail_in courier.old)) }
+    ensures all { OnOk result (IfCarried (Chain (IsAlarmPut look.entry.printing.now
+        look.entry.board.now look.entry.seen) changes.now) courier.old courier.new) }
+    ensures each { IfCarried (Chain (OrLost (IsAlarmPut look.entry.printing.now
+        look.entry.board.now look.entry.seen)) changes.now) courier.old courier.new }
 {
     match courier {
         Some(courier) => put_alarms(alloc, courier, look, changes),
@@ -107,22 +108,36 @@ fn put_alarms(
     look: Look<'_>,
     changes: &[AlarmChange],
 ) -> Result<(), AllocError>
-    ensures { OnOk result (courier.new.mail ≡ all_put (alarm_texts look.entry changes.now)
-        courier.old.mail) }
+    ensures all { OnOk result (Chain (IsAlarmPut look.entry.printing.now look.entry.board.now
+        look.entry.seen) changes.now courier.old courier.new) }
+    ensures each { Chain (OrLost (IsAlarmPut look.entry.printing.now look.entry.board.now
+        look.entry.seen)) changes.now courier.old courier.new }
 {
+    let mut done = Ok(());
     for place in 0..changes.len() {
-        if let Err(error) = put_alarm(alloc, courier, look, &changes[place]) {
-            lose(courier, changes.len() - place);
-            return Err(error);
-        }
+        let put = put_alarm(alloc, courier, look, &changes[place]);
+        done = or_lost(courier, put, done);
     }
-    Ok(())
+    done
 }
 
-/// Counts this many texts as dropped, for which there was no memory.
-fn lose(courier: &mut Courier, count: usize) {
-    for _ in 0..count {
-        courier.lose();
+/// Counts a text as dropped if there was no memory for it. Returns whether there was, for it and
+/// for those before it.
+fn or_lost(
+    courier: &mut Courier,
+    put: Result<(), AllocError>,
+    before: Result<(), AllocError>,
+) -> Result<(), AllocError>
+    ensures all { OnOk result ((put ≡ Ok tt) × (before ≡ Ok tt)) }
+    ensures put { OnOk put (courier.new ≡ courier.old) }
+    ensures lost { OnErr put (courier.new ≡ lost courier.old) }
+{
+    match put {
+        Ok(()) => before,
+        Err(error) => {
+            courier.lose();
+            Err(error)
+        }
     }
 }
 
@@ -133,8 +148,9 @@ fn put_alarm(
     look: Look<'_>,
     change: &AlarmChange,
 ) -> Result<(), AllocError>
-    ensures { OnOk result (courier.new.mail ≡ after_put (alarm_notice_at look.entry change.now)
-        courier.old.mail) }
+    ensures put { OnOk result (IsAlarmPut look.entry.printing.now look.entry.board.now
+        look.entry.seen change.now courier.old courier.new) }
+    ensures same { OnErr result (courier.new ≡ courier.old) }
 {
     let text = look
         .printing
@@ -144,8 +160,7 @@ fn put_alarm(
 }
 
 /// Puts a notice of each of these changes in which a target gives no answer or answers again, in
-/// order, if there is a receiver. If there is no memory for one, it and those after it are counted
-/// as dropped.
+/// order, if there is a receiver. One for which there is no memory is counted as dropped.
 pub(crate) fn notify_devices(
     alloc: Global,
     courier: &mut Option<Courier>,
@@ -153,9 +168,10 @@ pub(crate) fn notify_devices(
     look: Look<'_>,
     changes: &[Change],
 ) -> Result<(), AllocError>
-    ensures { OnOk result (AreDevicesPut look.entry.printing.now look.entry.seen targets.now
-        changes.now
-        (mail_in courier.old) (mail_in courier.new)) }
+    ensures all { OnOk result (IfCarried (Chain (IsPut look.entry.printing.now look.entry.seen
+        targets.now) changes.now) courier.old courier.new) }
+    ensures each { IfCarried (Chain (OrLost (IsPut look.entry.printing.now look.entry.seen
+        targets.now)) changes.now) courier.old courier.new }
 {
     match courier {
         Some(courier) => put_devices(alloc, courier, targets, look, changes),
@@ -171,16 +187,17 @@ fn put_devices(
     look: Look<'_>,
     changes: &[Change],
 ) -> Result<(), AllocError>
-    ensures { OnOk result (ArePut look.entry.printing.now look.entry.seen targets.now changes.now
-        courier.old.mail courier.new.mail) }
+    ensures all { OnOk result (Chain (IsPut look.entry.printing.now look.entry.seen targets.now)
+        changes.now courier.old courier.new) }
+    ensures each { Chain (OrLost (IsPut look.entry.printing.now look.entry.seen targets.now))
+        changes.now courier.old courier.new }
 {
+    let mut done = Ok(());
     for place in 0..changes.len() {
-        if let Err(error) = put_device(alloc, courier, targets, look, changes[place]) {
-            lose(courier, changes.len() - place);
-            return Err(error);
-        }
+        let put = put_device(alloc, courier, targets, look, changes[place]);
+        done = or_lost(courier, put, done);
     }
-    Ok(())
+    done
 }
 
 /// Puts a notice of a change if in it a target gives no answer or answers again.
@@ -191,8 +208,9 @@ fn put_device(
     look: Look<'_>,
     change: Change,
 ) -> Result<(), AllocError>
-    ensures { OnOk result (IsPut look.entry.printing.now look.entry.seen targets.now change
-        courier.old.mail courier.new.mail) }
+    ensures put { OnOk result (IsPut look.entry.printing.now look.entry.seen targets.now change
+        courier.old courier.new) }
+    ensures same { OnErr result (courier.new ≡ courier.old) }
 {
     if is_silence(change.trouble) {
         return put_silence(
@@ -222,8 +240,9 @@ fn put_silence(
     look: Look<'_>,
     is_down: bool,
 ) -> Result<(), AllocError>
-    ensures { OnOk result (IsDevicePut look.entry.printing.now look.entry.seen is_down
-        (option_map (λ t. t.now) target.entry) courier.old.mail courier.new.mail) }
+    ensures put { OnOk result (IsDevicePut look.entry.printing.now look.entry.seen is_down
+        (option_map (λ t. t.now) target.entry) courier.old courier.new) }
+    ensures same { OnErr result (courier.new ≡ courier.old) }
 {
     let Some(target) = target else {
         return Ok(());
@@ -247,27 +266,44 @@ pub(crate) fn deliver<R: Net, H: Host, S: Receiver + Drop, O: Outbox + Drop>(
     live: &mut Live<S, O>,
 )
     ensures quiet { GoesOnBy AreQuiet (H.log host.old) (H.log host.new) }
-    ensures turn { HasTurn live.old.ended live.old.courier live.new.courier }
+    ensures turn { GoesOnBy (HasTurn live.old.ended live.old.courier live.new.courier)
+        (H.log host.old) (H.log host.new) }
     ensures printing { live.new.reports.printing ≡ live.old.reports.printing }
     ensures paths { live.new.reports.paths ≡ live.old.reports.paths }
     ensures kept { live.new.kept ≡ live.old.kept }
 {
     let now = live.ended;
-    if let Some(courier) = &mut live.courier {
-        if let Some(news) = courier.turn(rt, now) {
-            tell_news(host, news);
-        }
+    take_turn(rt, host, &mut live.courier, now);
+}
+
+/// Has the courier take a turn, if there is one, and says what is new of its deliveries.
+fn take_turn<R: Net, H: Host>(rt: &R, host: &mut H, courier: &mut Option<Courier>, now: u64)
+    ensures { GoesOnBy (HasTurn now courier.old courier.new) (H.log host.old) (H.log host.new) }
+{
+    match courier {
+        Some(courier) => take_one(rt, host, courier, now),
+        None => {}
     }
 }
 
-/// Says what is new of the deliveries.
-fn tell_news<H: Host>(host: &mut H, news: News)
-    ensures { GoesOnBy (AreNoted (news_line news ∷ [])) (H.log host.old) (H.log host.new) }
+/// Has this courier take a turn, and says what is new of its deliveries.
+fn take_one<R: Net, H: Host>(rt: &R, host: &mut H, courier: &mut Courier, now: u64)
+    ensures { GoesOnBy (IsTurnSaid now courier.old courier.new) (H.log host.old) (H.log host.new) }
 {
-    host.note(
-        news_level(news),
-        format_args!("snmpmon: notifications: {news}\n"),
-    );
+    let said = courier.turn(rt, now);
+    tell_news(host, said);
+}
+
+/// Says what is new of the deliveries, if anything is.
+fn tell_news<H: Host>(host: &mut H, said: Option<News>)
+    ensures { GoesOnBy (AreNoted (news_lines said)) (H.log host.old) (H.log host.new) }
+{
+    if let Some(news) = said {
+        host.note(
+            news_level(news),
+            format_args!("snmpmon: notifications: {news}\n"),
+        );
+    }
 }
 
 /// Returns how grave it is.

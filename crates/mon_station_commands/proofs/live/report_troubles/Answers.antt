@@ -2,7 +2,7 @@ use Rattle.std.proofs.Common.{◌∙◌, List, length, refl, subst}
 use Rattle.mon_rounds.specs.Changes.{changes_between, others_of, told_by, troubles_after}
 use Rattle.mon_rounds.specs.declared.changes.Change.{Change}
 use Rattle.mon_rounds.specs.declared.freshness.TargetAge.{TargetAge}
-use Rattle.mon_station_commands.specs.Notifying.{AreDevicesPut, mail_in}
+use Rattle.mon_station_commands.specs.Notifying.{Chain, IfCarried, IsPut}
 use Rattle.mon_station_commands.proofs.Changes.{half_said, some_said, untaken, whole_said}
 use Rattle.mon_station_commands.proofs.live.report_troubles.Goals as goal
 
@@ -48,8 +48,8 @@ returns-in_err-notify_devices-clause-said g c =
 pub returns-clause-notified : goal.returns-clause-notified
 returns-clause-notified g c =
     let live = c.args.live.now in
-    let before = mail_in live.courier in
-    let after = mail_in c.notify_devices.new.courier in
+    let before = live.courier in
+    let after = c.notify_devices.new.courier in
     let seen = c.seen_at.result in
     let others = c.in_ok-others.ensures
     ∙ (λ i. others_of (c.latest-latest.ensures.latest i).datagrams.items (c.targets.ensures i) (c.as_slice-engines.ensures.value i) (length (c.targets.ensures i))) in
@@ -57,6 +57,7 @@ returns-clause-notified g c =
     ∙ (λ i. changes_between (told_by live.troubles) (troubles_after live.reports.stale_after (told_by live.troubles) (others i) live.freshness)) in (
       seen,
       c.seen_at.ensures,
-      subst (λ (cs : List Change). AreDevicesPut live.reports.printing seen live.freshness.targets.items cs before after) (c.as_slice-2.ensures.value ∙ same)
-          (subst (λ (ts : List TargetAge). AreDevicesPut live.reports.printing seen ts c.as_slice-2.result.now before after) c.targets-targets.ensures c.in_ok-notify_devices.ensures),
+      subst (λ (cs : List Change). IfCarried (Chain (IsPut live.reports.printing seen live.freshness.targets.items) cs) before after) (c.as_slice-2.ensures.value ∙ same)
+          (subst (λ (ts : List TargetAge). IfCarried (Chain (IsPut live.reports.printing seen ts) c.as_slice-2.result.now) before after) c.targets-targets.ensures
+          c.in_ok-notify_devices.ensures.all),
     )

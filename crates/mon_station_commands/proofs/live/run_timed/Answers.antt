@@ -1,5 +1,6 @@
+use Rattle.std.proofs.Common.{refl}
 use Rattle.mon_station_commands.specs.Spans.{is_round}
-use Rattle.mon_station_commands.proofs.Accounts.{not_timed, timed}
+use Rattle.mon_station_commands.proofs.Accounts.{not_timed, timed, timed_at}
 use Rattle.mon_station_commands.proofs.Quiets.{quiet_on, since, stopped_on, undated, untimed}
 use Rattle.mon_station_commands.proofs.Steps.{failure_is}
 use Rattle.mon_station_commands.proofs.live.run_timed.Goals as goal
@@ -42,3 +43,13 @@ pub returns-in-Err-clause-timed : goal.returns-in-Err-clause-timed
 returns-in-Err-clause-timed g c =
     timed {T = Unit {0}} tt c.args.span _ _ _ _ _ _ _ (g.H.Host.log c.args.host.now) (g.H.Host.log c.passed.new.host) (g.H.Host.log c.passed-2.new.host) (g.H.Host.log c.wall_time.new.host)
     c.in_ok-began.ensures c.in_ok-live.ensures c.in_ok-date.ensures c.round_after-live.ensures.whole c.round_after-live.ensures.between
+
+pub returns-in-Ok-clause-at : goal.returns-in-Ok-clause-at
+returns-in-Ok-clause-at g c =
+    timed_at c.args.live.now.origin _ _ _ _ (g.H.Host.log c.args.host.now) (g.H.Host.log c.passed.new.host) (g.H.Host.log c.passed-2.new.host) (g.H.Host.log c.wall_time.new.host)
+    c.in_ok-began.ensures c.in_ok-live.ensures c.in_ok-date.ensures refl
+
+pub returns-in-Err-clause-at : goal.returns-in-Err-clause-at
+returns-in-Err-clause-at g c =
+    timed_at c.args.live.now.origin _ _ _ _ (g.H.Host.log c.args.host.now) (g.H.Host.log c.passed.new.host) (g.H.Host.log c.passed-2.new.host) (g.H.Host.log c.wall_time.new.host)
+    c.in_ok-began.ensures c.in_ok-live.ensures c.in_ok-date.ensures refl

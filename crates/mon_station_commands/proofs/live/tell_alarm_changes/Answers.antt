@@ -1,14 +1,14 @@
 use Rattle.mon_host.specs.declared.level.Level.{Level}
 use Rattle.std.proofs.Common.{◌∙◌, List, ℕ, ap, map, subst}
-use Rattle.std.specs.Prelude.{Ok, Result, Some, option_map}
+use Rattle.std.specs.Prelude.{Ok, Result, Some}
 use Rattle.std.specs.declared.alloc.AllocError.{AllocError}
 use Rattle.mon_alarms.specs.Announcing.{announced_of}
+use Rattle.mon_alarms.specs.declared.change.AlarmChange.{AlarmChange}
 use Rattle.mon_board.specs.declared.board.Board.{Board}
 use Rattle.mon_host.specs.Log.{GoesOnBy}
 use Rattle.mon_rounds.specs.Totals.{changes_since}
 use Rattle.mon_station.specs.State.{state_of}
-use Rattle.mon_console.specs.Notices.{alarm_notice}
-use Rattle.mon_station_commands.specs.Notifying.{all_put, mail_in}
+use Rattle.mon_station_commands.specs.Notifying.{Chain, IfCarried, IsAlarmPut}
 use Rattle.mon_station_commands.specs.Telling.{AreSaid, alarm_note, announced_notes}
 use Rattle.mon_station_commands.proofs.Accounts.{alarmed, half_alarmed, unalarmed}
 use Rattle.mon_station_commands.proofs.live.tell_alarm_changes.Goals as goal
@@ -53,11 +53,15 @@ returns-clause-notified g c =
     let live = c.args.live.now in
     let seen = map (λ w. w.items) live.course.windows.items in
     let announcer = live.course.announcer in
+    let at = c.seen_at.result in
+    let printing = live.reports.printing in
+    let before = live.courier in
+    let after = c.notify_alarms.new.courier in
     let changes = c.as_slice-2.ensures.value ∙ (c.in_ok-changes.ensures.changes ∙ ap (λ (b : Board). announced_of c.args.looks (changes_since b seen) announcer) c.board-board.ensures) in (
-      c.seen_at.result,
+      at,
       c.seen_at.ensures,
-      c.in_ok-notify_alarms.ensures
-          ∙ (λ i. option_map (all_put (map (alarm_notice live.reports.printing (c.board-board.ensures i) c.seen_at.result) (changes i))) (mail_in live.courier)),
+      subst (λ (b : Board). IfCarried (Chain (IsAlarmPut printing b at) (announced_of c.args.looks (changes_since (state_of live.station.life).board seen) announcer)) before after) c.board-board.ensures
+          (subst (λ (cs : List AlarmChange). IfCarried (Chain (IsAlarmPut printing c.board-board.result.now at) cs) before after) changes c.in_ok-notify_alarms.ensures.all),
     )
 
 pub returns-clause-said : goal.returns-clause-said

@@ -1,7 +1,10 @@
-use Rattle.std.proofs.Common.{◌≡◌, take}
-use Rattle.mon_station_commands.specs.Notifying.{alarm_texts, all_put}
+use Rattle.std.proofs.Common.{take}
+use Rattle.std.specs.Prelude.{OnOk}
+use Rattle.mon_station_commands.specs.Notifying.{Chain, IsAlarmPut, OrLost}
 use Rattle.mon_station_commands.proofs.notifying.put_alarms.Given as goal
 
--- the notices of the changes so far were put
+-- of the changes so far all were put, if that is said; each was put or is counted
 abbrev pub invariant-loop-place : goal.invariant-loop-place
-invariant-loop-place l = l.courier.mail ≡ all_put (alarm_texts l.look (take l.place l.changes)) l.fn.courier.mail
+invariant-loop-place l =
+    OnOk l.done (Chain (IsAlarmPut l.look.printing.now l.look.board.now l.look.seen) (take l.place l.changes) l.fn.courier l.courier)
+    × Chain (OrLost (IsAlarmPut l.look.printing.now l.look.board.now l.look.seen)) (take l.place l.changes) l.fn.courier l.courier

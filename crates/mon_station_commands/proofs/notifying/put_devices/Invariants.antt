@@ -1,7 +1,10 @@
 use Rattle.std.proofs.Common.{take}
-use Rattle.mon_station_commands.specs.Notifying.{ArePut}
+use Rattle.std.specs.Prelude.{OnOk}
+use Rattle.mon_station_commands.specs.Notifying.{Chain, IsPut, OrLost}
 use Rattle.mon_station_commands.proofs.notifying.put_devices.Given as goal
 
--- the notices of the changes so far were put
+-- of the changes so far all were put, if that is said; each was put or is counted
 abbrev pub invariant-loop-place : goal.invariant-loop-place
-invariant-loop-place l = ArePut l.look.printing.now l.look.seen l.targets (take l.place l.changes) l.fn.courier.mail l.courier.mail
+invariant-loop-place l =
+    OnOk l.done (Chain (IsPut l.look.printing.now l.look.seen l.targets) (take l.place l.changes) l.fn.courier l.courier)
+    × Chain (OrLost (IsPut l.look.printing.now l.look.seen l.targets)) (take l.place l.changes) l.fn.courier l.courier
