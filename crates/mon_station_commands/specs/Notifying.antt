@@ -174,3 +174,30 @@ abbrev pub HasTurn : (now : ℕ) → (before after : Option Courier) → List At
 HasTurn now None after log = (after ≡ None) × (log ≡ [])
 HasTurn now (Some before) None log = ⊥
 HasTurn now (Some before) (Some after) log = IsTurnSaid now before after log
+
+-- a text was put
+abbrev pub IsTextPut : List ℕ → (before after : Courier) → Type 0
+IsTextPut text before after = after ≡ with_text text before
+
+-- nothing was done but that texts were put, or counted where there was no memory for them
+abbrev pub IsFilled : (before after : Courier) → Type 0
+IsFilled before after = (texts : List (List ℕ)) × Chain (OrLost IsTextPut) texts before after
+
+-- What delivers had a turn at each of these times, the newest first. Before a turn nothing was done
+-- but that texts were put.
+abbrev pub AreTurns : List ℕ → (before after : Option Courier) → Type 0
+AreTurns [] before after = after ≡ before
+AreTurns (now ∷ earlier) before after = (between filled : Option Courier) × (log : List AtHost)
+    × AreTurns earlier before between × IfCarried IsFilled between filled
+    × HasTurn now filled after log
+
+-- the newest of these times, or this one if there is none
+abbrev pub newest_of : ℕ → List ℕ → ℕ
+newest_of was [] = was
+newest_of was (now ∷ earlier) = now
+
+-- What delivers had a turn whenever time had gone by, which was counted from one time to another:
+-- the last of its turns was at the latter.
+abbrev pub IsServed : (was ended : ℕ) → (before after : Option Courier) → Type 0
+IsServed was ended before after = (times : List ℕ) × AreTurns times before after
+    × (ended ≡ newest_of was times)

@@ -11,7 +11,7 @@ ghost use Rattle.mon_rounds.specs.Orderly.{begun};
 ghost use Rattle.mon_rounds.specs.Whole.{HasRun, IsWhole, view_of};
 ghost use Rattle.mon_alarms.specs.Announcing.{announced_of};
 ghost use Rattle.mon_rounds.specs.Totals.{changes_since};
-ghost use Rattle.mon_station_commands.specs.Notifying.{AreAlarmsPut, AreTroublesPut};
+ghost use Rattle.mon_station_commands.specs.Notifying.{AreAlarmsPut, AreTroublesPut, IfCarried, IsFilled};
 ghost use Rattle.mon_station_commands.specs.Opening.{IsNoStation, last_of, unsaved_in};
 ghost use Rattle.mon_station_commands.specs.Places.{IsNoSocket};
 ghost use Rattle.mon_station_commands.specs.Rounds.{nothing_kept};
@@ -440,6 +440,8 @@ pub(crate) fn run_span<H: Host, S: Shows<Snapshot> + Drop, O: Outbox + Drop>(
         (state_of live.new.station.life).board (map (λ w. w.items) live.old.course.windows.items)
         live.old.course.announcer)
         number (is_round span) live.old.kept live.new.kept log result) (H.log host.old) (H.log host.new) }
+    // Of notifications nothing is done but that texts are put for the receiver.
+    ensures texts { IfCarried IsFilled live.old.courier live.new.courier }
     ensures printing { live.new.reports.printing ≡ live.old.reports.printing }
     ensures paths { live.new.reports.paths ≡ live.old.reports.paths }
 {
@@ -475,6 +477,7 @@ fn run_timed<H: Host, S: Receiver + Drop, O: Outbox + Drop>(
         live.new.date) (H.log host.old) (H.log host.new)) }
     ensures span { IfOk result (λ ran. IfOk ran (λ spell. spell.span ≡ span)) }
     ensures fault { IfOk result (λ ran. IfErr ran (λ fault. fault ≡ StationFault.OutOfMemory)) }
+    ensures courier { live.new.courier ≡ live.old.courier }
     ensures printing { live.new.reports.printing ≡ live.old.reports.printing }
     ensures paths { live.new.reports.paths ≡ live.old.reports.paths }
     ensures kept { live.new.kept ≡ record live.old.kept { round_at = live.new.kept.round_at } }
@@ -531,6 +534,7 @@ fn report_run<H: Host, S: Receiver + Drop, O: Outbox + Drop>(
         (state_of live.old.station.life).board (map (λ w. w.items) live.old.course.windows.items)
         live.old.course.announcer)
         number live.old.kept.unsaved live.new.kept.unsaved log result) (H.log host.old) (H.log host.new) }
+    ensures texts { IfCarried IsFilled live.old.courier live.new.courier }
     ensures printing { live.new.reports.printing ≡ live.old.reports.printing }
     ensures paths { live.new.reports.paths ≡ live.old.reports.paths }
     ensures kept { live.new.kept ≡ record live.old.kept { unsaved = live.new.kept.unsaved } }
@@ -558,6 +562,7 @@ fn report_round<H: Host, S: Receiver + Drop, O: Outbox + Drop>(
         live.old.course.announcer)
         number (is_round spell.span) live.old.kept.unsaved live.new.kept.unsaved log result)
         (H.log host.old) (H.log host.new) }
+    ensures texts { IfCarried IsFilled live.old.courier live.new.courier }
     ensures printing { live.new.reports.printing ≡ live.old.reports.printing }
     ensures paths { live.new.reports.paths ≡ live.old.reports.paths }
     ensures kept { live.new.kept ≡ record live.old.kept { unsaved = live.new.kept.unsaved } }
@@ -600,6 +605,7 @@ fn tell_changes<H: Host, S: Receiver + Drop, O: Outbox + Drop>(
         (state_of live.old.station.life).board (map (λ w. w.items) live.old.course.windows.items)
         live.old.course.announcer) number
         (is_round span) log result) (H.log host.old) (H.log host.new) }
+    ensures texts { IfCarried IsFilled live.old.courier live.new.courier }
     ensures printing { live.new.reports.printing ≡ live.old.reports.printing }
     ensures paths { live.new.reports.paths ≡ live.old.reports.paths }
     ensures kept { live.new.kept ≡ live.old.kept }
@@ -639,6 +645,7 @@ fn tell_alarm_changes<H: Host, S: Receiver + Drop, O: Outbox + Drop>(
         (announced_of looks (changes_since (state_of live.old.station.life).board
         (map (λ w. w.items) live.old.course.windows.items)) live.old.course.announcer)
         live.old.courier live.new.courier) }
+    ensures texts { IfCarried IsFilled live.old.courier live.new.courier }
     ensures printing { live.new.reports.printing ≡ live.old.reports.printing }
     ensures paths { live.new.reports.paths ≡ live.old.reports.paths }
     ensures kept { live.new.kept ≡ live.old.kept }
@@ -673,6 +680,7 @@ fn tell_troubles<H: Host, S: Receiver + Drop, O: Outbox + Drop>(
 ) -> Result<(), Failure>
     ensures said { GoesOnBy (λ log. AreTroubles (is_round span) number log result) (H.log host.old)
         (H.log host.new) }
+    ensures texts { IfCarried IsFilled live.old.courier live.new.courier }
     ensures printing { live.new.reports.printing ≡ live.old.reports.printing }
     ensures paths { live.new.reports.paths ≡ live.old.reports.paths }
     ensures kept { live.new.kept ≡ live.old.kept }
@@ -708,6 +716,7 @@ fn report_troubles<H: Host, S: Receiver + Drop, O: Outbox + Drop>(
         (others_of live.old.transport.rounds.latest.datagrams.items live.old.freshness.targets.items
         live.old.transport.engines.items (length live.old.freshness.targets.items))
         live.old.freshness)) live.old.courier live.new.courier) }
+    ensures texts { IfCarried IsFilled live.old.courier live.new.courier }
     ensures printing { live.new.reports.printing ≡ live.old.reports.printing }
     ensures paths { live.new.reports.paths ≡ live.old.reports.paths }
     ensures kept { live.new.kept ≡ live.old.kept }

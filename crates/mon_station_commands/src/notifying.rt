@@ -268,6 +268,7 @@ pub(crate) fn deliver<R: Net, H: Host, S: Receiver + Drop, O: Outbox + Drop>(
     ensures quiet { GoesOnBy AreQuiet (H.log host.old) (H.log host.new) }
     ensures turn { GoesOnBy (HasTurn live.old.ended live.old.courier live.new.courier)
         (H.log host.old) (H.log host.new) }
+    ensures ended { live.new.ended ≡ live.old.ended }
     ensures printing { live.new.reports.printing ≡ live.old.reports.printing }
     ensures paths { live.new.reports.paths ≡ live.old.reports.paths }
     ensures kept { live.new.kept ≡ live.old.kept }

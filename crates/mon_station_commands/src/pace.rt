@@ -1,10 +1,11 @@
 //! When a station's rounds begin.
 
-ghost use Rattle.std.specs.Prelude.{◌≡◌, ◌*◌, ◌%◌, ◌≤◌, ◌-◌, ℕ, [], None, Some, length};
+ghost use Rattle.std.specs.Prelude.{◌≡◌, ◌*◌, ◌%◌, ◌≤◌, ◌-◌, ℕ, [], IfOk, None, Some, length};
 ghost use Rattle.mon_host.specs.declared.level.Level.TheVariants.{Info};
 ghost use Rattle.mon_host.specs.AtHost.{IsNoted};
 ghost use Rattle.mon_host.specs.Log.{GoesOnBy};
 ghost use Rattle.mon_rounds.specs.Grid.{share_of};
+ghost use Rattle.mon_station_commands.specs.Notifying.{HasTurn, IsServed};
 ghost use Rattle.mon_station_commands.specs.Pace.{IsDate, IsPassed, IsTime, IsWait};
 ghost use Rattle.mon_file_commands.specs.Line.{AreNoted};
 ghost use Rattle.mon_station_commands.specs.Telling.{first_line, outrun_lines};
@@ -118,6 +119,12 @@ pub(crate) fn wait_for_next<
     O: Outbox + Drop,
 >(rt: &R, host: &mut H, live: &mut Live<S, O>, number: u32, pace: Pace) -> Result<Pace, Failure>
     ensures quiet { GoesOnBy (λ log. IsWait log result) (H.log host.old) (H.log host.new) }
+    // What delivers notifications has a turn whenever time has gone by, and at once where no time
+    // lies between two rounds.
+    ensures served { IfOk result (λ pace. IsServed live.old.ended live.new.ended live.old.courier
+        live.new.courier) }
+    ensures ready { pace.interval ≡ 0 → GoesOnBy (HasTurn live.old.ended live.old.courier
+        live.new.courier) (H.log host.old) (H.log host.new) }
     ensures printing { live.new.reports.printing ≡ live.old.reports.printing }
     ensures paths { live.new.reports.paths ≡ live.old.reports.paths }
     ensures kept { live.new.kept ≡ live.old.kept }
@@ -159,6 +166,8 @@ fn pause<R: Net + AllocGlobal, H: Host, S: Shows<Snapshot> + Drop, O: Outbox + D
     pace: Pace,
 ) -> Result<(), Failure>
     ensures quiet { GoesOnBy (λ log. IsWait log result) (H.log host.old) (H.log host.new) }
+    ensures served { IfOk result (λ done. IsServed live.old.ended live.new.ended live.old.courier
+        live.new.courier) }
     ensures printing { live.new.reports.printing ≡ live.old.reports.printing }
     ensures paths { live.new.reports.paths ≡ live.old.reports.paths }
     ensures kept { live.new.kept ≡ live.old.kept }

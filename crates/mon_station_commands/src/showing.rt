@@ -29,6 +29,7 @@ pub(crate) fn show_span<S: Shows<Snapshot> + Drop, O: Outbox + Drop>(
         live.old.course live.old.freshness live.old.transport.peers.items
         live.old.transport.engines.items live.old.ended live.old.kept.round_at live.old.reports)
         (option_map (with_round live.old.ended number) (S.shown live.old.transport.rounds.receiver)) (S.shown live.new.transport.rounds.receiver) }
+    ensures courier { live.new.courier ≡ live.old.courier }
     ensures printing { live.new.reports.printing ≡ live.old.reports.printing }
     ensures paths { live.new.reports.paths ≡ live.old.reports.paths }
     ensures kept { live.new.kept ≡ live.old.kept }
@@ -58,6 +59,7 @@ pub(crate) fn show<S: Shows<Snapshot> + Drop, O: Outbox + Drop>(
         live.old.freshness live.old.transport.peers.items live.old.transport.engines.items
         live.old.ended live.old.kept.round_at live.old.reports)
         (S.shown live.old.transport.rounds.receiver) (S.shown live.new.transport.rounds.receiver) }
+    ensures courier { live.new.courier ≡ live.old.courier }
     ensures printing { live.new.reports.printing ≡ live.old.reports.printing }
     ensures paths { live.new.reports.paths ≡ live.old.reports.paths }
     ensures kept { live.new.kept ≡ live.old.kept }

@@ -8,6 +8,7 @@ use Rattle.mon_station_commands.specs.Spans.{AreChanges, IsOfRun, is_round}
 use Rattle.mon_station_commands.specs.Telling.{announced_notes, restart_lines, round_lines}
 use Rattle.mon_station_commands.proofs.Accounts.{reported, unreported}
 use Rattle.mon_station_commands.proofs.Notes.{noted_on}
+use Rattle.mon_station_commands.proofs.Notified.{unfilled}
 use Rattle.mon_station_commands.proofs.live.report_round.Goals as goal
 
 pub returns-in_err-report-clause-account : goal.returns-in_err-report-clause-account
@@ -34,3 +35,11 @@ returns-clause-account g c =
     (subst (λ (lines : Bool → List (Level × List ℕ)). GoesOnBy (λ log. AreChanges lines c.args.number (is_round c.args.spell.span) log c.tell_changes.result) told
     (g.H.Host.log c.tell_changes.new.host)) (λ i. announced_notes live.reports.printing c.args.number (state_of live.station.life).board (map (λ w. w.items) (c.add.ensures.windows i).items) (c.add.ensures.announcer i))
     c.tell_changes.ensures.said)
+
+pub returns-in_err-report-clause-texts : goal.returns-in_err-report-clause-texts
+returns-in_err-report-clause-texts g c =
+    unfilled c.args.live.now.courier
+
+pub returns-clause-texts : goal.returns-clause-texts
+returns-clause-texts g c =
+    c.tell_changes.ensures.texts

@@ -7,6 +7,7 @@ use Rattle.mon_station.specs.State.{state_of}
 use Rattle.mon_station_commands.specs.Telling.{announced_notes}
 use Rattle.mon_station_commands.specs.Spans.{IsAccountOf, IsOfRun}
 use Rattle.mon_station_commands.proofs.Accounts.{unran}
+use Rattle.mon_station_commands.proofs.Notified.{unfilled}
 use Rattle.mon_station_commands.proofs.live.report_run.Goals as goal
 
 pub returns-in-Ok-clause-account : goal.returns-in-Ok-clause-account
@@ -23,3 +24,11 @@ returns-in-Err-clause-account g c =
     let round = live.transport.rounds.round in
     unran (IsOfRun round.targets round.events live.run) (announced_notes live.reports.printing c.args.number (state_of live.station.life).board (map (λ w. w.items) live.course.windows.items) live.course.announcer) c.args.number c.args.ran c.in-Err.fault live.kept.unsaved live.kept.unsaved _
     (g.H.Host.log c.args.host.now) c.in-Err.is c.from.ensures refl
+
+pub returns-in-Ok-clause-texts : goal.returns-in-Ok-clause-texts
+returns-in-Ok-clause-texts g c =
+    c.report_round.ensures.texts
+
+pub returns-in-Err-clause-texts : goal.returns-in-Err-clause-texts
+returns-in-Err-clause-texts g c =
+    unfilled c.args.live.now.courier

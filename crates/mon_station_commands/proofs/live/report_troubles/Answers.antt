@@ -4,6 +4,7 @@ use Rattle.mon_rounds.specs.declared.changes.Change.{Change}
 use Rattle.mon_rounds.specs.declared.freshness.TargetAge.{TargetAge}
 use Rattle.mon_station_commands.specs.Notifying.{Chain, IfCarried, IsPut}
 use Rattle.mon_station_commands.proofs.Changes.{half_said, some_said, untaken, whole_said}
+use Rattle.mon_station_commands.proofs.Notified.{devices_fill, unfilled}
 use Rattle.mon_station_commands.proofs.live.report_troubles.Goals as goal
 
 pub returns-in_err-others-clause-said : goal.returns-in_err-others-clause-said
@@ -61,3 +62,23 @@ returns-clause-notified g c =
           (subst (λ (ts : List TargetAge). IfCarried (Chain (IsPut live.reports.printing seen ts) c.as_slice-2.result.now) before after) c.targets-targets.ensures
           c.in_ok-notify_devices.ensures.all),
     )
+
+pub returns-in_err-others-clause-texts : goal.returns-in_err-others-clause-texts
+returns-in_err-others-clause-texts g c =
+    unfilled c.args.live.now.courier
+
+pub returns-in_err-changes-clause-texts : goal.returns-in_err-changes-clause-texts
+returns-in_err-changes-clause-texts g c =
+    unfilled c.args.live.now.courier
+
+pub returns-in_err-tell_troubles-clause-texts : goal.returns-in_err-tell_troubles-clause-texts
+returns-in_err-tell_troubles-clause-texts g c =
+    unfilled c.args.live.now.courier
+
+pub returns-in_err-notify_devices-clause-texts : goal.returns-in_err-notify_devices-clause-texts
+returns-in_err-notify_devices-clause-texts g c =
+    devices_fill _ _ _ _ c.args.live.now.courier c.notify_devices.new.courier c.notify_devices.ensures.each
+
+pub returns-clause-texts : goal.returns-clause-texts
+returns-clause-texts g c =
+    devices_fill _ _ _ _ c.args.live.now.courier c.notify_devices.new.courier c.notify_devices.ensures.each

@@ -1,4 +1,4 @@
-use Rattle.std.proofs.Common.{◌∙◌, map, sym}
+use Rattle.std.proofs.Common.{◌∙◌, map, refl, sym}
 use Rattle.std.specs.Prelude.{Result}
 use Rattle.mon_rounds.specs.declared.freshness.Spell.{Spell}
 use Rattle.mon_station.specs.State.{state_of}
@@ -8,6 +8,7 @@ use Rattle.mon_station_commands.specs.Spans.{IsOfSpan, is_round}
 use Rattle.mon_station_commands.specs.declared.live.Kept.{Kept}
 use Rattle.mon_station_commands.proofs.Accounts.{account_whole, span_is, span_of, span_shown, span_stops, timed_stopped}
 use Rattle.mon_station_commands.proofs.Steps.{failure_is}
+use Rattle.mon_station_commands.proofs.Notified.{filled_as, unfilled}
 use Rattle.mon_station_commands.proofs.live.run_span.Goals as goal
 
 pub returns-in_err-ran-clause-run : goal.returns-in_err-ran-clause-run
@@ -46,3 +47,11 @@ returns-clause-run g c =
     told.kept end.kept c.report_run-told.result c.said.result start timed reported said c.in_ok-ran.ensures.span c.in_ok-ran.ensures.fault
     c.run_timed.ensures.kept c.report_run-told.ensures.kept c.show_span.ensures.kept c.in_ok-ran.ensures.timed
     (account_whole c.args.span live.transport.rounds.round round _ _ ran.run _ c.args.number c.in_ok-ran.ran _ _ c.report_run-told.result timed reported c.in_ok-ran.ensures.ran c.report_run-told.ensures.account) c.said.ensures))
+
+pub returns-in_err-ran-clause-texts : goal.returns-in_err-ran-clause-texts
+returns-in_err-ran-clause-texts g c =
+    filled_as c.args.live.now.courier c.args.live.now.courier c.args.live.now.courier c.run_timed.new.live.courier refl c.run_timed.ensures.courier (unfilled c.args.live.now.courier)
+
+pub returns-clause-texts : goal.returns-clause-texts
+returns-clause-texts g c =
+    filled_as c.args.live.now.courier c.run_timed.new.live.courier c.report_run-told.new.live.courier c.show_span.new.live.courier c.run_timed.ensures.courier c.show_span.ensures.courier c.report_run-told.ensures.texts

@@ -11,6 +11,7 @@ use Rattle.mon_station.specs.State.{state_of}
 use Rattle.mon_station_commands.specs.Notifying.{Chain, IfCarried, IsAlarmPut}
 use Rattle.mon_station_commands.specs.Telling.{AreSaid, alarm_note, announced_notes}
 use Rattle.mon_station_commands.proofs.Accounts.{alarmed, half_alarmed, unalarmed}
+use Rattle.mon_station_commands.proofs.Notified.{alarms_fill, unfilled}
 use Rattle.mon_station_commands.proofs.live.tell_alarm_changes.Goals as goal
 
 pub returns-in_err-changes-clause-said : goal.returns-in_err-changes-clause-said
@@ -77,3 +78,19 @@ returns-clause-said g c =
     alarmed (announced_notes printing c.args.number board seen announcer c.args.looks) c.in_ok-tell_alarms.field-0 start end
     (subst (λ (lines : List (Level × List ℕ)). GoesOnBy (λ log. AreSaid lines log (let r : Result Unit AllocError = Ok c.in_ok-tell_alarms.field-0 in r)) start end)
     (λ i. map (alarm_note (Some c.args.number) printing (c.board-board.ensures i)) (changes i)) c.in_ok-tell_alarms.ensures)
+
+pub returns-in_err-changes-clause-texts : goal.returns-in_err-changes-clause-texts
+returns-in_err-changes-clause-texts g c =
+    unfilled c.args.live.now.courier
+
+pub returns-in_err-tell_alarms-clause-texts : goal.returns-in_err-tell_alarms-clause-texts
+returns-in_err-tell_alarms-clause-texts g c =
+    unfilled c.args.live.now.courier
+
+pub returns-in_err-notify_alarms-clause-texts : goal.returns-in_err-notify_alarms-clause-texts
+returns-in_err-notify_alarms-clause-texts g c =
+    alarms_fill _ _ _ _ c.args.live.now.courier c.notify_alarms.new.courier c.notify_alarms.ensures.each
+
+pub returns-clause-texts : goal.returns-clause-texts
+returns-clause-texts g c =
+    alarms_fill _ _ _ _ c.args.live.now.courier c.notify_alarms.new.courier c.notify_alarms.ensures.each

@@ -7,6 +7,7 @@ use Rattle.mon_rounds.specs.declared.changes.Change.{Change}
 use Rattle.mon_rounds.specs.declared.round.Span.{Span}
 use Rattle.mon_station_commands.specs.Spans.{AreTroubles, is_round}
 use Rattle.mon_station_commands.proofs.Accounts.{no_troubles, troubles}
+use Rattle.mon_station_commands.proofs.Notified.{unfilled}
 use Rattle.mon_station_commands.proofs.live.tell_troubles.Goals as goal
 
 pub returns-in-Round-clause-said : goal.returns-in-Round-clause-said
@@ -23,3 +24,11 @@ returns-in-Between-clause-said g c =
     let start = g.H.Host.log c.args.host.now in
     subst (λ (s : Span). GoesOnBy (λ log. AreTroubles (is_round s) c.args.number log (let r : Result Unit Failure = Ok tt in r)) start start) (sym c.in-Between.is)
     (no_troubles c.args.number start)
+
+pub returns-in-Between-clause-texts : goal.returns-in-Between-clause-texts
+returns-in-Between-clause-texts g c =
+    unfilled c.args.live.now.courier
+
+pub returns-in-Round-clause-texts : goal.returns-in-Round-clause-texts
+returns-in-Round-clause-texts g c =
+    c.report_troubles.ensures.texts

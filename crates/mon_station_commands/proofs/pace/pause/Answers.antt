@@ -6,10 +6,11 @@ use Rattle.mon_station_commands.specs.Spans.{IsOfRun}
 use Rattle.mon_station_commands.proofs.Accounts.{between_kept, span_quiet}
 use Rattle.mon_station_commands.proofs.Quiets.{no_wait, quiet_on, still, stopped_on, time, untimed}
 use Rattle.mon_station_commands.proofs.Steps.{failure_is}
+use Rattle.mon_station_commands.proofs.Notified.{served_next, unserved}
 use Rattle.mon_station_commands.proofs.pace.pause.Goals as goal
 
 pub loop-init : goal.loop-init
-loop-init g c = (still (g.H.Host.log c.args.host.now), refl, refl, refl)
+loop-init g c = (still (g.H.Host.log c.args.host.now), refl, refl, refl, unserved c.args.live.now.ended c.args.live.now.courier)
 
 pub loop-preserved : goal.loop-preserved
 loop-preserved g c =
@@ -28,6 +29,8 @@ loop-preserved g c =
       c.deliver.ensures.printing ∙ (c.run_span.ensures.printing ∙ inv.1),
       c.deliver.ensures.paths ∙ (c.run_span.ensures.paths ∙ inv.2),
       c.deliver.ensures.kept ∙ (between_kept (IsOfRun round.targets round.events after.run) shown c.args.number c.loop.live.kept after.kept c.run_span.result timed end c.run_span.ensures.run ∙ inv.3),
+      served_next c.args.live.now.ended c.loop.live.ended after.ended c.deliver.new.live.ended c.args.live.now.courier c.loop.live.courier after.courier c.deliver.new.live.courier end done
+          inv.4 c.run_span.ensures.texts c.deliver.ensures.turn c.deliver.ensures.ended,
     )
 
 pub returns-in_err-now-clause-quiet : goal.returns-in_err-now-clause-quiet
@@ -104,3 +107,11 @@ returns-in_err-run_span-clause-kept g c =
 
 pub returns-clause-kept : goal.returns-clause-kept
 returns-clause-kept g c = c.loop.invariant.3
+
+pub returns-then-left-eq0-clause-served : goal.returns-then-left-eq0-clause-served
+returns-then-left-eq0-clause-served g c =
+    c.loop.invariant.4
+
+pub returns-clause-served : goal.returns-clause-served
+returns-clause-served g c =
+    c.loop.invariant.4

@@ -1,5 +1,6 @@
 use Rattle.mon_station_commands.proofs.Quiets.{lines, no_wait, quiet_on, since, stopped_on, untimed}
 use Rattle.mon_station_commands.proofs.Steps.{failure_is}
+use Rattle.mon_station_commands.proofs.Notified.{served_next, unfilled, unserved}
 use Rattle.mon_station_commands.proofs.pace.wait_for_next.Goals as goal
 
 pub returns-in_err-pause-clause-quiet : goal.returns-in_err-pause-clause-quiet
@@ -29,3 +30,9 @@ returns-in_err-passed-clause-quiet g c =
     let failure = c.in_err-passed.field-0.0 in
     let r = c.from_residual.result in
     no_wait failure r start timed (failure_is r failure c.from_residual.ensures.1) (untimed failure start timed c.in_err-passed.ensures)
+
+pub returns-then-interval-eq0-clause-served : goal.returns-then-interval-eq0-clause-served
+returns-then-interval-eq0-clause-served g c =
+    let live = c.args.live.now in
+    served_next live.ended live.ended live.ended c.deliver.new.live.ended live.courier live.courier live.courier c.deliver.new.live.courier (g.H.Host.log c.args.host.now) (g.H.Host.log c.deliver.new.host)
+    (unserved live.ended live.courier) (unfilled live.courier) c.deliver.ensures.turn c.deliver.ensures.ended
