@@ -705,13 +705,48 @@ BUGS = {
     ),
     "notifications_never_get_a_turn": (
         "src/notifying.rt",
-        "        if let Some(news) = courier.turn(rt, now) {\n            tell_news(host, news);\n        }",
-        "        let _ = (rt, now, host, courier);",
+        "        Some(courier) => take_one(rt, host, courier, now),",
+        "        Some(_) => {\n            let _ = (rt, host, now);\n        }",
     ),
     "says_nothing_of_deliveries": (
         "src/notifying.rt",
-        "        if let Some(news) = courier.turn(rt, now) {\n            tell_news(host, news);\n        }",
-        "        let _ = courier.turn(rt, now);\n        let _ = host;",
+        "    tell_news(host, said);\n",
+        "    let _ = (host, said);\n",
+    ),
+    "gives_no_turn_in_a_wait": (
+        "src/pace.rt",
+        "        run_span(alloc, host, live, number, Span::Between(rest))?;\n        deliver(rt, host, live);\n",
+        "        run_span(alloc, host, live, number, Span::Between(rest))?;\n",
+    ),
+    "gives_no_turn_without_an_interval": (
+        "src/pace.rt",
+        "        deliver(rt, host, live);\n        return Ok(pace);",
+        "        return Ok(pace);",
+    ),
+    "counts_no_notice_without_memory": (
+        "src/notifying.rt",
+        "            courier.lose();\n            Err(error)",
+        "            Err(error)",
+    ),
+    "forgets_that_a_notice_was_lost": (
+        "src/notifying.rt",
+        "            courier.lose();\n            Err(error)",
+        "            courier.lose();\n            let _ = error;\n            before",
+    ),
+    "puts_no_alarm_after_a_lost_one": (
+        "src/notifying.rt",
+        "        let put = put_alarm(alloc, courier, look, &changes[place]);\n",
+        "        if done.is_err() {\n            return done;\n        }\n        let put = put_alarm(alloc, courier, look, &changes[place]);\n",
+    ),
+    "a_notice_of_the_start": (
+        "src/live.rt",
+        "    live.date = date / 1000;\n",
+        "    live.date = date % 1000;\n",
+    ),
+    "turns_at_no_time": (
+        "src/live.rt",
+        "    live.ended = passed(alloc, host, live.origin)?;\n",
+        "    let _ = passed(alloc, host, live.origin)?;\n",
     ),
     "notifies_no_alarm": (
         "src/notifying.rt",
@@ -720,8 +755,8 @@ BUGS = {
     ),
     "notifies_but_the_first_alarm": (
         "src/notifying.rt",
-        "        if let Err(error) = put_alarm(alloc, courier, look, &changes[place]) {",
-        "        if place == 0 {\n            continue;\n        }\n        if let Err(error) = put_alarm(alloc, courier, look, &changes[place]) {",
+        "        let put = put_alarm(alloc, courier, look, &changes[place]);\n",
+        "        if place == 0 {\n            continue;\n        }\n        let put = put_alarm(alloc, courier, look, &changes[place]);\n",
     ),
     "notifies_no_device": (
         "src/notifying.rt",
