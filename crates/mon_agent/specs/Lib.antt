@@ -10,4 +10,4 @@ pub mod Reply
 pub mod Sent
 pub mod Silence
 pub mod State
-pub mod PlannedChange
+pub mod Step
