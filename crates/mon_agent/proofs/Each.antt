@@ -7,7 +7,7 @@ use Rattle.mon_mib.specs.declared.got.Got.{Got}
 use Rattle.mon_mib.specs.declared.got.Got.TheVariants.{NoObject}
 use Rattle.mon_mib.specs.Known.{Known}
 use Rattle.mon_mib.specs.Next.{IsGot}
-use Rattle.mon_agent.specs.PlannedChange.{AreFor, IsSeen, got_value}
+use Rattle.mon_agent.specs.Step.{AreFor, IsSeen, got_value}
 
 -- a name that is hidden has no object
 pub seen : (k : Known) (sees : List ℕ → Type 0) (name : List ℕ) (got : Got) (value : Value) → value ≡ got_value got

@@ -30,7 +30,7 @@ use Rattle.mon_agent.specs.declared.reply.Reply.TheVariants.{Send}
 use Rattle.mon_agent.specs.Answer.{AreAnswers, IsAnswered, IsGranted, IsOfKind, is_answered, is_request, need_of, need_of_kind}
 use Rattle.mon_agent.specs.InPlace.{ArePut, IsAnswerOf, IsPut, answer_at}
 use Rattle.mon_agent.specs.Reply.{count_of, answered}
-use Rattle.mon_agent.specs.PlannedChange.{AreFor, IsNextAnswer, at_end}
+use Rattle.mon_agent.specs.Step.{AreFor, IsNextAnswer, at_end}
 use Rattle.mon_agent.proofs.Sent.{known_view}
 
 module _ (R : List ℕ → Binding → Type 0) where

@@ -20,7 +20,7 @@ use Rattle.mon_agent.specs.Bulk.{names_of}
 use Rattle.mon_agent.specs.ResponseBuilder.{IsCut}
 use Rattle.mon_agent.specs.Reply.{count_of, answered, response_body, too_big, IsWithinLimit, IsAboveLimit, IsOut}
 use Rattle.mon_agent.specs.Sent.{IsReadOut, IsSentFor}
-use Rattle.mon_agent.specs.PlannedChange.{AreFor, IsNextAnswer}
+use Rattle.mon_agent.specs.Step.{AreFor, IsNextAnswer}
 
 pub if_ok : {A E : Type 0} {P Q : A → Type 0} (r : Result A E) → ((x : A) → P x → Q x) → IfOk r P → IfOk r Q
 if_ok (Ok x) f p = f x p

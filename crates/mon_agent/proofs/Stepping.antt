@@ -10,7 +10,7 @@ use Rattle.mon_mib.specs.Next.{IsVariable, IsLater}
 use Rattle.mon_mib.specs.Objects.{objects}
 use Rattle.mon_mib.specs.Order.{name_cmp}
 use Rattle.mon_agent.specs.Bulk.{IsStepper}
-use Rattle.mon_agent.specs.PlannedChange.{IsNextAnswer, at_end}
+use Rattle.mon_agent.specs.Step.{IsNextAnswer, at_end}
 
 -- it holds, or it doesn't
 abbrev pub OrNot : Type 0 → Type 0

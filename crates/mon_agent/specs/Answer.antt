@@ -33,7 +33,7 @@ use Rattle.mon_agent.specs.declared.reply.Silence.TheVariants.{NotARequest, TooB
 use Rattle.mon_agent.specs.Bulk.{IsBulk}
 use Rattle.mon_agent.specs.Assigned.{IsSet}
 use Rattle.mon_agent.specs.Reply.{response, answered, IsWithinLimit, IsOut}
-use Rattle.mon_agent.specs.PlannedChange.{AreFor, IsGetAnswer, IsNextAnswer}
+use Rattle.mon_agent.specs.Step.{AreFor, IsGetAnswer, IsNextAnswer}
 
 -- the PDUs that are answered
 abbrev pub is_answered : PduKind → Bool

@@ -8,7 +8,7 @@ use Rattle.mon_pdu.specs.declared.message.Binding.{Binding}
 use Rattle.mon_pdu.specs.declared.message.Bulk.{Bulk}
 use Rattle.mon_mib.specs.Known.{Known}
 use Rattle.mon_agent.specs.Reply.{count_of}
-use Rattle.mon_agent.specs.PlannedChange.{IsNextAnswer}
+use Rattle.mon_agent.specs.Step.{IsNextAnswer}
 
 -- next answers each name
 abbrev pub IsStepper : Known → (List ℕ → Type 0) → (List ℕ → Binding) → Type 0

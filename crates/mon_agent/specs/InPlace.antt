@@ -15,7 +15,7 @@ use Rattle.mon_mib.specs.declared.shown.Shown.{Shown}
 use Rattle.mon_mib.specs.declared.shown.Shown.TheVariants as shown
 use Rattle.mon_mib.specs.Known.{Known}
 use Rattle.mon_mib.specs.Search.{Sought}
-use Rattle.mon_agent.specs.PlannedChange.{AreFor, IsGetAnswer, IsNextAnswer}
+use Rattle.mon_agent.specs.Step.{AreFor, IsGetAnswer, IsNextAnswer}
 
 -- The octets begin with a variable binding, before `rest`. Its answer was written after what was
 -- there.

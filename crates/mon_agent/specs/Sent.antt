@@ -7,7 +7,7 @@ use Rattle.mon_mib.specs.Known.{Known}
 use Rattle.mon_agent.specs.declared.reply.Reply.{Reply}
 use Rattle.mon_agent.specs.Answer.{IsReading}
 use Rattle.mon_agent.specs.Reply.{IsOut, too_big}
-use Rattle.mon_agent.specs.PlannedChange.{AreFor}
+use Rattle.mon_agent.specs.Step.{AreFor}
 
 -- what becomes of a right response, which is in the request's community and has its request-id
 abbrev pub IsReadOut : Known → (List ℕ → Type 0) → Message → Reply → Type 0

@@ -20,7 +20,7 @@ ghost use Rattle.mon_agent.specs.Answer.{IsAnswer, IsAnswered};
 ghost use Rattle.mon_agent.specs.InPlace.{ArePut, IsAnswerOf, IsPut, answer_at, sought_in};
 ghost use Rattle.mon_agent.specs.Reply.{count_of, response_body};
 ghost use Rattle.mon_agent.specs.Bulk.{IsStepper};
-ghost use Rattle.mon_agent.specs.PlannedChange.{IsGetAnswer, IsNextAnswer};
+ghost use Rattle.mon_agent.specs.Step.{IsGetAnswer, IsNextAnswer};
 
 use crate::agent::Agent;
 use crate::buffers::ReplyBuffers;

@@ -6,7 +6,7 @@ ghost use Rattle.mon_vacm.specs.declared.family.ViewTreeFamily.{ViewTreeFamily};
 ghost use Rattle.mon_vacm.specs.View.{IsInView};
 ghost use Rattle.mon_mib.specs.Known.{Known};
 ghost use Rattle.mon_agent.specs.Bulk.{IsStepper};
-ghost use Rattle.mon_agent.specs.PlannedChange.{IsNextAnswer};
+ghost use Rattle.mon_agent.specs.Step.{IsNextAnswer};
 
 /// Only one answer is right for a name in a GetNext.
 pub fn one_step()

@@ -11,7 +11,7 @@ ghost use Rattle.mon_mib.specs.Search.{IsSeenIn, known_in};
 ghost use Rattle.mon_agent.specs.Answer.{IsReading, is_answered, is_request, need_of, need_of_kind};
 ghost use Rattle.mon_agent.specs.Bulk.{IsStepper};
 ghost use Rattle.mon_agent.specs.Sent.{IsReadOut, IsSentFor};
-ghost use Rattle.mon_agent.specs.PlannedChange.{AreFor, IsGetAnswer, IsNextAnswer, got_value};
+ghost use Rattle.mon_agent.specs.Step.{AreFor, IsGetAnswer, IsNextAnswer, got_value};
 
 use crate::bulk::{bulk, extend};
 use crate::laws;

@@ -5,7 +5,7 @@ use Rattle.mon_vacm.specs.View.{IsInView}
 use Rattle.mon_mib.specs.Known.{Known}
 use Rattle.mon_mib.specs.Next.{IsNext}
 use Rattle.mon_mib.specs.Objects.{objects}
-use Rattle.mon_agent.specs.PlannedChange.{IsNextAnswer}
+use Rattle.mon_agent.specs.Step.{IsNextAnswer}
 use Rattle.mon_agent.proofs.laws.one_step.Goals as goal
 
 some_is : {a b : Binding} → Some a ≡ Some b → a ≡ b

@@ -1,7 +1,7 @@
 use Rattle.std.proofs.Common.{◌<◌, rules, length, refl, slice_index_or}
 use Rattle.mon_pdu.specs.declared.message.Binding.{Binding}
 use Rattle.mon_mib.specs.Search.{IsSeenIn, known_in}
-use Rattle.mon_agent.specs.PlannedChange.{IsGetAnswer}
+use Rattle.mon_agent.specs.Step.{IsGetAnswer}
 use Rattle.mon_agent.proofs.Each.{seen, one_more, rest_of, long_of}
 use Rattle.mon_agent.proofs.reading.read_all.Goals as goal
 

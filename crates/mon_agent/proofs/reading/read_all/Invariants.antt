@@ -1,6 +1,6 @@
 use Rattle.std.proofs.Common.{◌≡◌, length, take, drop}
 use Rattle.mon_mib.specs.Search.{IsSeenIn, known_in}
-use Rattle.mon_agent.specs.PlannedChange.{AreFor, IsGetAnswer}
+use Rattle.mon_agent.specs.Step.{AreFor, IsGetAnswer}
 use Rattle.mon_agent.proofs.reading.read_all.Given as goal
 
 abbrev pub invariant-loop-binding : goal.invariant-loop-binding

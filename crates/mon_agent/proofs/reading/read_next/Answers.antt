@@ -6,7 +6,7 @@ use Rattle.mon_mib.specs.Search.{IsSeenIn, known_in}
 use Rattle.mon_agent.specs.Bulk.{names_of}
 use Rattle.mon_agent.specs.ResponseBuilder.{Grown, FitsWith, IsCut, IsPut}
 use Rattle.mon_agent.specs.Reply.{too_big, IsAboveLimit, IsOut}
-use Rattle.mon_agent.specs.PlannedChange.{IsNextAnswer}
+use Rattle.mon_agent.specs.Step.{IsNextAnswer}
 use Rattle.mon_agent.proofs.Read.{cut_above, same_head, sent_for}
 use Rattle.mon_agent.proofs.Rounds.{cut_is, cut_same}
 use Rattle.mon_agent.proofs.reading.read_next.Goals as goal

@@ -5,7 +5,7 @@ use Rattle.mon_pdu.specs.declared.message.PduKind.TheVariants as kinds
 use Rattle.mon_mib.specs.Search.{IsSeenIn, known_in}
 use Rattle.mon_agent.specs.Answer.{IsOfKind}
 use Rattle.mon_agent.specs.Reply.{answered}
-use Rattle.mon_agent.specs.PlannedChange.{IsGetAnswer, IsNextAnswer}
+use Rattle.mon_agent.specs.Step.{IsGetAnswer, IsNextAnswer}
 use Rattle.mon_agent.proofs.Read.{of_kind, read_out}
 use Rattle.mon_agent.proofs.reading.read_pdu.Goals as goal
 
