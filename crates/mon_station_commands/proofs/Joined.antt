@@ -132,7 +132,7 @@ module _ (s : StationSettings) where
   no_place {T} given socket address at failure r t0 t1 t2 is first second =
       subst (λ (e : Result T Failure). GoesOnBy (λ log. IsUnseenOpened s log (only at e)) t0 t2) (sym is) (a_place given socket address (Err failure) t0 t1 t2 first second)
 
-  module _ (acceptor : Addr) where
+  module _ (http_at : Addr) where
     abbrev Both : Type 0
     Both = SocketAddr × SocketAddr
 
@@ -140,40 +140,40 @@ module _ (s : StationSettings) where
     After web = Then (IsPlace s) (λ (at : SocketAddr). Quietly (λ (result : Result Both Failure). result ≡ Ok (at, web)))
 
     abbrev Rest : Unit {0} → List AtHost → Result Both Failure → Type 0
-    Rest u = Then (Quietly (SomeOr (IsNoSocket acceptor))) After
+    Rest u = Then (Quietly (SomeOr (IsNoSocket http_at))) After
 
     -- no socket, so no station
     pub no_socket_shown : {T S : Type 0} → (given : Result S Error) (at : T → Both) (failure : Failure) (r : Result T Failure) (t0 t1 : Option (List AtHost)) → r ≡ Err failure
-        → GoesOnBy (λ log. IsSocketOr s given log (let e : Result S Failure = Err failure in e)) t0 t1 → GoesOnBy (λ log. IsShownOpened s acceptor log (only at r)) t0 t1
+        → GoesOnBy (λ log. IsSocketOr s given log (let e : Result S Failure = Err failure in e)) t0 t1 → GoesOnBy (λ log. IsShownOpened s http_at log (only at r)) t0 t1
     no_socket_shown {T} given at failure r t0 t1 is socket =
-        subst (λ (e : Result T Failure). GoesOnBy (λ log. IsShownOpened s acceptor log (only at e)) t0 t1) (sym is)
+        subst (λ (e : Result T Failure). GoesOnBy (λ log. IsShownOpened s http_at log (only at e)) t0 t1) (sym is)
         (then_fails (IsSocket s) Rest failure t0 t1 (not_opened given failure t0 t1 socket))
 
     -- no listener
     pub no_web : {T S : Type 0} → (given : Result S Error) (socket : S) (at : T → Both) (failure : Failure) (r : Result T Failure) (t0 t1 : Option (List AtHost)) → r ≡ Err failure
-        → GoesOnBy (λ log. IsSocketOr s given log (Ok socket)) t0 t1 → IsNoSocket acceptor failure → GoesOnBy (λ log. IsShownOpened s acceptor log (only at r)) t0 t1
+        → GoesOnBy (λ log. IsSocketOr s given log (Ok socket)) t0 t1 → IsNoSocket http_at failure → GoesOnBy (λ log. IsShownOpened s http_at log (only at r)) t0 t1
     no_web {T} given socket at failure r t0 t1 is first why =
-        subst (λ (e : Result T Failure). GoesOnBy (λ log. IsShownOpened s acceptor log (only at e)) t0 t1) (sym is)
+        subst (λ (e : Result T Failure). GoesOnBy (λ log. IsShownOpened s http_at log (only at e)) t0 t1) (sym is)
         (then_follows (IsSocket s) Rest (Ok tt) (Err failure) t0 t1 t1 (opened given socket t0 t1 first)
-        (then_fails (Quietly (SomeOr (IsNoSocket acceptor))) After failure t1 t1 (quietly {A = SocketAddr} (SomeOr (IsNoSocket acceptor)) (Err failure) t1 why)))
+        (then_fails (Quietly (SomeOr (IsNoSocket http_at))) After failure t1 t1 (quietly {A = SocketAddr} (SomeOr (IsNoSocket http_at)) (Err failure) t1 why)))
 
     rest_is : {S : Type 0} → (given : Result S Error) (socket : S) (web : SocketAddr) (r : Result Both Failure) (t0 t1 t2 : Option (List AtHost))
-        → GoesOnBy (λ log. IsSocketOr s given log (Ok socket)) t0 t1 → GoesOnBy (λ log. After web log r) t1 t2 → GoesOnBy (λ log. IsShownOpened s acceptor log r) t0 t2
+        → GoesOnBy (λ log. IsSocketOr s given log (Ok socket)) t0 t1 → GoesOnBy (λ log. After web log r) t1 t2 → GoesOnBy (λ log. IsShownOpened s http_at log r) t0 t2
     rest_is given socket web r t0 t1 t2 first second =
         then_follows (IsSocket s) Rest (Ok tt) r t0 t1 t2 (opened given socket t0 t1 first)
-        (then_follows (Quietly (SomeOr (IsNoSocket acceptor))) After (Ok web) r t1 t1 t2 (quietly (SomeOr (IsNoSocket acceptor)) (Ok web) t1 tt) second)
+        (then_follows (Quietly (SomeOr (IsNoSocket http_at))) After (Ok web) r t1 t1 t2 (quietly (SomeOr (IsNoSocket http_at)) (Ok web) t1 tt) second)
 
     pub no_place_shown : {T S : Type 0} → (given : Result S Error) (socket : S) (web : SocketAddr) (address : Result SocketAddr Error) (at : T → Both) (failure : Failure)
         (r : Result T Failure) (t0 t1 t2 : Option (List AtHost)) → r ≡ Err failure → GoesOnBy (λ log. IsSocketOr s given log (Ok socket)) t0 t1
-        → GoesOnBy (λ log. IsPlaceAt address s log (Err failure)) t1 t2 → GoesOnBy (λ log. IsShownOpened s acceptor log (only at r)) t0 t2
+        → GoesOnBy (λ log. IsPlaceAt address s log (Err failure)) t1 t2 → GoesOnBy (λ log. IsShownOpened s http_at log (only at r)) t0 t2
     no_place_shown {T} given socket web address at failure r t0 t1 t2 is first second =
-        subst (λ (e : Result T Failure). GoesOnBy (λ log. IsShownOpened s acceptor log (only at e)) t0 t2) (sym is)
+        subst (λ (e : Result T Failure). GoesOnBy (λ log. IsShownOpened s http_at log (only at e)) t0 t2) (sym is)
         (rest_is given socket web (Err failure) t0 t1 t2 first
         (then_fails (IsPlace s) (λ (at : SocketAddr). Quietly (λ (result : Result Both Failure). result ≡ Ok (at, web))) failure t1 t2 (placed address (Err failure) t1 t2 second)))
 
     pub shown_opened : {S : Type 0} → (given : Result S Error) (socket : S) (web at : SocketAddr) (address : Result SocketAddr Error) (t0 t1 t2 : Option (List AtHost))
         → GoesOnBy (λ log. IsSocketOr s given log (Ok socket)) t0 t1 → GoesOnBy (λ log. IsPlaceAt address s log (Ok at)) t1 t2
-        → GoesOnBy (λ log. IsShownOpened s acceptor log (Ok (at, web))) t0 t2
+        → GoesOnBy (λ log. IsShownOpened s http_at log (Ok (at, web))) t0 t2
     shown_opened given socket web at address t0 t1 t2 first second =
         rest_is given socket web (Ok (at, web)) t0 t1 t2 first
         (then_follows (IsPlace s) (λ (at : SocketAddr). Quietly (λ (result : Result Both Failure). result ≡ Ok (at, web))) (Ok at) (Ok (at, web)) t1 t2 t2
@@ -303,32 +303,32 @@ module _ (words : StationArgs) (reports : Reports) (s : StationSettings) where
         then_follows (IsUnseenOpened s) Unseen (Ok at) r t0 t1 t3 before (begun at None state r t1 t2 t2 t3 first silent run)
 
   -- a station with HTTP
-  module _ (acceptor : Addr) where
+  module _ (http_at : Addr) where
     abbrev Seen : SocketAddr × SocketAddr → List AtHost → Result Unit Failure → Type 0
     Seen both = IsWhole words reports s both.0 (Some both.1)
 
     pub seen_unopened : (failure : Failure) (r : Result Unit Failure) (t0 t1 : Option (List AtHost)) → r ≡ Err failure
-        → GoesOnBy (λ log. IsShownOpened s acceptor log (Err failure)) t0 t1 → GoesOnBy (λ log. IsSeen acceptor words reports s log r) t0 t1
+        → GoesOnBy (λ log. IsShownOpened s http_at log (Err failure)) t0 t1 → GoesOnBy (λ log. IsSeen http_at words reports s log r) t0 t1
     seen_unopened failure r t0 t1 is none =
-        subst (λ (e : Result Unit Failure). GoesOnBy (λ log. IsSeen acceptor words reports s log e) t0 t1) (sym is) (then_fails (IsShownOpened s acceptor) Seen failure t0 t1 none)
+        subst (λ (e : Result Unit Failure). GoesOnBy (λ log. IsSeen http_at words reports s log e) t0 t1) (sym is) (then_fails (IsShownOpened s http_at) Seen failure t0 t1 none)
 
     pub seen_unheard : (at web : SocketAddr) (failure : Failure) (r : Result Unit Failure) (t0 t1 : Option (List AtHost)) → r ≡ Err failure
-        → GoesOnBy (λ log. IsShownOpened s acceptor log (Ok (at, web))) t0 t1 → IsNoSocket s.listen failure → GoesOnBy (λ log. IsSeen acceptor words reports s log r) t0 t1
+        → GoesOnBy (λ log. IsShownOpened s http_at log (Ok (at, web))) t0 t1 → IsNoSocket s.listen failure → GoesOnBy (λ log. IsSeen http_at words reports s log r) t0 t1
     seen_unheard at web failure r t0 t1 is before why =
-        subst (λ (e : Result Unit Failure). GoesOnBy (λ log. IsSeen acceptor words reports s log e) t0 t1) (sym is)
-        (then_follows (IsShownOpened s acceptor) Seen (Ok (at, web)) (Err failure) t0 t1 t1 before (unheard at (Some web) failure t1 why))
+        subst (λ (e : Result Unit Failure). GoesOnBy (λ log. IsSeen http_at words reports s log e) t0 t1) (sym is)
+        (then_follows (IsShownOpened s http_at) Seen (Ok (at, web)) (Err failure) t0 t1 t1 before (unheard at (Some web) failure t1 why))
 
     pub seen_unstarted : (at web : SocketAddr) (failure : Failure) (r : Result Unit Failure) (t0 t1 t2 : Option (List AtHost)) → r ≡ Err failure
-        → GoesOnBy (λ log. IsShownOpened s acceptor log (Ok (at, web))) t0 t1 → GoesOnBy (λ log. IsStarted reports.printing s at log (Err failure)) t1 t2
-        → GoesOnBy (λ log. IsSeen acceptor words reports s log r) t0 t2
+        → GoesOnBy (λ log. IsShownOpened s http_at log (Ok (at, web))) t0 t1 → GoesOnBy (λ log. IsStarted reports.printing s at log (Err failure)) t1 t2
+        → GoesOnBy (λ log. IsSeen http_at words reports s log r) t0 t2
     seen_unstarted at web failure r t0 t1 t2 is before none =
-        subst (λ (e : Result Unit Failure). GoesOnBy (λ log. IsSeen acceptor words reports s log e) t0 t2) (sym is)
-        (then_follows (IsShownOpened s acceptor) Seen (Ok (at, web)) (Err failure) t0 t1 t2 before (not_begun at (Some web) failure t1 t2 none))
+        subst (λ (e : Result Unit Failure). GoesOnBy (λ log. IsSeen http_at words reports s log e) t0 t2) (sym is)
+        (then_follows (IsShownOpened s http_at) Seen (Ok (at, web)) (Err failure) t0 t1 t2 before (not_begun at (Some web) failure t1 t2 none))
 
-    pub seen_run : (at web : SocketAddr) (state : State) (r : Result Unit Failure) (t0 t1 t2 t3 t4 : Option (List AtHost)) → GoesOnBy (λ log. IsShownOpened s acceptor log (Ok (at, web))) t0 t1
+    pub seen_run : (at web : SocketAddr) (state : State) (r : Result Unit Failure) (t0 t1 t2 t3 t4 : Option (List AtHost)) → GoesOnBy (λ log. IsShownOpened s http_at log (Ok (at, web))) t0 t1
         → GoesOnBy (λ log. IsStarted reports.printing s at log (Ok state)) t1 t2 → GoesOnBy (IsNoted level.Info (Some (http_line web))) t2 t3
-        → GoesOnBy (λ log. IsRunOf words reports log r) t3 t4 → GoesOnBy (λ log. IsSeen acceptor words reports s log r) t0 t4
+        → GoesOnBy (λ log. IsRunOf words reports log r) t3 t4 → GoesOnBy (λ log. IsSeen http_at words reports s log r) t0 t4
     seen_run at web state r t0 t1 t2 t3 t4 before first line run =
         let said = weaker (IsNoted level.Info (Some (http_line web))) (λ log. IsWebSaid (Some web) log (Ok tt)) t2 t3
         (λ log noted. (noted.2 ∙ ap (λ (o : List ℕ). Noted level.Info o ∷ []) noted.1, refl)) line in
-        then_follows (IsShownOpened s acceptor) Seen (Ok (at, web)) r t0 t1 t4 before (begun at (Some web) state r t1 t2 t3 t4 first said run)
+        then_follows (IsShownOpened s http_at) Seen (Ok (at, web)) r t0 t1 t4 before (begun at (Some web) state r t1 t2 t3 t4 first said run)

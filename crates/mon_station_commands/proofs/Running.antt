@@ -11,7 +11,7 @@ use Rattle.mon_host.specs.Then.{Quietly, Then}
 use Rattle.mon_host.proofs.Promised.{quietly, then_fails, then_follows}
 use Rattle.mon_settings.specs.declared.station.StationSettings.{StationSettings}
 use Rattle.mon_station_commands.specs.Notifying.{Courier, IsCourier}
-use Rattle.mon_station_commands.specs.Places.{IsDoor}
+use Rattle.mon_station_commands.specs.Places.{IsHttpAddress}
 use Rattle.mon_station_commands.specs.Station.{AreReports, IsRunning, IsSeenIf}
 use Rattle.mon_file_commands.specs.Steps.{OrMemory}
 use Rattle.mon_station_commands.specs.declared.live.Reports.{Reports}
@@ -19,7 +19,7 @@ use Rattle.mon_udp.specs.declared.addr.Addr.{Addr}
 
 module _ (words : StationArgs) where
   abbrev Gives : Result (Option Addr) Failure → Type 0
-  Gives = IsDoor (option_copied words.http)
+  Gives = IsHttpAddress (option_copied words.http)
 
   abbrev Carries : Result (Option Courier) Failure → Type 0
   Carries = IsCourier (option_copied words.notify)
@@ -31,60 +31,60 @@ module _ (words : StationArgs) where
   Makes s printing = OrMemory (AreReports words s printing)
 
   abbrev AfterReports : Option Addr → StationSettings → Reports → List AtHost → Result Unit Failure → Type 0
-  AfterReports acceptor s reports = IsSeenIf acceptor words reports s
+  AfterReports http_at s reports = IsSeenIf http_at words reports s
 
   abbrev AfterSettings : Option Addr → StationSettings × Printing → List AtHost → Result Unit Failure → Type 0
-  AfterSettings acceptor both = Then (Quietly (Makes both.0 both.1)) (AfterReports acceptor both.0)
+  AfterSettings http_at both = Then (Quietly (Makes both.0 both.1)) (AfterReports http_at both.0)
 
   abbrev AfterCourier : Option Addr → List AtHost → Result Unit Failure → Type 0
-  AfterCourier acceptor = Then Reads (AfterSettings acceptor)
+  AfterCourier http_at = Then Reads (AfterSettings http_at)
 
-  abbrev AfterDoor : Option Addr → List AtHost → Result Unit Failure → Type 0
-  AfterDoor acceptor = Then (Quietly Carries) (λ (courier : Option Courier). AfterCourier acceptor)
+  abbrev AfterAddress : Option Addr → List AtHost → Result Unit Failure → Type 0
+  AfterAddress http_at = Then (Quietly Carries) (λ (courier : Option Courier). AfterCourier http_at)
 
-  pub no_door : (failure : Failure) (r : Result Unit Failure) (t : Option (List AtHost)) → r ≡ Err failure → Gives (Err failure) → GoesOnBy (λ log. IsRunning words log r) t t
-  no_door failure r t is why =
+  pub no_address : (failure : Failure) (r : Result Unit Failure) (t : Option (List AtHost)) → r ≡ Err failure → Gives (Err failure) → GoesOnBy (λ log. IsRunning words log r) t t
+  no_address failure r t is why =
       subst (λ (e : Result Unit Failure). GoesOnBy (λ log. IsRunning words log e) t t) (sym is)
-      (then_fails (Quietly Gives) AfterDoor failure t t (quietly Gives (Err failure) t why))
+      (then_fails (Quietly Gives) AfterAddress failure t t (quietly Gives (Err failure) t why))
 
-  after_door : (acceptor : Option Addr) (r : Result Unit Failure) (t0 t1 : Option (List AtHost)) → Gives (Ok acceptor) → GoesOnBy (λ log. AfterDoor acceptor log r) t0 t1
+  after_address : (http_at : Option Addr) (r : Result Unit Failure) (t0 t1 : Option (List AtHost)) → Gives (Ok http_at) → GoesOnBy (λ log. AfterAddress http_at log r) t0 t1
       → GoesOnBy (λ log. IsRunning words log r) t0 t1
-  after_door acceptor r t0 t1 given rest = then_follows (Quietly Gives) AfterDoor (Ok acceptor) r t0 t0 t1 (quietly Gives (Ok acceptor) t0 given) rest
+  after_address http_at r t0 t1 given rest = then_follows (Quietly Gives) AfterAddress (Ok http_at) r t0 t0 t1 (quietly Gives (Ok http_at) t0 given) rest
 
-  pub no_courier : (acceptor : Option Addr) (failure : Failure) (r : Result Unit Failure) (t : Option (List AtHost)) → r ≡ Err failure → Gives (Ok acceptor) → Carries (Err failure)
+  pub no_courier : (http_at : Option Addr) (failure : Failure) (r : Result Unit Failure) (t : Option (List AtHost)) → r ≡ Err failure → Gives (Ok http_at) → Carries (Err failure)
       → GoesOnBy (λ log. IsRunning words log r) t t
-  no_courier acceptor failure r t is given why =
+  no_courier http_at failure r t is given why =
       subst (λ (e : Result Unit Failure). GoesOnBy (λ log. IsRunning words log e) t t) (sym is)
-      (after_door acceptor (Err failure) t t given (then_fails (Quietly Carries) (λ (courier : Option Courier). AfterCourier acceptor) failure t t (quietly Carries (Err failure) t why)))
+      (after_address http_at (Err failure) t t given (then_fails (Quietly Carries) (λ (courier : Option Courier). AfterCourier http_at) failure t t (quietly Carries (Err failure) t why)))
 
-  after_courier : (acceptor : Option Addr) (courier : Option Courier) (r : Result Unit Failure) (t0 t1 : Option (List AtHost)) → Gives (Ok acceptor) → Carries (Ok courier)
-      → GoesOnBy (λ log. AfterCourier acceptor log r) t0 t1 → GoesOnBy (λ log. IsRunning words log r) t0 t1
-  after_courier acceptor courier r t0 t1 given carried rest =
-      after_door acceptor r t0 t1 given
-      (then_follows (Quietly Carries) (λ (courier : Option Courier). AfterCourier acceptor) (Ok courier) r t0 t0 t1 (quietly Carries (Ok courier) t0 carried) rest)
+  after_courier : (http_at : Option Addr) (courier : Option Courier) (r : Result Unit Failure) (t0 t1 : Option (List AtHost)) → Gives (Ok http_at) → Carries (Ok courier)
+      → GoesOnBy (λ log. AfterCourier http_at log r) t0 t1 → GoesOnBy (λ log. IsRunning words log r) t0 t1
+  after_courier http_at courier r t0 t1 given carried rest =
+      after_address http_at r t0 t1 given
+      (then_follows (Quietly Carries) (λ (courier : Option Courier). AfterCourier http_at) (Ok courier) r t0 t0 t1 (quietly Carries (Ok courier) t0 carried) rest)
 
-  pub no_settings : (acceptor : Option Addr) (courier : Option Courier) (failure : Failure) (r : Result Unit Failure) (t0 t1 : Option (List AtHost)) → r ≡ Err failure → Gives (Ok acceptor)
+  pub no_settings : (http_at : Option Addr) (courier : Option Courier) (failure : Failure) (r : Result Unit Failure) (t0 t1 : Option (List AtHost)) → r ≡ Err failure → Gives (Ok http_at)
       → Carries (Ok courier) → GoesOnBy (λ log. Reads log (Err failure)) t0 t1 → GoesOnBy (λ log. IsRunning words log r) t0 t1
-  no_settings acceptor courier failure r t0 t1 is given carried why =
+  no_settings http_at courier failure r t0 t1 is given carried why =
       subst (λ (e : Result Unit Failure). GoesOnBy (λ log. IsRunning words log e) t0 t1) (sym is)
-      (after_courier acceptor courier (Err failure) t0 t1 given carried (then_fails Reads (AfterSettings acceptor) failure t0 t1 why))
+      (after_courier http_at courier (Err failure) t0 t1 given carried (then_fails Reads (AfterSettings http_at) failure t0 t1 why))
 
-  after_settings : (acceptor : Option Addr) (courier : Option Courier) (both : StationSettings × Printing) (r : Result Unit Failure) (t0 t1 t2 : Option (List AtHost)) → Gives (Ok acceptor)
+  after_settings : (http_at : Option Addr) (courier : Option Courier) (both : StationSettings × Printing) (r : Result Unit Failure) (t0 t1 t2 : Option (List AtHost)) → Gives (Ok http_at)
       → Carries (Ok courier)
-      → GoesOnBy (λ log. Reads log (Ok both)) t0 t1 → GoesOnBy (λ log. AfterSettings acceptor both log r) t1 t2 → GoesOnBy (λ log. IsRunning words log r) t0 t2
-  after_settings acceptor courier both r t0 t1 t2 given carried read rest =
-      after_courier acceptor courier r t0 t2 given carried (then_follows Reads (AfterSettings acceptor) (Ok both) r t0 t1 t2 read rest)
+      → GoesOnBy (λ log. Reads log (Ok both)) t0 t1 → GoesOnBy (λ log. AfterSettings http_at both log r) t1 t2 → GoesOnBy (λ log. IsRunning words log r) t0 t2
+  after_settings http_at courier both r t0 t1 t2 given carried read rest =
+      after_courier http_at courier r t0 t2 given carried (then_follows Reads (AfterSettings http_at) (Ok both) r t0 t1 t2 read rest)
 
-  pub no_reports : (acceptor : Option Addr) (courier : Option Courier) (s : StationSettings) (printing : Printing) (failure : Failure) (r : Result Unit Failure) (t0 t1 : Option (List AtHost)) → r ≡ Err failure
-      → Gives (Ok acceptor) → Carries (Ok courier) → GoesOnBy (λ log. Reads log (Ok (s, printing))) t0 t1 → Makes s printing (Err failure) → GoesOnBy (λ log. IsRunning words log r) t0 t1
-  no_reports acceptor courier s printing failure r t0 t1 is given carried read why =
+  pub no_reports : (http_at : Option Addr) (courier : Option Courier) (s : StationSettings) (printing : Printing) (failure : Failure) (r : Result Unit Failure) (t0 t1 : Option (List AtHost)) → r ≡ Err failure
+      → Gives (Ok http_at) → Carries (Ok courier) → GoesOnBy (λ log. Reads log (Ok (s, printing))) t0 t1 → Makes s printing (Err failure) → GoesOnBy (λ log. IsRunning words log r) t0 t1
+  no_reports http_at courier s printing failure r t0 t1 is given carried read why =
       subst (λ (e : Result Unit Failure). GoesOnBy (λ log. IsRunning words log e) t0 t1) (sym is)
-      (after_settings acceptor courier (s, printing) (Err failure) t0 t1 t1 given carried read
-      (then_fails (Quietly (Makes s printing)) (AfterReports acceptor s) failure t1 t1 (quietly (Makes s printing) (Err failure) t1 why)))
+      (after_settings http_at courier (s, printing) (Err failure) t0 t1 t1 given carried read
+      (then_fails (Quietly (Makes s printing)) (AfterReports http_at s) failure t1 t1 (quietly (Makes s printing) (Err failure) t1 why)))
 
-  pub words_run : (acceptor : Option Addr) (courier : Option Courier) (s : StationSettings) (printing : Printing) (reports : Reports) (r : Result Unit Failure) (t0 t1 t2 : Option (List AtHost))
-      → Gives (Ok acceptor) → Carries (Ok courier) → GoesOnBy (λ log. Reads log (Ok (s, printing))) t0 t1 → Makes s printing (Ok reports)
-      → GoesOnBy (λ log. IsSeenIf acceptor words reports s log r) t1 t2 → GoesOnBy (λ log. IsRunning words log r) t0 t2
-  words_run acceptor courier s printing reports r t0 t1 t2 given carried read made run =
-      after_settings acceptor courier (s, printing) r t0 t1 t2 given carried read
-      (then_follows (Quietly (Makes s printing)) (AfterReports acceptor s) (Ok reports) r t1 t1 t2 (quietly (Makes s printing) (Ok reports) t1 made) run)
+  pub words_run : (http_at : Option Addr) (courier : Option Courier) (s : StationSettings) (printing : Printing) (reports : Reports) (r : Result Unit Failure) (t0 t1 t2 : Option (List AtHost))
+      → Gives (Ok http_at) → Carries (Ok courier) → GoesOnBy (λ log. Reads log (Ok (s, printing))) t0 t1 → Makes s printing (Ok reports)
+      → GoesOnBy (λ log. IsSeenIf http_at words reports s log r) t1 t2 → GoesOnBy (λ log. IsRunning words log r) t0 t2
+  words_run http_at courier s printing reports r t0 t1 t2 given carried read made run =
+      after_settings http_at courier (s, printing) r t0 t1 t2 given carried read
+      (then_follows (Quietly (Makes s printing)) (AfterReports http_at s) (Ok reports) r t1 t1 t2 (quietly (Makes s printing) (Ok reports) t1 made) run)

@@ -26,10 +26,10 @@ use Rattle.mon_udp.specs.declared.addr.Addr.{Addr}
 
 -- The address that a text for HTTP writes, if there is a text; or it writes none, which the failure
 -- says.
-abbrev pub IsDoor : Option (List ℕ) → Result (Option Addr) Failure → Type 0
-IsDoor None result = result ≡ Ok None
-IsDoor (Some text) (Ok acceptor) = (at : Addr) × (addr_of text ≡ Some at) × (acceptor ≡ Some at)
-IsDoor (Some text) (Err failure) = (addr_of text ≡ None)
+abbrev pub IsHttpAddress : Option (List ℕ) → Result (Option Addr) Failure → Type 0
+IsHttpAddress None result = result ≡ Ok None
+IsHttpAddress (Some text) (Ok http_at) = (at : Addr) × (addr_of text ≡ Some at) × (http_at ≡ Some at)
+IsHttpAddress (Some text) (Err failure) = (addr_of text ≡ None)
     × IsOfText text (codes "an address, a.b.c.d:port,") failure
 
 -- the failure of a socket at an address, for the system's error
@@ -112,8 +112,8 @@ IsUnseenOpened s = Then (IsSocket s) (λ (socket : Unit {0}). IsPlace s)
 
 -- A station that serves HTTP is opened: its socket, the listener at this address, and then its
 -- file. The result is where it is, and where it serves HTTP.
-abbrev pub IsShownOpened : StationSettings → (acceptor : Addr) → List AtHost
+abbrev pub IsShownOpened : StationSettings → (http_at : Addr) → List AtHost
     → Result (SocketAddr × SocketAddr) Failure → Type 0
-IsShownOpened s acceptor = Then (IsSocket s) (λ (socket : Unit {0}).
-    Then (Quietly (SomeOr (IsNoSocket acceptor))) (λ (web : SocketAddr).
+IsShownOpened s http_at = Then (IsSocket s) (λ (socket : Unit {0}).
+    Then (Quietly (SomeOr (IsNoSocket http_at))) (λ (web : SocketAddr).
     Then (IsPlace s) (λ at. Quietly (λ result. result ≡ Ok (at, web)))))

@@ -13,7 +13,7 @@ use Rattle.mon_settings.specs.declared.station.StationSettings.{StationSettings}
 use Rattle.mon_station.specs.State.{State}
 use Rattle.mon_station_commands.specs.Checking.{IsCheck}
 use Rattle.mon_station_commands.specs.Notifying.{IsCourier}
-use Rattle.mon_station_commands.specs.Places.{IsDoor, IsNoSocket, IsShownOpened, IsUnseenOpened}
+use Rattle.mon_station_commands.specs.Places.{IsHttpAddress, IsNoSocket, IsShownOpened, IsUnseenOpened}
 use Rattle.mon_station_commands.specs.Rounds.{IsRun, nothing_kept}
 use Rattle.mon_file_commands.specs.Steps.{OrMemory}
 use Rattle.mon_station_commands.specs.Steps.{SomeOr}
@@ -73,24 +73,24 @@ IsUnseen words reports s = Then (IsUnseenOpened s) (λ at. IsWhole words reports
 abbrev pub IsSeen : Addr → StationArgs → Reports → StationSettings → List AtHost
     → Result Unit Failure
     → Type 0
-IsSeen acceptor words reports s =
-    Then (IsShownOpened s acceptor) (λ both. IsWhole words reports s both.0 (Some both.1))
+IsSeen http_at words reports s =
+    Then (IsShownOpened s http_at) (λ both. IsWhole words reports s both.0 (Some both.1))
 
 -- a station that serves HTTP if there is an address for it
 abbrev pub IsSeenIf : Option Addr → StationArgs → Reports → StationSettings → List AtHost
     → Result Unit Failure → Type 0
 IsSeenIf None words reports s log result = IsUnseen words reports s log result
-IsSeenIf (Some acceptor) words reports s log result = IsSeen acceptor words reports s log result
+IsSeenIf (Some http_at) words reports s log result = IsSeen http_at words reports s log result
 
 -- A station is run: the address for HTTP and the URL for notifications are read, then the settings,
 -- the modules and the labels. Then it is opened.
 abbrev pub IsRunning : StationArgs → List AtHost → Result Unit Failure → Type 0
-IsRunning words = Then (Quietly (IsDoor (option_copied words.http))) (λ acceptor.
+IsRunning words = Then (Quietly (IsHttpAddress (option_copied words.http))) (λ http_at.
     Then (Quietly (IsCourier (option_copied words.notify))) (λ courier.
     Then (IsLabelled words.settings.now (option_map (λ l. l.now) words.labels) words.printed)
     (λ both.
     Then (Quietly (OrMemory (AreReports words both.0 both.1))) (λ reports.
-    IsSeenIf acceptor words reports both.0))))
+    IsSeenIf http_at words reports both.0))))
 
 -- only what limits a station is printed, or it is run
 abbrev pub IsStationIf : (checks : Bool) → StationArgs → List AtHost → Result Unit Failure → Type 0

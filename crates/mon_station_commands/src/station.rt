@@ -9,7 +9,7 @@ ghost use Rattle.mon_host.specs.Log.{GoesOnBy};
 ghost use Rattle.mon_station_commands.specs.Checking.{HasFile, IsCheck};
 ghost use Rattle.mon_station_commands.specs.Ending.{IsEnded};
 ghost use Rattle.mon_station_commands.specs.Limits.{longest_gap};
-ghost use Rattle.mon_station_commands.specs.Places.{IsDoor, IsNoSocket, IsPlaceAt, IsShownOpened, IsUnseenOpened};
+ghost use Rattle.mon_station_commands.specs.Places.{IsHttpAddress, IsNoSocket, IsPlaceAt, IsShownOpened, IsUnseenOpened};
 ghost use Rattle.mon_station_commands.specs.Rounds.{AreRun, IsBetween, IsLastRun, IsRoundRun, IsRun};
 ghost use Rattle.mon_station_commands.specs.Station.{AreLevels, ArePaths, AreReports, IsRunning, IsSeen, IsSeenIf, IsStation, IsStationIf, IsUnseen};
 ghost use Rattle.mon_file_commands.specs.Steps.{OrMemory};
@@ -87,7 +87,7 @@ fn run_words<R: Clock + Files<File = File> + Net + AllocGlobal, H: Host>(
     ensures { GoesOnBy (λ log. IsRunning words.entry log result) (H.log host.old) (H.log host.new) }
 {
     let alloc = rt.alloc();
-    let acceptor = door_of(alloc, words.http)?;
+    let http_at = http_address_of(alloc, words.http)?;
     let courier = courier_of(alloc, words.notify)?;
     let (settings, printing) = read_labelled_station(
         alloc,
@@ -102,7 +102,7 @@ fn run_words<R: Clock + Files<File = File> + Net + AllocGlobal, H: Host>(
         reports,
         courier,
     };
-    run_by(rt, host, setup, words, acceptor)
+    run_by(rt, host, setup, words, http_at)
 }
 
 /// Runs a station that serves HTTP if there is an address for it.
@@ -111,13 +111,13 @@ fn run_by<R: Clock + Files<File = File> + Net + AllocGlobal, H: Host>(
     host: &mut H,
     setup: Setup,
     words: StationArgs<'_, '_>,
-    acceptor: Option<Addr>,
+    http_at: Option<Addr>,
 ) -> Result<(), Failure>
-    ensures { GoesOnBy (λ log. IsSeenIf acceptor words.entry setup.reports setup.settings log
+    ensures { GoesOnBy (λ log. IsSeenIf http_at words.entry setup.reports setup.settings log
         result)
         (H.log host.old) (H.log host.new) }
 {
-    match acceptor {
+    match http_at {
         None => run_unseen(rt, host, setup, words),
         Some(at) => {
             let front = Front {
@@ -350,18 +350,18 @@ fn copies_of(alloc: Global, texts: &[&str]) -> Result<Vec<String>, AllocError>
 }
 
 /// Returns the address that `--http` gives, if it is given.
-fn door_of(alloc: Global, text: Option<&str>) -> Result<Option<Addr>, Failure>
-    ensures { IsDoor (option_copied text.entry) result }
+fn http_address_of(alloc: Global, text: Option<&str>) -> Result<Option<Addr>, Failure>
+    ensures { IsHttpAddress (option_copied text.entry) result }
 {
     match text {
-        Some(text) => door_at(alloc, text),
+        Some(text) => http_address_at(alloc, text),
         None => Ok(None),
     }
 }
 
 /// Returns the address for HTTP that a text writes.
-fn door_at(alloc: Global, text: &str) -> Result<Option<Addr>, Failure>
-    ensures { IsDoor (Some text.now) result }
+fn http_address_at(alloc: Global, text: &str) -> Result<Option<Addr>, Failure>
+    ensures { IsHttpAddress (Some text.now) result }
 {
     match Addr::parse(text) {
         Some(address) => Ok(Some(address)),

@@ -104,15 +104,15 @@ has_done _ = true
 
 -- A newcomer got this place and asks since now; or there was no memory for it, and the place is
 -- free. The others stay.
-abbrev pub IsSeated : ℕ → ℕ → List Slot → List Slot → Type 0
-IsSeated place now old new =
+abbrev pub HasSlot : ℕ → ℕ → List Slot → List Slot → Type 0
+HasSlot place now old new =
     (new ≡ slice_set old place (slot_in Asking now)) ⊎ (new ≡ slice_set old place free_slot)
 
 -- A newcomer was let in, to the place that was chosen. Or none was: no place fits, or there is no
 -- newcomer any more.
 abbrev pub IsAdmission : Bool → ℕ → (had has : Bool) → List Slot → List Slot → Type 0
 IsAdmission true now had has old new =
-    (has ≡ had) × (place : ℕ) × IsChosen now old place × IsSeated place now old new
+    (has ≡ had) × (place : ℕ) × IsChosen now old place × HasSlot place now old new
 IsAdmission false now had has old new =
     (new ≡ old) × ((has ≡ false) ⊎ ((has ≡ had) × NoneFits now old))
 

@@ -3,7 +3,7 @@
 ghost use Rattle.std.specs.Prelude.{IfOk};
 ghost use Rattle.mon_web.specs.Acceptor.{IsOpenAt};
 
-use crate::table::DOOR;
+use crate::table::ACCEPTOR;
 use mio::net::TcpListener;
 use mio::{Interest, Poll, Registry, Token};
 use std::io;
@@ -46,7 +46,7 @@ impl Listener for TcpListener {
     }
 
     fn watch(&mut self, registry: &Registry) -> io::Result<()> {
-        registry.register(self, Token(DOOR), Interest::READABLE)
+        registry.register(self, Token(ACCEPTOR), Interest::READABLE)
     }
 }
 

@@ -1,5 +1,5 @@
 //! A station that is scraped and looked at over HTTP/1.1 (RFC 9110 and 9112): one listener and at
-//! most 32 connections, none of which ever waits. To serve: a `Acceptor`, and a `Server` over it,
+//! most 32 connections, none of which ever waits. To serve: an `Acceptor`, and a `Server` over it,
 //! which is given its `Content` and its turns. `Server::turn` does one thing for one client, or
 //! waits for what comes. A text is made when it is first asked for. Contract: what is answered to a
 //! request is fixed by the octets that came, what the content says and the time of the last round

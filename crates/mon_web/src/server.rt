@@ -7,7 +7,7 @@ use crate::acceptor::{Acceptor, AcceptorBy};
 use crate::content::Content;
 use crate::pages::Pages;
 use crate::response::Moment;
-use crate::table::{DOOR, Table};
+use crate::table::{ACCEPTOR, Table};
 use mio::event::Source;
 use mio::{Events, Interest, Poll, Token};
 use std::alloc::Global;
@@ -15,7 +15,7 @@ use std::io;
 use std::time::Duration;
 
 /// The number of the events of the source that is not HTTP.
-const OTHER: usize = DOOR + 1;
+const OTHER: usize = ACCEPTOR + 1;
 
 /// How many events are taken at once: at most one of each connection, the listener and the other.
 const EVENTS: usize = 64;
@@ -115,7 +115,7 @@ impl<C: Content> Server<C> {
         }
         if self.events.is_empty() {
             // A newcomer that could not be let in, as without a descriptor, is tried again.
-            self.table.set_token_ready(Token(DOOR));
+            self.table.set_token_ready(Token(ACCEPTOR));
         }
         Ok(())
     }

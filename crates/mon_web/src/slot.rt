@@ -5,7 +5,7 @@ ghost use Rattle.std.specs.List.{position};
 ghost use Rattle.mon_web.specs.Slot.{IsChosen, IsLate, IsOldest, NoneFits, is_free, limit_of, may_yield};
 
 /// How many connections there are at most.
-pub(crate) const SEATS: usize = 32;
+pub(crate) const SLOTS: usize = 32;
 
 /// How long a client has for a request, and for taking a response, in milliseconds.
 const ASKING_MS: u64 = 10_000;

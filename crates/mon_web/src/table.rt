@@ -2,7 +2,7 @@
 
 ghost use Rattle.std.specs.Prelude.{◌≡◌, ◌≢◌, ◌↔◌, IfOk, IsTrue, Some, true, option_map, slice_get, slice_set};
 ghost use Rattle.std.specs.Duration.{as_nanos};
-ghost use Rattle.mon_web.specs.Slot.{IsAdmission, IsLate, IsSeated, KeepsOthers, NoneLate, free_slot, has_done, has_newcomer_by, is_free, longest_wait, marked, marked_by, slot_in, settled};
+ghost use Rattle.mon_web.specs.Slot.{IsAdmission, IsLate, HasSlot, KeepsOthers, NoneLate, free_slot, has_done, has_newcomer_by, is_free, longest_wait, marked, marked_by, slot_in, settled};
 ghost use Rattle.mon_web.specs.declared.client.Turn.{Turn as TurnData};
 ghost use Rattle.std.specs.List.{list_all};
 ghost use Rattle.mon_web.specs.Pages.{view_of};
@@ -11,14 +11,14 @@ use crate::client::{Client, Turn};
 use crate::content::Content;
 use crate::pages::Pages;
 use crate::response::Moment;
-use crate::slot::{SEATS, SPARED_MS, Slot, Stage, choose_slot, is_late};
+use crate::slot::{SLOTS, SPARED_MS, Slot, Stage, choose_slot, is_late};
 use mio::net::{TcpListener, TcpStream};
 use mio::{Registry, Token};
 use std::alloc::{AllocError, Global};
 use std::time::Duration;
 
 /// The number of the listener's events. Those of connections have their places' numbers.
-pub(crate) const DOOR: usize = SEATS;
+pub(crate) const ACCEPTOR: usize = SLOTS;
 
 /// How many octets are read at once at most: a connection has capacity for no more.
 const BUFFER: usize = 8192;
@@ -84,14 +84,14 @@ impl<C: Content> Table<C> {
     ) -> Result<Self, AllocError>
         ensures { IfOk result (λ t. t.pages ≡ pages) }
     {
-        let mut clients = Vec::with_capacity(alloc, SEATS)?;
-        for _ in 0..SEATS {
+        let mut clients = Vec::with_capacity(alloc, SLOTS)?;
+        for _ in 0..SLOTS {
             clients.push(None)?;
         }
         Ok(Table {
             alloc,
             listener,
-            slots: vec![in alloc; EMPTY; SEATS]?,
+            slots: vec![in alloc; EMPTY; SLOTS]?,
             clients,
             has_newcomer: true,
             next: 0,
@@ -107,7 +107,7 @@ impl<C: Content> Table<C> {
         ensures acceptor { self.new.has_newcomer
             ≡ has_newcomer_by token.0 true self.old.has_newcomer }
     {
-        if token.0 == DOOR {
+        if token.0 == ACCEPTOR {
             self.has_newcomer = true;
         } else {
             self.set_ready(token.0, true);
@@ -128,7 +128,7 @@ impl<C: Content> Table<C> {
     fn is_ready(&self, place: usize) -> bool
         ensures { place ≡ 32 → result ≡ self.now.has_newcomer }
     {
-        if place == DOOR {
+        if place == ACCEPTOR {
             return self.has_newcomer;
         }
         match self.slots.get(place) {
@@ -142,9 +142,9 @@ impl<C: Content> Table<C> {
     pub(crate) fn turn(&mut self, registry: &Registry, at: Moment) -> bool
         ensures { view_of C.says self.new.pages ≡ view_of C.says self.old.pages }
     {
-        for _ in 0..=SEATS {
+        for _ in 0..=SLOTS {
             let place = self.next;
-            self.next = if place < SEATS { place + 1 } else { 0 };
+            self.next = if place < SLOTS { place + 1 } else { 0 };
             if self.is_ready(place) && self.give_turn(registry, place, at) {
                 return true;
             }
@@ -164,7 +164,7 @@ impl<C: Content> Table<C> {
             × (self.new.slots.items ≡ settled turn place at.now self.old.slots.items) }
         ensures newcomer { place ≢ 32 → self.new.has_newcomer ≡ self.old.has_newcomer }
     {
-        if place == DOOR {
+        if place == ACCEPTOR {
             return self.admit(registry, at.now);
         }
         let turn = match self.clients.get_mut(place) {
@@ -240,10 +240,10 @@ impl<C: Content> Table<C> {
         }
     }
 
-    /// Seats a newcomer. If memory is refused for it, it is closed.
+    /// Gives a newcomer a slot. If memory is refused for it, it is closed.
     fn slot(&mut self, registry: &Registry, place: usize, stream: TcpStream, now: u64)
         ensures pages { self.new.pages ≡ self.old.pages }
-        ensures slots { IsSeated place now self.old.slots.items self.new.slots.items }
+        ensures slots { HasSlot place now self.old.slots.items self.new.slots.items }
         ensures acceptor { self.new.has_newcomer ≡ self.old.has_newcomer }
     {
         self.clear(place);
@@ -282,7 +282,7 @@ impl<C: Content> Table<C> {
         ensures { option_map as_nanos result ≡ longest_wait self.now.has_newcomer
             self.now.slots.items }
     {
-        if self.is_ready(DOOR) {
+        if self.is_ready(ACCEPTOR) {
             Some(Duration::from_millis(SPARED_MS))
         } else if are_free(self.slots.as_slice()) {
             None

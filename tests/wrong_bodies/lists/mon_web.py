@@ -397,7 +397,7 @@ BUGS = {
     "closes_nobody_who_is_late": (
         "src/table.rt",
         "            if self.is_late(place, now) {\n                self.clear(place);",
-        "            if self.is_late(place, now) {\n                self.clear(SEATS);",
+        "            if self.is_late(place, now) {\n                self.clear(SLOTS);",
     ),
     "closes_everybody": (
         "src/table.rt",
@@ -591,8 +591,8 @@ BUGS = {
     ),
     "each_event_is_a_newcomer": (
         "src/table.rt",
-        "        if token.0 == DOOR {",
-        "        if token.0 <= DOOR {",
+        "        if token.0 == ACCEPTOR {",
+        "        if token.0 <= ACCEPTOR {",
     ),
     "an_event_marks_nobody": (
         "src/table.rt",
