@@ -97,8 +97,8 @@ BODIES = {
     "each_format_is_chosen": ("src/matches.rt", "        chosen: names_format(matches),", "        chosen: true,"),
     "an_order_by_another_word": ("src/parser.rt", '"name", "rate", "alarm", "age"', '"name", "rates", "alarm", "age"'),
     "report_without_sort": ("src/lines.rt", "    LOST_FILE,\n    LABELS,\n    STATION_LABEL,\n    FORMAT,\n    COLUMNS,\n    SORT,\n", "    LOST_FILE,\n    LABELS,\n    STATION_LABEL,\n    FORMAT,\n    COLUMNS,\n    NAMES,\n"),
-    "never_lacks_interval": ("src/meaning.rt", "words.timing.phase.is_some() && words.timing.interval == 0", "false"),
-    "each_phase_lacks_an_interval": ("src/meaning.rt", "words.timing.phase.is_some() && words.timing.interval == 0", "words.timing.phase.is_some()"),
+    "never_lacks_interval": ("src/meaning.rt", "words.timing.phase.is_some()\n                && words.timing.interval == 0", "false"),
+    "each_phase_lacks_an_interval": ("src/meaning.rt", "words.timing.phase.is_some()\n                && words.timing.interval == 0", "words.timing.phase.is_some()"),
     "a_check_lacks_rounds": ("src/meaning.rt", "!words.checks && words.timing.rounds == 0", "words.timing.rounds == 0"),
     "answers_twice": ("src/matches.rt", 'number_or(matches, "times", 1)', 'number_or(matches, "times", 2)'),
     "fuses_at_the_time": ("src/matches.rt", 'fuses: wide_number(matches, "fuses")', 'fuses: wide_number(matches, "at")'),
@@ -151,7 +151,7 @@ BODIES = {
     "never_lacks_machines": ("src/meaning.rt", "words.numbered && words.machines.is_none()", "false"),
     "each_number_lacks_machines": ("src/meaning.rt", "words.numbered && words.machines.is_none()", "words.numbered"),
     "lacks_machines_by_the_stations": ("src/meaning.rt", "words.numbered && words.machines.is_none()", "words.stations != 1 && words.machines.is_none()"),
-    "a_phase_of_0_wants_no_interval": ("src/meaning.rt", "words.timing.phase.is_some() && words.timing.interval == 0", "words.timing.phase.unwrap_or(0) > 0 && words.timing.interval == 0"),
+    "a_phase_of_0_wants_no_interval": ("src/meaning.rt", "words.timing.phase.is_some()\n                && words.timing.interval == 0", "words.timing.phase.unwrap_or(0) > 0 && words.timing.interval == 0"),
 }
 
 BUGS = LINES | BODIES | RANGES

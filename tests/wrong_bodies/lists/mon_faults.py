@@ -133,8 +133,8 @@ BUGS = {
     ),
     "an_entry_has_no_keys": (
         "src/unknown.rt",
-        "        Step::Value(key) | Step::Entry(key, _) => table_keys(key),",
-        "        Step::Value(key) => table_keys(key),\n        Step::Entry(_, _) => &[],",
+        "        PathPart::Value(key) | PathPart::Entry(key, _) => table_keys(key),",
+        "        PathPart::Value(key) => table_keys(key),\n        PathPart::Entry(_, _) => &[],",
     ),
     "each_settings_are_a_stations": (
         "src/unknown.rt",
