@@ -4,17 +4,16 @@ A device answers each poll on loopback with its gauges, ifSpeed of interfaces fr
 import re
 import socket
 import struct
-import subprocess
-import threading
 import time
 from pathlib import Path
 from typing import NamedTuple
 
 from library.lab import free_port
+from library.logged import Logged
 from library.namespaces import TIMESTAMP
-from library.responder import BOOTS, ENGINE_ID, OCTETS, TIME
+from library.responder import UdpThread, response_to, stamp
 from models import notices
-from models.messages import RESPONSE, NoMessage, message, read, spelled, spelled_number
+from models.messages import NoMessage, read, spelled_number
 
 GAUGE32 = 0x42
 # ifSpeed, without the index.
@@ -58,18 +57,15 @@ OF_DELIVERIES = re.compile(r"^snmpmon: notifications: (.*)$", re.M)
 FAILS, AGAIN, REFUSED = "deliveries fail", "deliveries go on again", "the receiver refused a text"
 
 
-class Device(threading.Thread):
+class Device(UdpThread):
     """A device with gauges. `polls` has when each poll came, in seconds since 1970, by the system's own stamp."""
 
     def __init__(self, engine="8000000001", many=1, label=None):
-        super().__init__(daemon=True)
+        super().__init__()
         self.engine, self.many, self.label = engine, many, label
-        self.boots, self.clock, self.polls, self.is_silent, self.is_over = 3, 0, [], False, False
+        self.boots, self.clock, self.polls, self.is_silent = 3, 0, [], False
         self.levels = dict.fromkeys(range(1, many + 1), LOW)
-        self.socket = socket.socket(socket.AF_INET, socket.SOCK_DGRAM)
         self.socket.setsockopt(socket.SOL_SOCKET, TIMESTAMP, 1)
-        self.socket.bind(("127.0.0.1", 0))
-        self.socket.settimeout(0.05)
         self.address = "127.0.0.1:{}".format(self.socket.getsockname()[1])
 
     def set(self, level, indices=None):
@@ -77,19 +73,17 @@ class Device(threading.Thread):
         self.levels = self.levels | dict.fromkeys(indices or self.levels, level)
 
     def value(self, name):
-        known = {ENGINE_ID: spelled(OCTETS, bytes.fromhex(self.engine)), BOOTS: spelled_number(self.boots), TIME: spelled_number(10 * self.clock)}
+        known = stamp(bytes.fromhex(self.engine), self.boots, 10 * self.clock)
         return known.get(name) or spelled_number(self.levels[int(name.rpartition(".")[2])], GAUGE32)
 
     def answer(self, octets):
-        community, _, numbers, bindings = read(octets)
-        names = [".".join(map(str, name)) for name, _, _ in bindings]
-        return message(RESPONSE, community, [numbers[0], 0, 0], [(name, self.value(name)) for name in names])
+        return response_to(read(octets), self.value)
 
     def run(self):
         while not self.is_over:
             try:
-                octets, ((_, _, stamp),), _, asker = self.socket.recvmsg(65535, 64)
-                seconds, more = struct.unpack("@ll", stamp)
+                octets, ((_, _, at),), _, asker = self.socket.recvmsg(65535, 64)
+                seconds, more = struct.unpack("@ll", at)
                 self.clock += 1
                 reply = self.answer(octets)
                 if reply is not None and not self.is_silent:
@@ -101,15 +95,6 @@ class Device(threading.Thread):
     def targets(self):
         """The indices of the interfaces of each target, of which each has as many as a poll has."""
         return [range(first, min(first + A_TARGET, self.many + 1)) for first in range(1, self.many + 1, A_TARGET)]
-
-    def __enter__(self):
-        self.start()
-        return self
-
-    def __exit__(self, *_):
-        self.is_over = True
-        self.join()
-        self.socket.close()
 
 
 class Rules(NamedTuple):
@@ -180,23 +165,13 @@ def differ(bodies, wanted):
     return found + [f"nothing came of {it}" for it in wanted[len(bodies):]]
 
 
-class Station:
+class Station(Logged):
     """A station whose rounds are a second apart, and what it says on standard error."""
 
     def __init__(self, program, folder, url, *words, name="station", rounds=1000000, interval=1, **more):
-        self.folder, self.name, self.program = Path(folder), name, program
-        notify = ["--notify", url] if url else []
+        self.program, notify = program, ["--notify", url] if url else []
         given = [program, "station", f"{name}.toml", "--rounds", rounds, "--interval", interval, *notify, *words]
-        self.streams = [(self.folder / f"{name}.{which}").open("w+b") for which in ("stdout", "stderr")]
-        self.process = subprocess.Popen(
-            list(map(str, given)), cwd=folder, stdin=subprocess.DEVNULL, stdout=self.streams[0], stderr=self.streams[1], **more
-        )
-
-    def said(self):
-        return (self.folder / f"{self.name}.stderr").read_text()
-
-    def printed(self):
-        return (self.folder / f"{self.name}.stdout").read_text()
+        super().__init__(folder, name, given, cwd=folder, **more)
 
     def of_deliveries(self):
         """What it said of deliveries."""
@@ -210,28 +185,6 @@ class Station:
         """How much memory it has, in KiB; 0 once it has ended."""
         found = re.search(r"^VmRSS:\s+(\d+) kB$", Path(f"/proc/{self.process.pid}/status").read_text(), re.M)
         return int(found[1]) if found else 0
-
-    def is_alive(self):
-        return self.process.poll() is None
-
-    def ended(self, seconds=60):
-        try:
-            return self.process.wait(seconds)
-        except subprocess.TimeoutExpired:
-            return None
-
-    def close(self):
-        if self.process.poll() is None:
-            self.process.kill()
-        self.process.wait()
-        for stream in self.streams:
-            stream.close()
-
-    def __enter__(self):
-        return self
-
-    def __exit__(self, *_):
-        self.close()
 
 
 def wait_for(what, seconds=20):

@@ -10,7 +10,7 @@ from pathlib import Path
 
 sys.path.insert(0, str(Path(__file__).resolve().parents[1]))
 from models.messages import spelled_number  # noqa: E402
-from library.responder import BOOTS, COUNTER32, ENGINE_ID, OCTETS, TIME, Responder, spelled  # noqa: E402
+from library.responder import COUNTER32, Responder, stamp  # noqa: E402
 
 
 class Steady(Responder):
@@ -24,8 +24,7 @@ class Steady(Responder):
         if not self.rate:
             return super().value(name)
         passed = time.time() - self.start_time
-        known = {ENGINE_ID: spelled(OCTETS, self.engine), BOOTS: spelled_number(self.boots), TIME: spelled_number(int(passed))}
-        return known.get(name) or spelled_number(int(passed * self.rate), COUNTER32)
+        return stamp(self.engine, self.boots, int(passed)).get(name) or spelled_number(int(passed * self.rate), COUNTER32)
 
     def answer(self, octets):
         self.file.write(f"{time.monotonic():.6f}\n")

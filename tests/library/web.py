@@ -8,6 +8,8 @@ import time
 from email.utils import parsedate_to_datetime
 from pathlib import Path
 
+from library.logged import Logged
+
 HERE = Path(__file__).resolve().parent
 SETTINGS = """station = 1
 listen = "127.0.0.1:0"
@@ -45,26 +47,16 @@ class Target:
         self.process.stdout.close()
 
 
-class Station:
+class Station(Logged):
     """A station of one target with some instances, which serves HTTP or doesn't."""
 
     def __init__(self, program, folder, name, address, words, served=True, wait=20, many=4, environment=None, pass_fds=()):
         objects = ", ".join(f'{{ name = "mib-2.2.2.1.10.{n + 1}" }}' for n in range(many))
-        self.folder, self.program, self.settings = Path(folder), program, Path(folder) / f"{name}.toml"
+        self.program, self.settings = program, Path(folder) / f"{name}.toml"
         self.settings.write_text(SETTINGS.format(folder=folder, name=name, wait=wait, address=address, objects=objects))
-        self.streams = [(self.folder / f"{name}.{which}").open("w+b") for which in ("stdout", "stderr")]
         http = ["--http", "127.0.0.1:0"] if served else []
-        self.process = subprocess.Popen(
-            [program, "station", self.settings, *http, *map(str, words)], stdin=subprocess.DEVNULL, stdout=self.streams[0],
-            stderr=self.streams[1], env=environment, pass_fds=pass_fds,
-        )
+        super().__init__(folder, name, [program, "station", self.settings, *http, *words], env=environment, pass_fds=pass_fds)
         self.address = self.find_address() if served else None
-
-    def said(self):
-        return Path(self.streams[1].name).read_text()
-
-    def printed(self):
-        return Path(self.streams[0].name).read_text()
 
     def find_address(self):
         """Where it serves HTTP, or None where it ended before that."""
@@ -72,23 +64,10 @@ class Station:
             found = re.search(r"^snmpmon: HTTP at (\S+):(\d+)$", self.said(), re.M)
             if found:
                 return found[1], int(found[2])
-            if self.process.poll() is not None:
+            if not self.is_alive():
                 return None
             time.sleep(0.01)
         return None
-
-    def ended(self, seconds=SECONDS):
-        try:
-            return self.process.wait(seconds)
-        except subprocess.TimeoutExpired:
-            return None
-
-    def close(self):
-        if self.process.poll() is None:
-            self.process.kill()
-        self.process.wait()
-        for stream in self.streams:
-            stream.close()
 
 
 def connect(address, seconds=15):

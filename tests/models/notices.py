@@ -12,7 +12,7 @@ from typing import NamedTuple
 # When an alert ends that has not ended: the first time of Go's calendar.
 NEVER = "0001-01-01T00:00:00Z"
 # RFC 3339, section 5.6, in UTC and to the second.
-TIME = re.compile(r"\d{4}-\d\d-\d\dT\d\d:\d\d:\d\dZ")
+TIME = re.compile(r"[0-9]{4}-[0-9]{2}-[0-9]{2}T[0-9]{2}:[0-9]{2}:[0-9]{2}Z")
 ALARM, DEVICE = "SnmpmonAlarmRaised", "SnmpmonDeviceDown"
 MAX_OCTETS = 4096
 
