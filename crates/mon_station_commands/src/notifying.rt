@@ -1,6 +1,6 @@
 //! Notifications of a running station: what is put for the receiver, and its delivery.
 
-ghost use Rattle.std.specs.Prelude.{◌≡◌, ◌×◌, Ok, OnErr, OnOk, Some, option_copied, option_map};
+ghost use Rattle.std.specs.Prelude.{◌≡◌, Ok, OnErr, OnOk, Some, option_copied, option_map};
 ghost use Rattle.mon_host.specs.Log.{GoesOnBy};
 ghost use Rattle.mon_file_commands.specs.Line.{AreNoted};
 ghost use Rattle.mon_station_commands.specs.Notifying.{Chain, HasTurn, IfCarried, IsAlarmPut, IsCourier, IsDateAt, IsDevicePut, IsPut, IsSeenAt, IsTurnSaid, OrLost, dropped_of, is_silence, lost, news_level, news_lines, until_turn, wanted_of};

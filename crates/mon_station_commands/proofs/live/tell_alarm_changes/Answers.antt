@@ -89,8 +89,10 @@ returns-in_err-tell_alarms-clause-texts g c =
 
 pub returns-in_err-notify_alarms-clause-texts : goal.returns-in_err-notify_alarms-clause-texts
 returns-in_err-notify_alarms-clause-texts g c =
-    alarms_fill _ _ _ _ c.args.live.now.courier c.notify_alarms.new.courier c.notify_alarms.ensures.each
+    alarms_fill c.args.live.now.reports.printing c.board-board.result.now c.seen_at.result c.as_slice-2.result.now c.args.live.now.courier c.notify_alarms.new.courier
+    c.notify_alarms.ensures.each
 
 pub returns-clause-texts : goal.returns-clause-texts
 returns-clause-texts g c =
-    alarms_fill _ _ _ _ c.args.live.now.courier c.notify_alarms.new.courier c.notify_alarms.ensures.each
+    alarms_fill c.args.live.now.reports.printing c.board-board.result.now c.seen_at.result c.as_slice-2.result.now c.args.live.now.courier c.notify_alarms.new.courier
+    c.notify_alarms.ensures.each

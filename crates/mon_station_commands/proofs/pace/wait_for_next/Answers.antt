@@ -31,8 +31,8 @@ returns-in_err-passed-clause-quiet g c =
     let r = c.from_residual.result in
     no_wait failure r start timed (failure_is r failure c.from_residual.ensures.1) (untimed failure start timed c.in_err-passed.ensures)
 
-pub returns-then-interval-eq0-clause-served : goal.returns-then-interval-eq0-clause-served
-returns-then-interval-eq0-clause-served g c =
+pub returns-then-pace-eq0-clause-served : goal.returns-then-pace-eq0-clause-served
+returns-then-pace-eq0-clause-served g c =
     let live = c.args.live.now in
     served_next live.ended live.ended live.ended c.deliver.new.live.ended live.courier live.courier live.courier c.deliver.new.live.courier (g.H.Host.log c.args.host.now) (g.H.Host.log c.deliver.new.host)
     (unserved live.ended live.courier) (unfilled live.courier) c.deliver.ensures.turn c.deliver.ensures.ended

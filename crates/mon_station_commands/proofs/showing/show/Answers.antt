@@ -1,4 +1,4 @@
-use Rattle.std.proofs.Common.{◌≡◌, ◌∙◌, option_map}
+use Rattle.std.proofs.Common.{◌∙◌, option_map}
 use Rattle.std.specs.Prelude.{None}
 use Rattle.mon_station.specs.State.{state_of}
 use Rattle.mon_station_commands.specs.Showing.{AreTextsOf}

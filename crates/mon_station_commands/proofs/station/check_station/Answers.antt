@@ -1,12 +1,4 @@
-use Rattle.std.proofs.Common.{List, ℕ, option_map, string_bytes, subst}
-use Rattle.std.specs.Prelude.{Ok}
-use Rattle.mon_console.specs.Labelled.{IsLabelled}
-use Rattle.mon_console.specs.declared.printing.Printing.{Printing}
-use Rattle.mon_host.specs.Log.{GoesOnBy}
-use Rattle.mon_host.specs.Then.{Quietly, Then}
-use Rattle.mon_host.proofs.Promised.{quietly, then_fails, then_follows}
-use Rattle.mon_settings.specs.declared.station.StationSettings.{StationSettings}
-use Rattle.mon_station_commands.specs.Checking.{AreLimits, HasFile, IsCheck}
+use Rattle.std.proofs.Common.{option_map}
 use Rattle.mon_station_commands.proofs.Steps.{failure_is}
 use Rattle.mon_station_commands.proofs.Checked.{checked, fileless}
 use Rattle.mon_station_commands.proofs.station.check_station.Goals as goal

@@ -1,5 +1,4 @@
 use Rattle.std.proofs.Common.{◌∙◌, Bool, option_map, string_bytes, subst, true, map}
-use Rattle.std.specs.Prelude.{Result, Ok}
 use Rattle.mon_console.specs.declared.printing.Printing.{Printing}
 use Rattle.mon_host.specs.Log.{GoesOnBy}
 use Rattle.mon_station.specs.State.{state_of}

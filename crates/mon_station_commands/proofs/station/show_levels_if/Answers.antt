@@ -1,4 +1,4 @@
-use Rattle.std.proofs.Common.{Bool, [], false, refl, subst, sym, true}
+use Rattle.std.proofs.Common.{Bool, [], refl, subst, sym, true}
 use Rattle.std.specs.Prelude.{Ok}
 use Rattle.mon_host.specs.AtHost.{LevelsShown}
 use Rattle.mon_host.specs.Log.{GoesOnBy}

@@ -1,4 +1,4 @@
-use Rattle.std.proofs.Common.{◌∙◌, List, ℕ, ap}
+use Rattle.std.proofs.Common.{◌∙◌}
 use Rattle.mon_station_commands.specs.Telling.{alarm_note, line_in}
 use Rattle.mon_station_commands.proofs.Notes.{line_more}
 use Rattle.mon_station_commands.proofs.telling.tell_alarms.Goals as goal

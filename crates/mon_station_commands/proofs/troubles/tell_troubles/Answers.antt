@@ -5,7 +5,7 @@ use Rattle.mon_file_commands.specs.Line.{AreNoted}
 use Rattle.mon_station_commands.specs.Telling.{text_lines}
 use Rattle.mon_station_commands.specs.Troubles.{IsText, key_in, level_of, text_at}
 use Rattle.mon_station_commands.specs.declared.troubles.Key.{Key}
-use Rattle.mon_station_commands.proofs.Changes.{all_said, change_more, some_said, unsaid_for}
+use Rattle.mon_station_commands.proofs.Changes.{change_more, unsaid_for}
 use Rattle.mon_station_commands.proofs.troubles.tell_troubles.Goals as goal
 
 pub returns-in_err-keys : goal.returns-in_err-keys

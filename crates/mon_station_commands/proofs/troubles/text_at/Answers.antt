@@ -1,7 +1,5 @@
-use Rattle.std.proofs.Common.{◌∙◌, IfOk, List, ℕ, map, refl, string_bytes, subst, sym}
+use Rattle.std.proofs.Common.{refl, string_bytes}
 use Rattle.std.proofs.lemmas.Option.{slice_get_read}
-use Rattle.std.specs.Prelude.{Option, Result, false, true}
-use Rattle.mon_station_commands.specs.Troubles.{IsText, key_in}
 use Rattle.mon_station_commands.proofs.Changes.{said_before, said_by_key}
 use Rattle.mon_station_commands.proofs.troubles.text_at.Goals as goal
 
