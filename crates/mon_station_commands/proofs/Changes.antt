@@ -1,6 +1,6 @@
 -- Changes of trouble that are said.
 use Rattle.mon_file_commands.specs.Line.{AreNoted, Line}
-use Rattle.std.proofs.Common.{◌≡◌, ◌∙◌, ◌+◌, ◌++◌, ◌∷◌, ◌||◌, Bool, List, ℕ, [], ap, arith, length, map, option_map, refl, slice_get, subst, suc, sym, string_bytes, take, zero}
+use Rattle.std.proofs.Common.{◌≡◌, ◌∙◌, ◌+◌, ◌∷◌, ◌||◌, Bool, List, ℕ, [], ap, arith, length, map, option_map, refl, slice_get, subst, suc, sym, string_bytes, take}
 use Rattle.std.proofs.lemmas.List.{length-map}
 use Rattle.std.proofs.lemmas.Option.{slice_get-map}
 use Rattle.std.specs.List.{list_any, take-map}

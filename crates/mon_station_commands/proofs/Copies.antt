@@ -1,5 +1,5 @@
 -- What is shown of a copy of a board, in place of what was shown before.
-use Rattle.std.proofs.Common.{◌≡◌, ◌∙◌, ℕ, List, Option, Some, None, Result, Ok, Err, IfOk, IfSome, option_map, ap, refl}
+use Rattle.std.proofs.Common.{◌≡◌, ◌∙◌, List, Option, Some, None, Result, Ok, Err, IfOk, IfSome, option_map, ap, refl}
 use Rattle.std.specs.Result.{result_ok}
 use Rattle.mon_alarms.specs.declared.alarm.AlarmState.{AlarmState}
 use Rattle.mon_board.specs.declared.board.Board.{Board}

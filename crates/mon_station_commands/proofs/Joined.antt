@@ -14,7 +14,6 @@ use Rattle.mon_console.specs.Failure.{HasLine, IsMemory}
 use Rattle.mon_console.specs.declared.failure.Failure.{Failure}
 use Rattle.mon_console.specs.declared.printing.Printing.{Printing}
 use Rattle.mon_disk.specs.declared.disk.DiskError.{DiskError}
-use Rattle.mon_disk.specs.declared.fault.KeeperFault.{KeeperFault}
 use Rattle.mon_disk.specs.declared.open_fault.OpenFault.{OpenFault}
 use Rattle.mon_host.specs.declared.level.Level.TheVariants as level
 use Rattle.mon_host.specs.AtHost.{AtHost, IsNoted, Noted}

@@ -14,7 +14,7 @@ use Rattle.mon_host.specs.Log.{GoesOnBy}
 use Rattle.mon_rounds.specs.declared.changes.Change.{Change}
 use Rattle.mon_rounds.specs.declared.freshness.TargetAge.{TargetAge}
 use Rattle.mon_station_commands.proofs.Quiets.{are_noted, are_quiet_as}
-use Rattle.mon_station_commands.specs.Notifying.{AreTurns, Chain, Courier, HasTurn, IfCarried, IsAlarmPut, IsDevicePut, IsFilled, IsPut, IsPutIf, IsServed, IsTextPut, OrLost, is_silence, lost, news_lines}
+use Rattle.mon_station_commands.specs.Notifying.{Chain, Courier, HasTurn, IfCarried, IsAlarmPut, IsDevicePut, IsFilled, IsPut, IsPutIf, IsServed, IsTextPut, OrLost, is_silence, lost, news_lines}
 use Rattle.mon_station_commands.specs.Quiet.{AreQuiet}
 
 module _ {X : Type 0} (Step : X → Courier → Courier → Type 0) where

@@ -1,6 +1,6 @@
 -- The opening of a station.
 use Rattle.std.proofs.Common.{◌≡◌, ◌++◌, List, ℕ, [], inl, inr, refl, subst, sym}
-use Rattle.std.specs.Prelude.{IsErrAnd, Option, Some, None, Result, Ok, Err}
+use Rattle.std.specs.Prelude.{IsErrAnd, Option, None, Result, Ok, Err}
 use Rattle.std.specs.declared.alloc.AllocError.{AllocError}
 use Rattle.std.specs.declared.net.socket_addr.SocketAddr.{SocketAddr}
 use Rattle.mon_console.specs.Failure.{IsMemory}

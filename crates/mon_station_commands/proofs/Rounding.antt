@@ -1,7 +1,6 @@
 -- Rounds of a station, one after another.
 use Rattle.std.proofs.Common.{◌≡◌, ◌∙◌, ◌≢◌, ◌≤◌, ◌++◌, Bool, false, List, ℕ, [], zero, suc, refl, subst, sym, arith, ◌<◌, ◌-◌, ◌⊎◌, inl, inr, ◌+◌, option_map, string_bytes, true}
-use Rattle.std.specs.Prelude.{◌↔◌, IsTrue, Option, Result, Ok, Err, String}
-use Rattle.std.specs.Global.{Global}
+use Rattle.std.specs.Prelude.{◌↔◌, IsTrue, Option, Result, Ok, Err}
 use Rattle.mon_alarms.specs.Announcing.{Announcer}
 use Rattle.mon_cli.specs.declared.meaning.StationArgs.{StationArgs}
 use Rattle.mon_console.specs.Printing.{IsFitted}
@@ -20,7 +19,7 @@ use Rattle.mon_station_commands.specs.Keeping.{IsFileKept}
 use Rattle.mon_station_commands.specs.Pace.{IsStopped}
 use Rattle.mon_station_commands.specs.Quiet.{AreQuiet}
 use Rattle.mon_station_commands.specs.Reporting.{IsOut, IsReported}
-use Rattle.mon_station_commands.specs.Rounds.{AreRounds, AreRun, IsBegun, IsBetween, IsCut, IsEndedBy, IsFinish, IsLast, IsLastReport, IsLastRun, IsLook, IsReportAt, IsRound, IsRoundRun, IsRun, Moment, printed_by}
+use Rattle.mon_station_commands.specs.Rounds.{AreRounds, AreRun, IsBetween, IsCut, IsFinish, IsLastReport, IsLastRun, IsLook, IsReportAt, IsRound, IsRoundRun, IsRun, Moment, printed_by}
 use Rattle.mon_station_commands.specs.Spans.{IsOfRound, IsSpan}
 use Rattle.mon_station_commands.specs.Steps.{IsKeptOf}
 use Rattle.mon_station_commands.specs.Telling.{announced_notes}

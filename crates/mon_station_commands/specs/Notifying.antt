@@ -30,7 +30,6 @@ use Rattle.mon_rounds.specs.declared.changes.Trouble.{Trouble}
 use Rattle.mon_rounds.specs.declared.changes.Trouble.TheVariants.{SilentTarget}
 use Rattle.mon_rounds.specs.declared.freshness.TargetAge.{TargetAge}
 use Rattle.mon_station_commands.specs.Troubles.{IsText, silent_text}
-use Rattle.mon_station_commands.specs.declared.notifying.Look.{Look}
 use Rattle.mon_udp.specs.declared.addr.Addr.{Addr}
 
 -- what delivers notifications over the system's streams

@@ -1,4 +1,4 @@
-use Rattle.std.proofs.Common.{◌∙◌, false, inl, inr, option_map, refl, string_bytes, suc, true}
+use Rattle.std.proofs.Common.{◌∙◌, false, inl, inr, refl, suc, true}
 use Rattle.mon_station_commands.proofs.Quiets.{still}
 use Rattle.mon_station_commands.proofs.Rounding.{all_run_as, cut_at_once, cut_on, ended_by, from_zero, look_on, none_yet, one_more, one_on, stopped, within, within_less, within_one}
 use Rattle.mon_station_commands.proofs.Steps.{failure_is}

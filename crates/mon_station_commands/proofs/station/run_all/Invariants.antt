@@ -1,4 +1,4 @@
-use Rattle.std.proofs.Common.{◌≡◌, ◌≤◌, ◌⊎◌, ℕ, suc, option_map, string_bytes}
+use Rattle.std.proofs.Common.{◌≡◌, ◌≤◌, ◌⊎◌, ℕ, suc}
 use Rattle.mon_host.specs.Log.{GoesOnBy}
 use Rattle.mon_station_commands.specs.Rounds.{AreRounds}
 use Rattle.mon_station_commands.proofs.station.run_all.Given as goal

@@ -1,4 +1,4 @@
-use Rattle.std.proofs.Common.{option_map, refl, string_bytes}
+use Rattle.std.proofs.Common.{refl}
 use Rattle.std.specs.Prelude.{Err, Ok}
 use Rattle.mon_station.specs.State.{state_of}
 use Rattle.mon_station_commands.specs.Rounds.{Moment}
