@@ -168,7 +168,8 @@ IsTurnSaid now before after log = (said : Option News)
     (λ stream octets answer next. Unit {0}) now before after said
     × AreNoted (news_lines said) log
 
--- the same, if there is a receiver; else nothing is done
+-- What delivers had a turn at this time, and what it came to was said, if there is a receiver. Else
+-- nothing is done.
 abbrev pub HasTurn : (now : ℕ) → (before after : Option Courier) → List AtHost → Type 0
 HasTurn now None after log = (after ≡ None) × (log ≡ [])
 HasTurn now (Some before) None log = ⊥
@@ -178,12 +179,12 @@ HasTurn now (Some before) (Some after) log = IsTurnSaid now before after log
 abbrev pub IsTextPut : List ℕ → (before after : Courier) → Type 0
 IsTextPut text before after = after ≡ with_text text before
 
--- nothing was done but that texts were put, or counted where there was no memory for them
+-- nothing was done except that texts were put, or counted if there was no memory for them
 abbrev pub IsFilled : (before after : Courier) → Type 0
 IsFilled before after = (texts : List (List ℕ)) × Chain (OrLost IsTextPut) texts before after
 
 -- What delivers had a turn at each of these times, the newest first. Before a turn nothing was done
--- but that texts were put.
+-- except that texts were put.
 abbrev pub AreTurns : List ℕ → (before after : Option Courier) → Type 0
 AreTurns [] before after = after ≡ before
 AreTurns (now ∷ earlier) before after = (between filled : Option Courier) × (log : List AtHost)

@@ -28,7 +28,8 @@ use Rattle.mon_udp.specs.declared.addr.Addr.{Addr}
 -- says.
 abbrev pub IsHttpAddress : Option (List ℕ) → Result (Option Addr) Failure → Type 0
 IsHttpAddress None result = result ≡ Ok None
-IsHttpAddress (Some text) (Ok http_at) = (at : Addr) × (addr_of text ≡ Some at) × (http_at ≡ Some at)
+IsHttpAddress (Some text) (Ok http_at) = (at : Addr) × (addr_of text ≡ Some at)
+    × (http_at ≡ Some at)
 IsHttpAddress (Some text) (Err failure) = (addr_of text ≡ None)
     × IsOfText text (codes "an address, a.b.c.d:port,") failure
 

@@ -13,7 +13,8 @@ use Rattle.mon_settings.specs.declared.station.StationSettings.{StationSettings}
 use Rattle.mon_station.specs.State.{State}
 use Rattle.mon_station_commands.specs.Checking.{IsCheck}
 use Rattle.mon_station_commands.specs.Notifying.{IsCourier}
-use Rattle.mon_station_commands.specs.Places.{IsHttpAddress, IsNoSocket, IsShownOpened, IsUnseenOpened}
+use Rattle.mon_station_commands.specs.Places.{IsHttpAddress, IsNoSocket, IsShownOpened}
+use Rattle.mon_station_commands.specs.Places.{IsUnseenOpened}
 use Rattle.mon_station_commands.specs.Rounds.{IsRun, nothing_kept}
 use Rattle.mon_file_commands.specs.Steps.{OrMemory}
 use Rattle.mon_station_commands.specs.Steps.{SomeOr}

@@ -1,5 +1,39 @@
 -- What a running station says of troubles that begin or end.
-use Rattle.std.specs.Prelude.{◌≡◌, ◌≢◌, ◌+◌, ◌^◌, ◌-◌, ◌==◌, ◌&&◌, ℕ, zero, suc, min, nat_lt, Bool, true, false, if◌then◌else◌, List, [], ◌∷◌, ◌++◌, length, map, Option, Some, None, Result, Ok, Err, codes, decimal, slice_get, string_bytes, take}
+use Rattle.std.specs.Prelude.{
+  ◌≡◌,
+  ◌≢◌,
+  ◌+◌,
+  ◌^◌,
+  ◌-◌,
+  ◌==◌,
+  ◌&&◌,
+  ℕ,
+  zero,
+  suc,
+  min,
+  nat_lt,
+  Bool,
+  true,
+  false,
+  if◌then◌else◌,
+  List,
+  [],
+  ◌∷◌,
+  ◌++◌,
+  length,
+  map,
+  Option,
+  Some,
+  None,
+  Result,
+  Ok,
+  Err,
+  codes,
+  decimal,
+  slice_get,
+  string_bytes,
+  take,
+}
 use Rattle.std.specs.List.{list_any}
 use Rattle.std.specs.Option.{option_and_then}
 use Rattle.std.specs.Str.{bytes_eq}

@@ -440,7 +440,7 @@ pub(crate) fn run_span<H: Host, S: Shows<Snapshot> + Drop, O: Outbox + Drop>(
         (state_of live.new.station.life).board (map (λ w. w.items) live.old.course.windows.items)
         live.old.course.announcer)
         number (is_round span) live.old.kept live.new.kept log result) (H.log host.old) (H.log host.new) }
-    // Of notifications nothing is done but that texts are put for the receiver.
+    // Of notifications nothing is done except that texts are put for the receiver.
     ensures texts { IfCarried IsFilled live.old.courier live.new.courier }
     ensures printing { live.new.reports.printing ≡ live.old.reports.printing }
     ensures paths { live.new.reports.paths ≡ live.old.reports.paths }
