@@ -393,5 +393,5 @@ PROMISES = {
     "datagrams_have_http_wait": "receiver::WebReceiver::look",
     "renews_by_no_clock": "receiver::WebReceiver::begin",
     "a_failure_is_the_end_of_a_wait": "receiver::WebReceiver::receive_rest",
-    "shows_nothing": "receiver::WebReceiverWebShows::show",
+    "shows_nothing": "receiver::WebReceiverServerShows::show",
 }
