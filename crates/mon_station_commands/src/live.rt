@@ -655,19 +655,20 @@ fn tell_alarm_changes<H: Host, S: Receiver + Drop, O: Outbox + Drop>(
 {
     let board = live.station.board();
     let changes = live.course.take_changes(alloc, board, looks)?;
+    let look = Look {
+        board,
+        printing: &live.reports.printing,
+        seen: seen_at(live.reports.station, live.date),
+    };
+    // First, so that each is put also if there is no memory for a line.
+    let put = notify_alarms(alloc, &mut live.courier, look, changes.as_slice());
     let alarms = Alarms {
         board,
         printing: &live.reports.printing,
         round: Some(number),
     };
     tell_alarms(alloc, host, alarms, changes.as_slice())?;
-    let look = Look {
-        board,
-        printing: &live.reports.printing,
-        seen: seen_at(live.reports.station, live.date),
-    };
-    notify_alarms(alloc, &mut live.courier, look, changes.as_slice())?;
-    Ok(())
+    Ok(put?)
 }
 
 /// Prints the troubles that begin or end, after a round.
@@ -741,15 +742,16 @@ fn report_troubles<H: Host, S: Receiver + Drop, O: Outbox + Drop>(
         board,
         printing,
     };
-    say_troubles(alloc, host, facts, number, changes.as_slice())?;
     let look = Look {
         board,
         printing,
         seen: seen_at(live.reports.station, live.date),
     };
     let targets = facts.freshness.targets();
-    notify_devices(alloc, &mut live.courier, targets, look, changes.as_slice())?;
-    Ok(())
+    // First, so that each is put also if there is no memory for a line.
+    let put = notify_devices(alloc, &mut live.courier, targets, look, changes.as_slice());
+    say_troubles(alloc, host, facts, number, changes.as_slice())?;
+    Ok(put?)
 }
 
 /// Returns why the save of a report's round failed, if it did.

@@ -800,13 +800,13 @@ BUGS = {
     ),
     "alarms_are_said_and_not_notified": (
         "src/live.rt",
-        "    notify_alarms(alloc, &mut live.courier, look, changes.as_slice())?;\n",
-        "    let _ = look;\n",
+        "    let put = notify_alarms(alloc, &mut live.courier, look, changes.as_slice());\n",
+        "    let _ = look;\n    let put: Result<(), AllocError> = Ok(());\n",
     ),
     "devices_are_said_and_not_notified": (
         "src/live.rt",
-        "    notify_devices(alloc, &mut live.courier, targets, look, changes.as_slice())?;\n",
-        "    let _ = (look, targets);\n",
+        "    let put = notify_devices(alloc, &mut live.courier, targets, look, changes.as_slice());\n",
+        "    let _ = (look, targets);\n    let put: Result<(), AllocError> = Ok(());\n",
     ),
 }
 

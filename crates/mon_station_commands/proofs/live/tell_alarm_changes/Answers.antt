@@ -29,13 +29,13 @@ returns-in_err-tell_alarms-clause-said g c =
     let seen = map (λ w. w.items) live.course.windows.items in
     let announcer = live.course.announcer in
     let board = (state_of live.station.life).board in
-    let changes = c.as_slice.ensures.value ∙ (c.in_ok-changes.ensures.changes ∙ ap (λ (b : Board). announced_of c.args.looks (changes_since b seen) announcer) c.board-board.ensures) in
+    let changes = c.as_slice-2.ensures.value ∙ (c.in_ok-changes.ensures.changes ∙ ap (λ (b : Board). announced_of c.args.looks (changes_since b seen) announcer) c.board-board.ensures) in
     let r = c.from_residual-in_err-tell_alarms in
     half_alarmed (announced_notes printing c.args.number board seen announcer c.args.looks) c.tell_alarms.result r.result start end r.ensures.1
     (subst (λ (lines : List (Level × List ℕ)). GoesOnBy (λ log. AreSaid lines log c.tell_alarms.result) start end) (λ i. map (alarm_note (Some c.args.number) printing (c.board-board.ensures i)) (changes i)) c.tell_alarms.ensures)
 
-pub returns-in_err-notify_alarms-clause-said : goal.returns-in_err-notify_alarms-clause-said
-returns-in_err-notify_alarms-clause-said g c =
+pub returns-in_err-put-clause-said : goal.returns-in_err-put-clause-said
+returns-in_err-put-clause-said g c =
     let live = c.args.live.now in
     let start = g.H.Host.log c.args.host.now in
     let end = g.H.Host.log c.tell_alarms.new.host in
@@ -43,8 +43,8 @@ returns-in_err-notify_alarms-clause-said g c =
     let seen = map (λ w. w.items) live.course.windows.items in
     let announcer = live.course.announcer in
     let board = (state_of live.station.life).board in
-    let changes = c.as_slice.ensures.value ∙ (c.in_ok-changes.ensures.changes ∙ ap (λ (b : Board). announced_of c.args.looks (changes_since b seen) announcer) c.board-board.ensures) in
-    let r = c.from_residual-in_err-notify_alarms in
+    let changes = c.as_slice-2.ensures.value ∙ (c.in_ok-changes.ensures.changes ∙ ap (λ (b : Board). announced_of c.args.looks (changes_since b seen) announcer) c.board-board.ensures) in
+    let r = c.from_residual-in_err-put in
     let told : Result Unit AllocError = Ok c.in_ok-tell_alarms.field-0 in
     half_alarmed (announced_notes printing c.args.number board seen announcer c.args.looks) told r.result start end r.ensures.1
     (subst (λ (lines : List (Level × List ℕ)). GoesOnBy (λ log. AreSaid lines log told) start end) (λ i. map (alarm_note (Some c.args.number) printing (c.board-board.ensures i)) (changes i)) c.in_ok-tell_alarms.ensures)
@@ -57,12 +57,12 @@ returns-clause-notified g c =
     let at = c.seen_at.result in
     let printing = live.reports.printing in
     let before = live.courier in
-    let after = c.notify_alarms.new.courier in
-    let changes = c.as_slice-2.ensures.value ∙ (c.in_ok-changes.ensures.changes ∙ ap (λ (b : Board). announced_of c.args.looks (changes_since b seen) announcer) c.board-board.ensures) in (
+    let after = c.notify_alarms-put.new.courier in
+    let changes = c.as_slice.ensures.value ∙ (c.in_ok-changes.ensures.changes ∙ ap (λ (b : Board). announced_of c.args.looks (changes_since b seen) announcer) c.board-board.ensures) in (
       at,
       c.seen_at.ensures,
       subst (λ (b : Board). IfCarried (Chain (IsAlarmPut printing b at) (announced_of c.args.looks (changes_since (state_of live.station.life).board seen) announcer)) before after) c.board-board.ensures
-          (subst (λ (cs : List AlarmChange). IfCarried (Chain (IsAlarmPut printing c.board-board.result.now at) cs) before after) changes c.in_ok-notify_alarms.ensures.all),
+          (subst (λ (cs : List AlarmChange). IfCarried (Chain (IsAlarmPut printing c.board-board.result.now at) cs) before after) changes c.in_ok-put.ensures.all),
     )
 
 pub returns-clause-said : goal.returns-clause-said
@@ -74,7 +74,7 @@ returns-clause-said g c =
     let seen = map (λ w. w.items) live.course.windows.items in
     let announcer = live.course.announcer in
     let board = (state_of live.station.life).board in
-    let changes = c.as_slice.ensures.value ∙ (c.in_ok-changes.ensures.changes ∙ ap (λ (b : Board). announced_of c.args.looks (changes_since b seen) announcer) c.board-board.ensures) in
+    let changes = c.as_slice-2.ensures.value ∙ (c.in_ok-changes.ensures.changes ∙ ap (λ (b : Board). announced_of c.args.looks (changes_since b seen) announcer) c.board-board.ensures) in
     alarmed (announced_notes printing c.args.number board seen announcer c.args.looks) c.in_ok-tell_alarms.field-0 start end
     (subst (λ (lines : List (Level × List ℕ)). GoesOnBy (λ log. AreSaid lines log (let r : Result Unit AllocError = Ok c.in_ok-tell_alarms.field-0 in r)) start end)
     (λ i. map (alarm_note (Some c.args.number) printing (c.board-board.ensures i)) (changes i)) c.in_ok-tell_alarms.ensures)
@@ -85,14 +85,15 @@ returns-in_err-changes-clause-texts g c =
 
 pub returns-in_err-tell_alarms-clause-texts : goal.returns-in_err-tell_alarms-clause-texts
 returns-in_err-tell_alarms-clause-texts g c =
-    unfilled c.args.live.now.courier
+    alarms_fill c.args.live.now.reports.printing c.board-board.result.now c.seen_at.result c.as_slice.result.now c.args.live.now.courier c.notify_alarms-put.new.courier
+    c.notify_alarms-put.ensures.each
 
-pub returns-in_err-notify_alarms-clause-texts : goal.returns-in_err-notify_alarms-clause-texts
-returns-in_err-notify_alarms-clause-texts g c =
-    alarms_fill c.args.live.now.reports.printing c.board-board.result.now c.seen_at.result c.as_slice-2.result.now c.args.live.now.courier c.notify_alarms.new.courier
-    c.notify_alarms.ensures.each
+pub returns-in_err-put-clause-texts : goal.returns-in_err-put-clause-texts
+returns-in_err-put-clause-texts g c =
+    alarms_fill c.args.live.now.reports.printing c.board-board.result.now c.seen_at.result c.as_slice.result.now c.args.live.now.courier c.notify_alarms-put.new.courier
+    c.notify_alarms-put.ensures.each
 
 pub returns-clause-texts : goal.returns-clause-texts
 returns-clause-texts g c =
-    alarms_fill c.args.live.now.reports.printing c.board-board.result.now c.seen_at.result c.as_slice-2.result.now c.args.live.now.courier c.notify_alarms.new.courier
-    c.notify_alarms.ensures.each
+    alarms_fill c.args.live.now.reports.printing c.board-board.result.now c.seen_at.result c.as_slice.result.now c.args.live.now.courier c.notify_alarms-put.new.courier
+    c.notify_alarms-put.ensures.each
