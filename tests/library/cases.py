@@ -5,7 +5,7 @@ finds there, and takes nothing for granted that another case did.
 
     tests/SCRIPT [--program FILE] [--list] [--jobs N] [--leave-out WORD].. [CASE | WORD]..
 
-A case that rests on time tells nothing if it fails while the machine stood still, as where another guest of its host
+A case that rests on time tells nothing if it fails while the machine paused, as where another guest of its host
 had the processors: it is tried again, and left out, which is said, if that was so each time.
 
 A CASE is a case's whole name. A WORD is a group, as `help` of `help/settings`, or else a part of names: all cases that
@@ -86,7 +86,7 @@ with open(sys.argv[1], "w", buffering=1) as file:
 
 
 class Stalls:
-    """When the machine stood still, as a process of its own sees it."""
+    """When the machine paused, as a process of its own sees it."""
 
     def __enter__(self):
         self.file = tempfile.NamedTemporaryFile("r")
@@ -99,7 +99,7 @@ class Stalls:
         self.file.close()
 
     def since(self, started):
-        """How long it stood still in all, and at once, in seconds."""
+        """How long it paused in all, and at once, in seconds."""
         late = [float(line.split()[1]) for line in Path(self.file.name).read_text().splitlines() if float(line.split()[0]) >= started]
         return sum(late), max(late, default=0)
 
@@ -180,16 +180,16 @@ def tried_once(case, words):
 
 
 def tried(case, words, stalls=None):
-    """What a case found, and says what does not hold. With `stalls` it is tried again where the machine stood still."""
+    """What a case found, and says what does not hold. With `stalls` it is tried again where the machine paused."""
     for _ in range(TURNS):
         started = time.monotonic()
         checks = tried_once(case, words)
         still, longest = stalls.since(started) if stalls else (0, 0)
         if not checks.failed or (longest < 0.05 and still < 0.01 * (time.monotonic() - started)):
             break
-        say(f"busy: {case.name}: the machine stood still for {still:.2f} s in all, {longest:.2f} s at once; " + "; ".join(it[:200] for it in checks.faults))
+        say(f"busy: {case.name}: the machine paused for {still:.2f} s in all, {longest:.2f} s at once; " + "; ".join(it[:200] for it in checks.faults))
     else:
-        say(f"left out: {case.name}: the machine stood still each time")
+        say(f"left out: {case.name}: the machine paused each time")
         return Checks(case.name)
     for fault in checks.faults:
         say(f"failed: {fault}")

@@ -335,17 +335,17 @@ ended_as : (P Q : List Binding → Type 0) (all other part : List Binding) → (
 ended_as P Q all other part since is (inl whole) = inl (whole ∙ is)
 ended_as P Q all other part since is (inr cut) = inr (record { next = cut.next; rest = cut.rest; whole = sym is ∙ cut.whole; full = λ fits. cut.full (since (part ++ cut.next ∷ []) fits) })
 
-pub bulk_answered : (k : Known) (sees : List ℕ → Type 0) (plan : BulkPlan) (f : BulkFrame) (asked : List Binding) (names : List (List ℕ)) (list : List ℕ) (limit : ℤ)
+pub bulk_answered : (k : Known) (sees : List ℕ → Type 0) (plan : BulkPlan) (f : BulkFrame) (asked : List Binding) (names : List (List ℕ)) (list : List ℕ) (max_message_size : ℤ)
     → plan.once ≡ count_of f.non_repeaters → plan.rounds ≡ count_of f.max_repetitions
-    → ((asked bindings : List Binding) → framed plan.head bindings ≡ answered (bulk_framed f asked) bindings) → plan.limit ≡ count_of limit → names ≡ names_of asked
+    → ((asked bindings : List Binding) → framed plan.head bindings ≡ answered (bulk_framed f asked) bindings) → plan.max_message_size ≡ count_of max_message_size → names ≡ names_of asked
     → ((m : Message) (bindings more : List Binding) → length (written_message (with_bindings m bindings)) ≤ length (written_message (with_bindings m (bindings ++ more))))
     → (filled : IsFilled k sees (FitsIn plan) (λ next. map next (take plan.once names) ++ rounds next plan.rounds (drop plan.once names)) list)
-    → IsWithinLimit limit (answered (bulk_framed f asked) filled.reply)
+    → IsWithinLimit max_message_size (answered (bulk_framed f asked) filled.reply)
     → (next : List ℕ → Binding) → IsStepper k sees next
-    → IsLongestPart (λ bindings. IsWithinLimit limit (answered (bulk_framed f asked) bindings)) (full_list next f.non_repeaters f.max_repetitions asked) filled.reply
-bulk_answered k sees plan f asked names list limit once many head most named grows filled within next steps =
+    → IsLongestPart (λ bindings. IsWithinLimit max_message_size (answered (bulk_framed f asked) bindings)) (full_list next f.non_repeaters f.max_repetitions asked) filled.reply
+bulk_answered k sees plan f asked names list max_message_size once many head most named grows filled within next steps =
     let m = bulk_framed f asked in
-    let fits : List Binding → Type 0 = λ bindings. IsWithinLimit limit (answered m bindings) in
+    let fits : List Binding → Type 0 = λ bindings. IsWithinLimit max_message_size (answered m bindings) in
     longest fits (λ bindings more small. omega (arith, grows (answered m []) bindings more, small)) (full_list next f.non_repeaters f.max_repetitions asked) filled.reply (inr within)
     (ended_as (FitsIn plan) fits _ (full_list next f.non_repeaters f.max_repetitions asked) filled.reply
     (λ bindings small. omega (arith, ap (λ t. length (written_message t)) (head asked bindings), most, small))

@@ -100,7 +100,7 @@ module _ {D : Type 0} (held : D → Held) (failed : D → ℕ) (refuses : D → 
   -- a response that is written answers a request to read
   pub read_answered : (device : D) (m : Message) (view : List ℕ) (answers : List Binding) (octets : Vec ℕ) → need_of m.body ≡ Read → is_request m.body ≡ true
       → access_of policy m.community Read ≡ Ok view → AreAnswers k (IsInView policy.families view) m m.body answers
-      → octets.items ≡ written_message (answered m answers) → length octets.items ≤ count_of k.settings.limit
+      → octets.items ≡ written_message (answered m answers) → length octets.items ≤ count_of k.settings.max_message_size
       → IsAnswered held failed refuses policy k device device m (Send octets)
   read_answered device m view answers octets need request access right written within =
       let may : access_of policy m.community (need_of m.body) ≡ Ok view = ap (access_of policy m.community) need ∙ access in
@@ -114,7 +114,7 @@ module _ {D : Type 0} (held : D → Held) (failed : D → ℕ) (refuses : D → 
             may,
             subst (λ n. IsGranted held failed refuses n k (IsInView policy.families view) device device m reply) (sym need) (refl, (answers, right, refl)),
           ),
-          inl (subst (λ (o : List ℕ). length o ≤ count_of k.settings.limit) written within, written),
+          inl (subst (λ (o : List ℕ). length o ≤ count_of k.settings.max_message_size) written within, written),
         ),
       )
 

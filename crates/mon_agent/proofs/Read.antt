@@ -36,16 +36,16 @@ above : (n m : ℕ) → ¬ (n ≤ m) → m < n
 above n m not_within = grind (arith, not_within)
 
 -- a response whose beginning does not fit with what comes next is above the limit
-pub cut_above : (limit : ℤ) (head : Message) (all part : List Binding)
+pub cut_above : (max_message_size : ℤ) (head : Message) (all part : List Binding)
     → ((m : Message) (bindings more : List Binding)
     → length (written_message (with_bindings m bindings)) ≤ length (written_message (with_bindings m (bindings ++ more))))
-    → IsCut (λ bindings. IsWithinLimit limit (with_bindings head bindings)) all part → IsAboveLimit limit (with_bindings head all)
-cut_above limit head all part grows cut =
+    → IsCut (λ bindings. IsWithinLimit max_message_size (with_bindings head bindings)) all part → IsAboveLimit max_message_size (with_bindings head all)
+cut_above max_message_size head all part grows cut =
     let short = part ++ cut.next ∷ [] in
     let whole : all ≡ short ++ cut.rest = cut.whole ∙ sym (append_assoc part (cut.next ∷ []) cut.rest) in
-    let lt : count_of limit < length (written_message (with_bindings head short)) =
-    above (length (written_message (with_bindings head short))) (count_of limit) cut.full in
-    subst (λ l. IsAboveLimit limit (with_bindings head l)) (sym whole) (omega (arith, lt, grows head short cut.rest))
+    let lt : count_of max_message_size < length (written_message (with_bindings head short)) =
+    above (length (written_message (with_bindings head short))) (count_of max_message_size) cut.full in
+    subst (λ l. IsAboveLimit max_message_size (with_bindings head l)) (sym whole) (omega (arith, lt, grows head short cut.rest))
 
 first_same : (body : Body) (a b : List Binding) → first_of (body_with body a) ≡ first_of (body_with body b)
 first_same (bodies.Pdu p) a b = refl
@@ -56,11 +56,11 @@ pub same_head : (head : Message) (a b : List Binding) → too_big (with_bindings
 same_head head a b =
     ap (λ n. (let m : Message = record { community = head.community; body = response_body n (pos 1) (pos 0) [] } in m)) (first_same head.body a b)
 
-module _ {E : Type 0} (limit : ℤ) (R : List ℕ → Binding → Type 0) (head : Message) (next : List ℕ → Binding) (asked : List Binding)
+module _ {E : Type 0} (max_message_size : ℤ) (R : List ℕ → Binding → Type 0) (head : Message) (next : List ℕ → Binding) (asked : List Binding)
     (each : (name : List ℕ) → R name (next name)) where
-  pub sent_for : (m : Message) (r : Result Reply E) → m ≡ with_bindings head (map next (names_of asked)) → IfOk r (IsOut limit m m)
-      → IfOk r (IsSentFor limit R head asked)
-  sent_for m r is out = if_ok r (λ x gone. (map next (names_of asked), for_all R next each asked, subst (λ q. IsOut limit q q x) is gone)) out
+  pub sent_for : (m : Message) (r : Result Reply E) → m ≡ with_bindings head (map next (names_of asked)) → IfOk r (IsOut max_message_size m m)
+      → IfOk r (IsSentFor max_message_size R head asked)
+  sent_for m r is out = if_ok r (λ x gone. (map next (names_of asked), for_all R next each asked, subst (λ q. IsOut max_message_size q q x) is gone)) out
 
 -- of the requests to read that only have names, one that is no Get is a GetNext
 pub of_kind : (k : Known) (sees : List ℕ → Type 0) (kind : PduKind) (asked answers : List Binding) → is_answered kind ≡ true
@@ -77,10 +77,10 @@ of_kind k sees kinds.Report asked answers request read other each = absurd cc
 pub read_out : {E : Type 0} (k : Known) (sees : List ℕ → Type 0) (community : List ℕ) (p : Pdu) (R : List ℕ → Binding → Type 0) (head : Message)
     (asked : List Binding) (r : Result Reply E) → head ≡ answered (record { community = community; body = bodies.Pdu p }) []
     → asked ≡ p.bindings → ((answers : List Binding) → AreFor R p.bindings answers → IsOfKind k sees p.kind p.bindings answers)
-    → IfOk r (IsSentFor k.settings.limit R head asked) → IfOk r (IsReadOut k sees (record { community = community; body = bodies.Pdu p }))
+    → IfOk r (IsSentFor k.settings.max_message_size R head asked) → IfOk r (IsReadOut k sees (record { community = community; body = bodies.Pdu p }))
 read_out k sees community p R head asked r is same kind out = if_ok r (λ x sent. (
   answered (record { community = community; body = bodies.Pdu p }) sent.0,
   (sent.0, kind sent.0 (subst (λ a. AreFor R a sent.0) same sent.1), refl),
   refl,
-  subst (λ (h : Message). IsOut k.settings.limit (with_bindings h sent.0) (with_bindings h sent.0) x) is sent.2,
+  subst (λ (h : Message). IsOut k.settings.max_message_size (with_bindings h sent.0) (with_bindings h sent.0) x) is sent.2,
 )) out

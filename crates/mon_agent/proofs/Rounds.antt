@@ -17,15 +17,15 @@ pub moved : {D : Type 0} {s t : Sought D} (held : D → Held) (next : List ℕ �
 moved {D} {s} {t} held next same steps = subst (λ (u : Sought D). IsStepper (known_in held u) (IsSeenIn u) next) (sym same) steps
 
 -- an equal head and limit leave equal space
-pub fits_same : (g h : Grown) (bindings : List Binding) → h.head ≡ g.head → h.limit ≡ g.limit → FitsWith h bindings → FitsWith g bindings
-fits_same g h bindings head limit fits = rw (sym head, sym limit) fits
+pub fits_same : (g h : Grown) (bindings : List Binding) → h.head ≡ g.head → h.max_message_size ≡ g.max_message_size → FitsWith h bindings → FitsWith g bindings
+fits_same g h bindings head max_message_size fits = rw (sym head, sym max_message_size) fits
 
-pub cut_same : (g h : Grown) (all part : List Binding) → h.head ≡ g.head → h.limit ≡ g.limit → IsCut (FitsWith h) all part → IsCut (FitsWith g) all part
-cut_same g h all part head limit cut = record {
+pub cut_same : (g h : Grown) (all part : List Binding) → h.head ≡ g.head → h.max_message_size ≡ g.max_message_size → IsCut (FitsWith h) all part → IsCut (FitsWith g) all part
+cut_same g h all part head max_message_size cut = record {
   next = cut.next;
   rest = cut.rest;
   whole = cut.whole;
-  full = λ fits. cut.full (rw (head, limit) fits);
+  full = λ fits. cut.full (rw (head, max_message_size) fits);
 }
 
 abbrev nothing : List Binding
@@ -257,9 +257,9 @@ module _ (next : List ℕ → Binding) (fits : List Binding → Type 0) (non_rep
       sym (goes_on next middle (answers next repeated) m (length repeated) (length-answers next repeated)) ∙ whole m middle some is in
       subst (λ l. IsEnded fits l part) to (subst (λ l. IsEnded fits (l ++ more_rounds next m (last (length repeated) l)) part) put ended)
 
-pub ended_same : (g h : Grown) (all part : List Binding) → h.head ≡ g.head → h.limit ≡ g.limit → IsEnded (FitsWith h) all part → IsEnded (FitsWith g) all part
-ended_same g h all part head limit (inl is) = inl is
-ended_same g h all part head limit (inr cut) = inr (cut_same g h all part head limit cut)
+pub ended_same : (g h : Grown) (all part : List Binding) → h.head ≡ g.head → h.max_message_size ≡ g.max_message_size → IsEnded (FitsWith h) all part → IsEnded (FitsWith g) all part
+ended_same g h all part head max_message_size (inl is) = inl is
+ended_same g h all part head max_message_size (inr cut) = inr (cut_same g h all part head max_message_size cut)
 
 pub above_zero : (n : ℕ) → (n ≡ 0 → ⊥) → n ≡ suc (n - 1)
 above_zero n some = omega (arith, some)

@@ -55,16 +55,16 @@ unfolding written_message element
 longer m = omega (arith, length-append (0x30 ∷ length_octets (length (message_contents m))) (message_contents m))
 
 -- what needs a length of more than 4 octets is within no limit
-pub too_long : (m : Message) (limit : ℤ) → count_of limit < 2 ^ 31 → 2 ^ 32 ≤ length (message_contents m) → IsWithinLimit limit m → ⊥
-too_long m limit small le fits = omega (arith, longer m, small, le, fits)
+pub too_long : (m : Message) (max_message_size : ℤ) → count_of max_message_size < 2 ^ 31 → 2 ^ 32 ≤ length (message_contents m) → IsWithinLimit max_message_size m → ⊥
+too_long m max_message_size small le fits = omega (arith, longer m, small, le, fits)
 
 -- what is sent of a response only depends on its request by community and request-id
-sent_of : (m reply : Message) (limit : ℤ) (octets : List ℕ) → too_big reply ≡ too_big m → IsSent limit reply reply octets → IsSent limit m reply octets
-sent_of m reply limit octets same (inl sent) = inl sent
-sent_of m reply limit octets same (inr sent) = inr (sent.0, subst (λ t. IsWithinLimit limit t) same sent.1, sent.2 ∙ ap written_message same)
+sent_of : (m reply : Message) (max_message_size : ℤ) (octets : List ℕ) → too_big reply ≡ too_big m → IsSent max_message_size reply reply octets → IsSent max_message_size m reply octets
+sent_of m reply max_message_size octets same (inl sent) = inl sent
+sent_of m reply max_message_size octets same (inr sent) = inr (sent.0, subst (λ t. IsWithinLimit max_message_size t) same sent.1, sent.2 ∙ ap written_message same)
 
-dropped_of : (m reply : Message) (limit : ℤ) → too_big reply ≡ too_big m → IsDropped limit reply reply → IsDropped limit m reply
-dropped_of m reply limit same dropped = (dropped.0, subst (λ t. IsAboveLimit limit t) same dropped.1)
+dropped_of : (m reply : Message) (max_message_size : ℤ) → too_big reply ≡ too_big m → IsDropped max_message_size reply reply → IsDropped max_message_size m reply
+dropped_of m reply max_message_size same dropped = (dropped.0, subst (λ t. IsAboveLimit max_message_size t) same dropped.1)
 
 -- what is granted to write is a request
 kind_answers : (kind : PduKind) → need_of_kind kind ≡ Write → is_answered kind ≡ true
@@ -86,12 +86,12 @@ known_view policy m view access unknown = absurd cc
 module _ {D : Type 0} (held : D → Held) (failed : D → ℕ) (refuses : D → Change → Type 0) (policy : PolicyTables) (k : Known) where
   -- what becomes of a response answers its request
   pub out_answers : (before after : D) (m reply : Message) (r : Reply) → IsKnown policy m → is_request m.body ≡ true
-      → IsResponseTo held failed refuses policy k before after m reply → too_big reply ≡ too_big m → IsOut k.settings.limit reply reply r
+      → IsResponseTo held failed refuses policy k before after m reply → too_big reply ≡ too_big m → IsOut k.settings.max_message_size reply reply r
       → IsAnswered held failed refuses policy k before after m r
   out_answers before after m reply (Send octets) known request right same out =
-      (known, request, (reply, right, sent_of m reply k.settings.limit octets.items same out))
+      (known, request, (reply, right, sent_of m reply k.settings.max_message_size octets.items same out))
   out_answers before after m reply (Silent TooBigTwice) known request right same out =
-      (known, request, (reply, right, dropped_of m reply k.settings.limit same out))
+      (known, request, (reply, right, dropped_of m reply k.settings.max_message_size same out))
   out_answers before after m reply (Silent BadMessage) known request right same out = absurd out
   out_answers before after m reply (Silent BadVersion) known request right same out = absurd out
   out_answers before after m reply (Silent BadCommunity) known request right same out = absurd out
@@ -119,11 +119,11 @@ module _ {D : Type 0} (held : D → Held) (failed : D → ℕ) (refuses : D → 
   silent_ready device m TooBigTwice is = absurd is
 
   -- a request that is denied
-  pub denied_ready : (device : D) (m reply : Message) (why : Denied) (limit : ℤ) (sent : Result Reply AllocError) → IsKnown policy m
+  pub denied_ready : (device : D) (m reply : Message) (why : Denied) (max_message_size : ℤ) (sent : Result Reply AllocError) → IsKnown policy m
       → is_request m.body ≡ true → access_of policy m.community (need_of m.body) ≡ Err why → reply ≡ returned m (pos 16) (pos 0)
-      → limit ≡ k.settings.limit → IfOk sent (IsOut limit reply reply) → IfOk sent (λ r. IsReadyFor held failed refuses policy k device m (Answer r))
-  denied_ready device m reply why limit (Err e) known request access told is out = tt
-  denied_ready device m reply why limit (Ok r) known request access told is out =
+      → max_message_size ≡ k.settings.max_message_size → IfOk sent (IsOut max_message_size reply reply) → IfOk sent (λ r. IsReadyFor held failed refuses policy k device m (Answer r))
+  denied_ready device m reply why max_message_size (Err e) known request access told is out = tt
+  denied_ready device m reply why max_message_size (Ok r) known request access told is out =
       out_answers device device m reply r known request (inl (why, (λ e. known (access ∙ ap Err e)), access, refl, told)) (ap too_big told)
       (subst (λ (z : ℤ). IsOut z reply reply r) is out)
 
@@ -150,7 +150,7 @@ module _ {D : Type 0} (held : D → Held) (failed : D → ℕ) (refuses : D → 
       let reply = returned m (status_of outcome) (pos (place_of outcome)) in
       let is : octets.items ≡ written_message reply =
       written ∙ ap (λ (r : Message). written_message (returned r (status_of outcome) (pos (place_of outcome)))) to.planned.is in
-      let fits : IsWithinLimit k.settings.limit reply =
+      let fits : IsWithinLimit k.settings.max_message_size reply =
       omega (arith, ap length is, shorter, ap (λ (r : Message). length (written_message r)) to.planned.is, to.planned.fits) in
       let granted : IsGranted held failed refuses Write k (IsInView policy.families to.view) before after m reply = inr (inr (record {
         steps = a.plan;
@@ -179,7 +179,7 @@ module _ {D : Type 0} (held : D → Held) (failed : D → ℕ) (refuses : D → 
   pub refused_ready : (device : D) (sees : List ℕ → Type 0) (m response : Message) (fault : SetFault) (r : Reply)
       → ((status : SetStatus) (index : ℕ) → index ≤ length (bindings_of m.body)
       → length (written_message (returned (greatest m) (status_number status) (pos index))) ≤ length (written_message (greatest m)))
-      → response ≡ greatest m → IsWithinLimit k.settings.limit (greatest m) → IsSetFault k sees (bindings_of m.body) fault → IsReturned response fault r
+      → response ≡ greatest m → IsWithinLimit k.settings.max_message_size (greatest m) → IsSetFault k sees (bindings_of m.body) fault → IsReturned response fault r
       → IsReadyToSet held failed refuses k sees device m (Answer r)
   refused_ready device sees m response OutOfMemory r shorter is fits refused given = absurd given
   refused_ready device sees m response (Refused status index) (Silent cause) shorter is fits refused given = absurd given
@@ -196,16 +196,16 @@ module _ {D : Type 0} (held : D → Held) (failed : D → ℕ) (refuses : D → 
       )
 
 -- what is sent of a response that is within the limit, and of tooBig where the response is above it
-pub sent_within : (limit : ℤ) (m : Message) (sent : Result Reply AllocError) → IsWithinLimit limit m → IfOk sent (IsSending m) → IfOk sent (IsOut limit m m)
-sent_within limit m (Err e) fits is = tt
-sent_within limit m (Ok (Send octets)) fits is = inl (fits, is)
-sent_within limit m (Ok (Silent cause)) fits is = absurd is
+pub sent_within : (max_message_size : ℤ) (m : Message) (sent : Result Reply AllocError) → IsWithinLimit max_message_size m → IfOk sent (IsSending m) → IfOk sent (IsOut max_message_size m m)
+sent_within max_message_size m (Err e) fits is = tt
+sent_within max_message_size m (Ok (Send octets)) fits is = inl (fits, is)
+sent_within max_message_size m (Ok (Silent cause)) fits is = absurd is
 
-pub sent_too_big : (limit : ℤ) (m other : Message) (sent : Result Reply AllocError) → m ≡ too_big other → IsAboveLimit limit other
-    → IsWithinLimit limit m → IfOk sent (IsSending m) → IfOk sent (IsOut limit other other)
-sent_too_big limit m other (Err e) same above fits is = tt
-sent_too_big limit m other (Ok (Send octets)) same above fits is = inr (above, subst (IsWithinLimit limit) same fits, is ∙ ap written_message same)
-sent_too_big limit m other (Ok (Silent cause)) same above fits is = absurd is
+pub sent_too_big : (max_message_size : ℤ) (m other : Message) (sent : Result Reply AllocError) → m ≡ too_big other → IsAboveLimit max_message_size other
+    → IsWithinLimit max_message_size m → IfOk sent (IsSending m) → IfOk sent (IsOut max_message_size other other)
+sent_too_big max_message_size m other (Err e) same above fits is = tt
+sent_too_big max_message_size m other (Ok (Send octets)) same above fits is = inr (above, subst (IsWithinLimit max_message_size) same fits, is ∙ ap written_message same)
+sent_too_big max_message_size m other (Ok (Silent cause)) same above fits is = absurd is
 
 -- what is sent for a refused Set
 pub returned_with : (m reply : Message) (status : SetStatus) (index : ℕ) (sent : Result Reply AllocError)
@@ -226,21 +226,21 @@ roomy_with (Err e) result is = subst (λ (x : Result Ready AgentFault). IfOk x I
 
 module _ {D : Type 0} (held : D → Held) (failed : D → ℕ) (refuses : D → Change → Type 0) (k : Known) (device : D) (sees : List ℕ → Type 0) (m : Message) where
   -- a Set that is above the limit is answered
-  pub oversized : (n : Message) (limit : ℤ) (reply : Result Reply AllocError) → limit ≡ k.settings.limit → too_big n ≡ too_big (greatest m)
-      → IsAboveLimit k.settings.limit (greatest m)
-      → ((other : Message) → too_big n ≡ too_big other → IsAboveLimit limit other → IfOk reply (IsOut limit other other))
+  pub oversized : (n : Message) (max_message_size : ℤ) (reply : Result Reply AllocError) → max_message_size ≡ k.settings.max_message_size → too_big n ≡ too_big (greatest m)
+      → IsAboveLimit k.settings.max_message_size (greatest m)
+      → ((other : Message) → too_big n ≡ too_big other → IsAboveLimit max_message_size other → IfOk reply (IsOut max_message_size other other))
       → IfOk reply (λ r. IsReadyToSet held failed refuses k sees device m (Answer r))
-  oversized n limit (Err e) is same above out = tt
-  oversized n limit (Ok r) is same above out = (
+  oversized n max_message_size (Err e) is same above out = tt
+  oversized n max_message_size (Ok r) is same above out = (
     greatest m,
     inl (record { above = above; stays = refl; is = refl }),
     refl,
     subst (λ (z : ℤ). IsOut z (greatest m) (greatest m) r) is (out (greatest m) same (subst (λ (z : ℤ). IsAboveLimit z (greatest m)) (sym is) above)),
   )
 
-  -- a Set of which no variable binding is refused is to be assigned
+  -- a Set of which no variable binding is refused must be assigned
   pub planned : (plan : List PlannedChange) (response : Message) (size : ℕ) (result : Result Ready AgentFault) → response ≡ greatest m
-      → IsWithinLimit k.settings.limit (greatest m) → All (IsAccepted k sees) (bindings_of m.body) → IsSetPlan k (bindings_of m.body) plan
+      → IsWithinLimit k.settings.max_message_size (greatest m) → All (IsAccepted k sees) (bindings_of m.body) → IsSetPlan k (bindings_of m.body) plan
       → IfOk result (IsAssigning plan response size) → IfOk result (IsReadyToSet held failed refuses k sees device m)
   planned plan response size (Err e) is fits accepted right made = tt
   planned plan response size (Ok (Answer r)) is fits accepted right made = absurd made
@@ -251,7 +251,7 @@ module _ {D : Type 0} (held : D → Held) (failed : D → ℕ) (refuses : D → 
   pub refused : (policy : PolicyTables) (response : Message) (fault : SetFault) (reply : Result Reply AllocError)
       → ((status : SetStatus) (index : ℕ) → index ≤ length (bindings_of m.body)
       → length (written_message (returned (greatest m) (status_number status) (pos index))) ≤ length (written_message (greatest m)))
-      → response ≡ greatest m → IsWithinLimit k.settings.limit (greatest m) → IsSetFault k sees (bindings_of m.body) fault
+      → response ≡ greatest m → IsWithinLimit k.settings.max_message_size (greatest m) → IsSetFault k sees (bindings_of m.body) fault
       → IfOk reply (IsReturned response fault) → IfOk reply (λ r. IsReadyToSet held failed refuses k sees device m (Answer r))
   refused policy response fault (Err e) shorter is fits fault_is given = tt
   refused policy response fault (Ok r) shorter is fits fault_is given =
@@ -283,15 +283,15 @@ roomy k m plan response size (Ok (Assign a)) is few right size_is small made =
     }
 
 -- what becomes of a message only depends on it by its size, its community and its request-id
-pub out_same : (limit : ℤ) (m n : Message) (r : Reply) → too_big m ≡ too_big n → IsAboveLimit limit m → IsAboveLimit limit n → IsOut limit m m r
-    → IsOut limit n n r
-out_same limit m n (Send octets) same above other (inl sent) = absurd (omega (arith, above, sent.0))
-out_same limit m n (Send octets) same above other (inr sent) = inr (other, subst (λ t. IsWithinLimit limit t) same sent.1, sent.2 ∙ ap written_message same)
-out_same limit m n (Silent TooBigTwice) same above other out = (other, subst (λ t. IsAboveLimit limit t) same out.1)
-out_same limit m n (Silent BadMessage) same above other out = absurd out
-out_same limit m n (Silent BadVersion) same above other out = absurd out
-out_same limit m n (Silent BadCommunity) same above other out = absurd out
-out_same limit m n (Silent NotARequest) same above other out = absurd out
+pub out_same : (max_message_size : ℤ) (m n : Message) (r : Reply) → too_big m ≡ too_big n → IsAboveLimit max_message_size m → IsAboveLimit max_message_size n → IsOut max_message_size m m r
+    → IsOut max_message_size n n r
+out_same max_message_size m n (Send octets) same above other (inl sent) = absurd (omega (arith, above, sent.0))
+out_same max_message_size m n (Send octets) same above other (inr sent) = inr (other, subst (λ t. IsWithinLimit max_message_size t) same sent.1, sent.2 ∙ ap written_message same)
+out_same max_message_size m n (Silent TooBigTwice) same above other out = (other, subst (λ t. IsAboveLimit max_message_size t) same out.1)
+out_same max_message_size m n (Silent BadMessage) same above other out = absurd out
+out_same max_message_size m n (Silent BadVersion) same above other out = absurd out
+out_same max_message_size m n (Silent BadCommunity) same above other out = absurd out
+out_same max_message_size m n (Silent NotARequest) same above other out = absurd out
 
 err_is : (x y : PduFault) {r s : Result Message PduFault} → r ≡ Err x → s ≡ Err y → r ≡ s → x ≡ y
 err_is x y a b c = cc

@@ -67,7 +67,7 @@ IsOfKind k sees other asked answers = ⊥
 abbrev pub AreAnswers : Known → (List ℕ → Type 0) → Message → Body → List Binding → Type 0
 AreAnswers k sees m (bodies.Pdu p) answers = IsOfKind k sees p.kind p.bindings answers
 AreAnswers k sees m (bodies.Bulk p) answers = IsBulk k sees (λ bindings. IsWithinLimit
-    k.settings.limit (answered m bindings)) p answers
+    k.settings.max_message_size (answered m bindings)) p answers
 
 -- the response without an error, with the variable bindings that answer a request to read
 abbrev pub IsReading : Known → (List ℕ → Type 0) → Message → Message → Type 0
@@ -114,7 +114,7 @@ module _ {D : Type 0} (held : D → Held) (failed : D → ℕ) (refuses : D → 
       × (is_request m.body ≡ false) × (after ≡ before)
   IsAnswered policy k before after m other = IsKnown policy m × (is_request m.body ≡ true)
       × ((reply : Message) × IsResponseTo policy k before after m reply
-      × IsOut k.settings.limit m reply other)
+      × IsOut k.settings.max_message_size m reply other)
 
   -- What a datagram is answered, by the message that it begins with. Where it begins with none, its
   -- version may be another than 1.

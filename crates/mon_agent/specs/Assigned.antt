@@ -40,7 +40,7 @@ place_of (UndoFailed failed standing) = 0
 module _ {D : Type 0} (held : D → Held) (failed : D → ℕ) (refuses : D → Change → Type 0) where
   -- above the limit: nothing is assigned
   pub record IsOversized (k : Known) (before after : D) (m reply : Message) : Type 0 where
-    pub above : IsAboveLimit k.settings.limit (greatest m)
+    pub above : IsAboveLimit k.settings.max_message_size (greatest m)
     pub stays : after ≡ before
     pub is : reply ≡ greatest m
 
@@ -49,7 +49,7 @@ module _ {D : Type 0} (held : D → Held) (failed : D → ℕ) (refuses : D → 
       (m reply : Message) : Type 0 where
     pub status : SetStatus
     pub index : ℕ
-    pub fits : IsWithinLimit k.settings.limit (greatest m)
+    pub fits : IsWithinLimit k.settings.max_message_size (greatest m)
     pub refused : IsFirstRefused k sees (bindings_of m.body) status index
     pub stays : after ≡ before
     pub is : reply ≡ returned m (status_number status) (pos index)
@@ -60,7 +60,7 @@ module _ {D : Type 0} (held : D → Held) (failed : D → ℕ) (refuses : D → 
       : Type 0 where
     pub steps : List PlannedChange
     pub outcome : Commit
-    pub fits : IsWithinLimit k.settings.limit (greatest m)
+    pub fits : IsWithinLimit k.settings.max_message_size (greatest m)
     pub accepted : All (IsAccepted k sees) (bindings_of m.body)
     pub plan : IsSetPlan k (bindings_of m.body) steps
     pub committed : IsCommitted held refuses steps (held before) (held after) outcome

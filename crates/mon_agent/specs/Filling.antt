@@ -14,7 +14,7 @@ use Rattle.mon_agent.specs.ResponseBuilder.{IsCut, IsEnded}
 
 -- with these variable bindings the response is within its limit
 abbrev pub FitsIn : BulkPlan → List Binding → Type 0
-FitsIn plan bindings = length (written_message (framed plan.head bindings)) ≤ plan.limit
+FitsIn plan bindings = length (written_message (framed plan.head bindings)) ≤ plan.max_message_size
 
 -- The octets, all of them, spell variable bindings. Their names were listed after those that were
 -- there.

@@ -46,7 +46,7 @@ IsRoomy (Assign a) = HasRoomForErrors a
 -- a Set that is within the limit and of which no variable binding is refused, with what it assigns
 pub record IsPlanned (k : Known) (sees : List ℕ → Type 0) (m : Message) (a : Assigning) : Type 0
   where
-    pub fits : IsWithinLimit k.settings.limit (greatest m)
+    pub fits : IsWithinLimit k.settings.max_message_size (greatest m)
     pub accepted : All (IsAccepted k sees) (bindings_of m.body)
     pub plan : IsSetPlan k (bindings_of m.body) a.plan
     pub is : a.response ≡ greatest m
@@ -59,12 +59,12 @@ pub record IsToAssign (policy : PolicyTables) (k : Known) (m : Message) (a : Ass
     pub access : access_of policy m.community (need_of m.body) ≡ Ok view
     pub planned : IsPlanned k (IsInView policy.families view) m a
 
--- what is ready where an answer is, or where there was no memory for it
+-- what is ready where an answer is, or if memory for it was refused
 abbrev pub ready_of : Result Reply AllocError → Result Ready AgentFault
 ready_of (Ok reply) = Ok (Answer reply)
 ready_of (Err e) = Err faults.OutOfMemory
 
--- to assign by this plan, with this response, and room for so many octets
+-- to assign by this plan, with this response, and a buffer for this many octets
 abbrev pub IsAssigning : List PlannedChange → Message → ℕ → Ready → Type 0
 IsAssigning plan response size (Answer reply) = ⊥
 IsAssigning plan response size (Assign a) = (a.plan ≡ plan) × (a.response ≡ response)
@@ -87,7 +87,7 @@ module _ {D : Type 0} (held : D → Held) (failed : D → ℕ) (refuses : D → 
   abbrev pub IsReadyToSet : Known → (List ℕ → Type 0) → D → Message → Ready → Type 0
   IsReadyToSet k sees device m (Answer r) =
       (reply : Message) × IsSet held failed refuses k sees device device m reply
-      × (too_big reply ≡ too_big m) × IsOut k.settings.limit reply reply r
+      × (too_big reply ≡ too_big m) × IsOut k.settings.max_message_size reply reply r
   IsReadyToSet k sees device m (Assign a) = IsPlanned k sees m a
 
   -- about a message

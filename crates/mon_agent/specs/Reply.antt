@@ -46,11 +46,11 @@ too_big m = response m (pos 1) (pos 0) []
 
 -- written, it is within the limit
 abbrev pub IsWithinLimit : ℤ → Message → Type 0
-IsWithinLimit limit m = length (written_message m) ≤ count_of limit
+IsWithinLimit max_message_size m = length (written_message m) ≤ count_of max_message_size
 
 -- written, it is above the limit
 abbrev pub IsAboveLimit : ℤ → Message → Type 0
-IsAboveLimit limit m = count_of limit < length (written_message m)
+IsAboveLimit max_message_size m = count_of max_message_size < length (written_message m)
 
 -- this is sent
 abbrev pub IsSending : Message → Reply → Type 0
@@ -60,17 +60,18 @@ IsSending m (Silent cause) = ⊥
 -- what is sent of a response: the response itself, or where it is above the limit tooBig without
 -- variable bindings
 abbrev pub IsSent : ℤ → Message → Message → List ℕ → Type 0
-IsSent limit request reply octets =
-    (IsWithinLimit limit reply × (octets ≡ written_message reply))
-    ⊎ (IsAboveLimit limit reply × IsWithinLimit limit (too_big request)
+IsSent max_message_size request reply octets =
+    (IsWithinLimit max_message_size reply × (octets ≡ written_message reply))
+    ⊎ (IsAboveLimit max_message_size reply × IsWithinLimit max_message_size (too_big request)
     × (octets ≡ written_message (too_big request)))
 
 -- nothing is sent where both are above the limit
 abbrev pub IsDropped : ℤ → Message → Message → Type 0
-IsDropped limit request reply = IsAboveLimit limit reply × IsAboveLimit limit (too_big request)
+IsDropped max_message_size request reply = IsAboveLimit max_message_size reply
+    × IsAboveLimit max_message_size (too_big request)
 
 -- What becomes of a response: it is sent, or it is dropped.
 abbrev pub IsOut : ℤ → Message → Message → Reply → Type 0
-IsOut limit m reply (Send octets) = IsSent limit m reply octets.items
-IsOut limit m reply (Silent TooBigTwice) = IsDropped limit m reply
-IsOut limit m reply (Silent other) = ⊥
+IsOut max_message_size m reply (Send octets) = IsSent max_message_size m reply octets.items
+IsOut max_message_size m reply (Silent TooBigTwice) = IsDropped max_message_size m reply
+IsOut max_message_size m reply (Silent other) = ⊥

@@ -12,12 +12,12 @@ use Rattle.mon_agent.specs.Reply.{IsWithinLimit}
 -- a response without variable bindings, the limit, and the variable bindings so far
 pub record Grown : Type 0 where
   pub head : Message
-  pub limit : ℤ
+  pub max_message_size : ℤ
   pub bindings : List Binding
 
 -- with these variable bindings it is within the limit
 abbrev pub FitsWith : Grown → List Binding → Type 0
-FitsWith grown bindings = IsWithinLimit grown.limit (with_bindings grown.head bindings)
+FitsWith grown bindings = IsWithinLimit grown.max_message_size (with_bindings grown.head bindings)
 
 -- the list goes on after this beginning, and what comes next does not fit
 pub record IsCut (fits : List Binding → Type 0) (all part : List Binding) : Type 0 where
@@ -41,9 +41,10 @@ more_rounds next m round = if all_end_of_mib_view round then [] else rounds next
 
 -- the octets that the variable bindings take are known, and the response is within the limit or has
 -- none
-pub record IsSized (head : Message) (limit : ℤ) (bindings : List Binding) (list : ℕ) : Type 0 where
+pub record IsSized (head : Message) (max_message_size : ℤ) (bindings : List Binding) (list : ℕ) :
+    Type 0 where
   pub size : list ≡ size_counted (length (list_contents bindings))
-  pub within : (bindings ≡ []) ⊎ IsWithinLimit limit (with_bindings head bindings)
+  pub within : (bindings ≡ []) ⊎ IsWithinLimit max_message_size (with_bindings head bindings)
 
 -- all of the list is answered, or a beginning of it after which what comes next does not fit
 abbrev pub IsEnded : (List Binding → Type 0) → List Binding → List Binding → Type 0

@@ -73,7 +73,7 @@ impl<D: Device + Drop> Agent<D> {
         self.mib.device()
     }
 
-    /// Answers a datagram at a moment, or is silent, as `answer_into` does, with buffers of its
+    /// Answers a datagram at a time, or is silent, as `answer_into` does, with buffers of its
     /// own.
     ///
     /// # Errors
@@ -103,7 +103,7 @@ impl<D: Device + Drop> Agent<D> {
         self.answer_into(alloc, datagram, moment, &mut buffers)
     }
 
-    /// Answers a datagram at a moment, or is silent. Every datagram counts in snmpInPkts before it
+    /// Answers a datagram at a time, or is silent. Every datagram counts in snmpInPkts before it
     /// is answered, and then in the counter of its cause where it is not answered. A Set that is
     /// refused, or is too big, assigns nothing; all memory of a Set, its response's too, is taken
     /// before the first assignment. A Get or GetNext whose response fits, and a GetBulk, is read in
@@ -207,7 +207,7 @@ impl<D: Device + Drop> Agent<D> {
         match access {
             Err(_) => {
                 let denied = make_return(message, AUTHORIZATION_ERROR, 0);
-                make_answer(send(alloc, denied, self.mib.settings().limit))
+                make_answer(send(alloc, denied, self.mib.settings().max_message_size))
             }
             Ok(access) => match need {
                 ViewType::Write => self.prepare_set(alloc, access, message, moment),

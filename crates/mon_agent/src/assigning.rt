@@ -44,13 +44,13 @@ impl<D: Device + Drop> Agent<D> {
     {
         mon_pdu::laws::counts();
         mon_pdu::laws::shrinks();
-        let limit = self.mib.settings().limit;
+        let max_message_size = self.mib.settings().max_message_size;
         let Some(count) = count_bindings(&message.body) else {
-            return make_answer(send_too_big(alloc, message, limit));
+            return make_answer(send_too_big(alloc, message, max_message_size));
         };
         let response = make_return(message, NO_ERROR, count);
-        let Some(size) = size_within(&response, limit) else {
-            return make_answer(send_too_big(alloc, response, limit));
+        let Some(size) = size_within(&response, max_message_size) else {
+            return make_answer(send_too_big(alloc, response, max_message_size));
         };
         let bindings = response.body.bindings();
         match self

@@ -16,7 +16,7 @@ pub struct ReplyBuffers {
 }
 
 impl ReplyBuffers {
-    /// Returns empty buffers, which take no memory yet.
+    /// Returns empty buffers, which allocate nothing yet.
     pub fn new(alloc: Global) -> Self {
         ReplyBuffers {
             list: Vec::new(alloc),

@@ -22,7 +22,7 @@ pub(crate) fn bulk<D: Device + Drop>(
 ) -> Result<(), AllocError>
     requires { reply.old.bindings ≡ [] }
     ensures head { reply.new.head ≡ reply.old.head }
-    ensures limit { reply.new.limit ≡ reply.old.limit }
+    ensures max_message_size { reply.new.max_message_size ≡ reply.old.max_message_size }
     ensures put { (next : List ℕ → AnyBinding) → IsStepper (known_in D.held search.old)
         (IsSeenIn search.old) next
         → OnOk result (IsEnded (FitsWith reply.old)
@@ -62,7 +62,7 @@ pub(crate) fn extend<D: Device + Drop>(
 ) -> Result<bool, AllocError>
     ensures stays { search.new ≡ search.old }
     ensures head { reply.new.head ≡ reply.old.head }
-    ensures limit { reply.new.limit ≡ reply.old.limit }
+    ensures max_message_size { reply.new.max_message_size ≡ reply.old.max_message_size }
     ensures put { (next : List ℕ → AnyBinding) → IsStepper (known_in D.held search.old)
         (IsSeenIn search.old) next
         → IfOk result (λ all. IsPut (FitsWith reply.old) (reply.old.bindings
@@ -90,7 +90,7 @@ fn repeat_all<D: Device + Drop>(
 ) -> Result<(), AllocError>
     requires { width ≤ length reply.old.bindings }
     ensures head { reply.new.head ≡ reply.old.head }
-    ensures limit { reply.new.limit ≡ reply.old.limit }
+    ensures max_message_size { reply.new.max_message_size ≡ reply.old.max_message_size }
     ensures put { (next : List ℕ → AnyBinding) → IsStepper (known_in D.held search.old)
         (IsSeenIn search.old) next
         → OnOk result (IsEnded (FitsWith reply.old)
@@ -118,7 +118,7 @@ fn repeat<D: Device + Drop>(
     requires { width ≤ length reply.old.bindings }
     ensures stays { search.new ≡ search.old }
     ensures head { reply.new.head ≡ reply.old.head }
-    ensures limit { reply.new.limit ≡ reply.old.limit }
+    ensures max_message_size { reply.new.max_message_size ≡ reply.old.max_message_size }
     ensures put { (next : List ℕ → AnyBinding) → IsStepper (known_in D.held search.old)
         (IsSeenIn search.old) next
         → IfOk result (λ all. IsPut (FitsWith reply.old)

@@ -32,7 +32,7 @@ pub(crate) struct BulkPlan<'a> {
     /// The response without variable bindings.
     head: Frame<'a>,
     /// How many octets the response may take.
-    limit: u32,
+    max_message_size: u32,
 }
 
 /// What became of a round of answers.
@@ -48,18 +48,18 @@ enum Round {
 
 impl<'a> BulkPlan<'a> {
     /// How a GetBulk of this frame is answered within this limit.
-    pub(crate) fn new(frame: &BulkFrame<'a>, limit: i32) -> Self
+    pub(crate) fn new(frame: &BulkFrame<'a>, max_message_size: i32) -> Self
         ensures once { result.once ≡ count_of frame.now.non_repeaters }
         ensures rounds { result.rounds ≡ count_of frame.now.max_repetitions }
         ensures head { (asked bindings : List AnyBinding)
             → framed result.head bindings ≡ answered (bulk_framed frame.now asked) bindings }
-        ensures limit { result.limit ≡ count_of limit }
+        ensures max_message_size { result.max_message_size ≡ count_of max_message_size }
     {
         BulkPlan {
             once: count(frame.non_repeaters),
             rounds: count(frame.max_repetitions),
             head: response_frame(frame.community, frame.request_id, &[]),
-            limit: limit.max(0) as u32,
+            max_message_size: max_message_size.max(0) as u32,
         }
     }
 }
@@ -188,7 +188,7 @@ fn put_fitting(
 {
     let before = list.len();
     put_found(list, name, found, i32::MAX)?;
-    if frame_fits(&plan.head, list.len().min(LIMIT), plan.limit) {
+    if frame_fits(&plan.head, list.len().min(LIMIT), plan.max_message_size) {
         return Some(true);
     }
     list.truncate(before);

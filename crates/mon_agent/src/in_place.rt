@@ -90,8 +90,14 @@ impl<D: Device + Drop> Agent<D> {
         let mut search = self.search(alloc, frame.community, moment)?;
         buffers.list.clear();
         put_answers(alloc, &mut search, frame, &mut buffers.list)?;
-        let limit = self.mib.settings().limit;
-        take_response(alloc, frame.community, frame.request_id, limit, buffers)
+        let max_message_size = self.mib.settings().max_message_size;
+        take_response(
+            alloc,
+            frame.community,
+            frame.request_id,
+            max_message_size,
+            buffers,
+        )
     }
 
     /// The octets of the reply to a GetBulk of this frame.
@@ -109,8 +115,8 @@ impl<D: Device + Drop> Agent<D> {
     {
         mon_pdu::laws::grows();
         let mut search = self.search(alloc, frame.community, moment)?;
-        let limit = self.mib.settings().limit;
-        let plan = BulkPlan::new(frame, limit);
+        let max_message_size = self.mib.settings().max_message_size;
+        let plan = BulkPlan::new(frame, max_message_size);
         buffers.names.clear();
         read_names(alloc, frame.list, &mut buffers.names)?;
         buffers.list.clear();
@@ -121,7 +127,13 @@ impl<D: Device + Drop> Agent<D> {
             buffers.names.as_mut_slice(),
             &mut buffers.list,
         )?;
-        take_response(alloc, frame.community, frame.request_id, limit, buffers)
+        take_response(
+            alloc,
+            frame.community,
+            frame.request_id,
+            max_message_size,
+            buffers,
+        )
     }
 
     /// A search in the view that a community may read.
@@ -170,7 +182,7 @@ fn take_response(
     alloc: Global,
     community: &[u8],
     request_id: i32,
-    limit: i32,
+    max_message_size: i32,
     buffers: &mut ReplyBuffers,
 ) -> Option<Vec<u8>>
     ensures written { (bindings : List AnyBinding) → buffers.old.list.items ≡ list_contents bindings
@@ -180,10 +192,10 @@ fn take_response(
           body = response_body request_id
               (pos 0) (pos 0) bindings;
         })) }
-    ensures within { IfSome result (λ octets. length octets.items ≤ count_of limit) }
+    ensures within { IfSome result (λ octets. length octets.items ≤ count_of max_message_size) }
 {
     let frame = response_frame(community, request_id, buffers.list.as_slice());
-    write_frame(&mut buffers.octets, &frame, limit.max(0) as u32).ok()?;
+    write_frame(&mut buffers.octets, &frame, max_message_size.max(0) as u32).ok()?;
     let empty = Vec::new(alloc);
     Some(mem::replace(&mut buffers.octets, empty))
 }
@@ -251,11 +263,11 @@ fn put_for<D: Device + Drop>(
     match kind {
         PduKind::Get => put_got(alloc, search, name, out),
         PduKind::GetNext => {
-            let limit = search.settings().limit;
+            let max_message_size = search.settings().max_message_size;
             let Ok(found) = advance(alloc, search, name) else {
                 return None;
             };
-            put_found(out, name, &found, limit)
+            put_found(out, name, &found, max_message_size)
         }
         _ => None,
     }
@@ -286,15 +298,15 @@ pub(crate) fn put_found(
     out: &mut Vec<u8>,
     name: &Oid,
     found: &Option<Shown<'_>>,
-    limit: i32,
+    max_message_size: i32,
 ) -> Option<()>
     ensures { OnSome result (out.new.items ≡ out.old.items ++ written_binding
         (answer_at name.now found.now)) }
 {
     match found {
-        Some(Shown::Octets(octets)) => put_octets_binding(out, name, octets, limit),
-        Some(Shown::Other(Got::Found(value))) => put_binding(out, name, value, limit),
-        _ => put_binding(out, name, &Value::EndOfMibView, limit),
+        Some(Shown::Octets(octets)) => put_octets_binding(out, name, octets, max_message_size),
+        Some(Shown::Other(Got::Found(value))) => put_binding(out, name, value, max_message_size),
+        _ => put_binding(out, name, &Value::EndOfMibView, max_message_size),
     }
 }
 
@@ -310,10 +322,10 @@ fn put_got<D: Device + Drop>(
         × IsGetAnswer (known_in D.held search.now) (IsSeenIn search.now) name.now answer
         × (out.new.items ≡ out.old.items ++ written_binding answer)) }
 {
-    let limit = search.settings().limit;
+    let max_message_size = search.settings().max_message_size;
     match search.show(alloc, name) {
-        Ok(Shown::Octets(octets)) => put_octets_binding(out, name, octets, limit),
-        Ok(Shown::Other(got)) => put_binding(out, name, &got_value(got), limit),
+        Ok(Shown::Octets(octets)) => put_octets_binding(out, name, octets, max_message_size),
+        Ok(Shown::Other(got)) => put_binding(out, name, &got_value(got), max_message_size),
         Err(_) => None,
     }
 }
@@ -334,23 +346,28 @@ pub(crate) fn asked_name(alloc: Global, octets: &[u8]) -> Option<(Oid, &[u8])>
 }
 
 /// Writes a variable binding, whose value is octets. Returns `None` as `put_head` does.
-fn put_octets_binding(out: &mut Vec<u8>, name: &Oid, octets: &[u8], limit: i32) -> Option<()>
+fn put_octets_binding(
+    out: &mut Vec<u8>,
+    name: &Oid,
+    octets: &[u8],
+    max_message_size: i32,
+) -> Option<()>
     ensures { let binding : AnyBinding = record { name = name.now; value = Value.Octets octets.now }
         in
         OnSome result (out.new.items ≡ out.old.items ++ written_binding binding) }
 {
-    put_head(out, name, octets.len(), limit)?;
+    put_head(out, name, octets.len(), max_message_size)?;
     put_octets(out, octets);
     Some(())
 }
 
 /// Writes a variable binding. Returns `None` as `put_head` does.
-fn put_binding(out: &mut Vec<u8>, name: &Oid, value: &Value, limit: i32) -> Option<()>
+fn put_binding(out: &mut Vec<u8>, name: &Oid, value: &Value, max_message_size: i32) -> Option<()>
     ensures { let binding : AnyBinding = record { name = name.now; value = value.now } in
         OnSome result (out.new.items ≡ out.old.items ++ written_binding binding) }
 {
     let len = contents_len(value);
-    put_head(out, name, len, limit)?;
+    put_head(out, name, len, max_message_size)?;
     put_measured_value(out, value, len);
     Some(())
 }
@@ -358,7 +375,7 @@ fn put_binding(out: &mut Vec<u8>, name: &Oid, value: &Value, limit: i32) -> Opti
 /// Writes a variable binding up to its value, whose contents take this many octets, and takes
 /// memory for the value. Returns `None` if `out` is then longer than the limit, or if memory ran
 /// out.
-fn put_head(out: &mut Vec<u8>, name: &Oid, value_len: usize, limit: i32) -> Option<()>
+fn put_head(out: &mut Vec<u8>, name: &Oid, value_len: usize, max_message_size: i32) -> Option<()>
     ensures put { OnSome result (out.new.items ≡ (out.old.items
         ++ (0x30 ∷ length_octets (size_for (length (name_octets name.now)) + size_for value_len)))
         ++ written (Name name.now)) }
@@ -371,7 +388,7 @@ fn put_head(out: &mut Vec<u8>, name: &Oid, value_len: usize, limit: i32) -> Opti
     let name_len = identifier_len(name);
     let len = element_len(name_len) + element_len(value_len);
     let size = element_len(len);
-    if !is_within(out.len().saturating_add(size), limit) {
+    if !is_within(out.len().saturating_add(size), max_message_size) {
         return None;
     }
     out.reserve(size).ok()?;

@@ -70,11 +70,11 @@ fn read_names<D: Device + Drop>(
     asked: Vec<Binding>,
 ) -> Result<Reply, AllocError>
     ensures { let R = IsGetAnswer (known_in D.held search.now) (IsSeenIn search.now) in
-        IfOk result (IsSentFor search.now.map.settings.limit R head asked.items) }
+        IfOk result (IsSentFor search.now.map.settings.max_message_size R head asked.items) }
 {
     let answers = read_all(alloc, search, asked)?;
     let response = with_bindings(head, answers);
-    send(alloc, response, search.settings().limit)
+    send(alloc, response, search.settings().max_message_size)
 }
 
 /// The variable bindings of a Get with their values.
@@ -114,17 +114,17 @@ fn read_next<D: Device + Drop>(
     asked: &[Binding],
 ) -> Result<Reply, AllocError>
     ensures { let R = IsNextAnswer (known_in D.held search.old) (IsSeenIn search.old) in
-        IfOk result (IsSentFor search.old.map.settings.limit R head asked.now) }
+        IfOk result (IsSentFor search.old.map.settings.max_message_size R head asked.now) }
 {
     mon_pdu::laws::grows();
     laws::stepper();
-    let limit = search.settings().limit;
-    let mut reply = ResponseBuilder::new(alloc, head, limit);
+    let max_message_size = search.settings().max_message_size;
+    let mut reply = ResponseBuilder::new(alloc, head, max_message_size);
     let all = extend(alloc, search, &mut reply, asked)?;
     if all {
         reply.send(alloc)
     } else {
-        send_too_big(alloc, reply.into_message(), limit)
+        send_too_big(alloc, reply.into_message(), max_message_size)
     }
 }
 
@@ -156,11 +156,12 @@ fn bulk_response<D: Device + Drop>(
           request;
     } in
         IfOk result (λ response. IsReading (known_in D.held search.old) (IsSeenIn search.old) message (with_bindings response.head response.bindings)) }
-    ensures limit { IfOk result (λ response. response.limit ≡ search.old.map.settings.limit) }
+    ensures max_message_size { IfOk result
+        (λ response. response.max_message_size ≡ search.old.map.settings.max_message_size) }
 {
     mon_pdu::laws::grows();
     let head = make_response(community, request.request_id, Vec::new(alloc));
-    let mut reply = ResponseBuilder::new(alloc, head, search.settings().limit);
+    let mut reply = ResponseBuilder::new(alloc, head, search.settings().max_message_size);
     bulk(alloc, search, &mut reply, &request)?;
     reply.invariants();
     Ok(reply)

@@ -39,7 +39,7 @@ pub(crate) fn make_answer(reply: Result<Reply, AllocError>) -> Result<Ready, Age
     }
 }
 
-/// What is ready where a Set is to be assigned, whose response takes this many octets.
+/// What is ready where a Set must be assigned, whose response takes this many octets.
 pub(crate) fn make_assigning(
     alloc: Global,
     plan: SetPlan,

@@ -23,7 +23,7 @@ use std::marker::Model;
 #[derive(Drop)]
 pub(crate) struct ResponseBuilder {
     head: Message,
-    limit: i32,
+    max_message_size: i32,
     bindings: Vec<Binding>,
     list: usize,
 }
@@ -37,21 +37,26 @@ impl Model for ResponseBuilder {
 
     ghost Value = { Grown };
 
-    ghost view = { λ g. record { head = g.head; limit = g.limit; bindings = g.bindings.items } };
+    ghost view = { λ g. record {
+      head = g.head;
+      max_message_size = g.max_message_size;
+      bindings =
+          g.bindings.items;
+    } };
 
-    ghost invariant = { λ g. IsSized g.head g.limit g.bindings.items g.list };
+    ghost invariant = { λ g. IsSized g.head g.max_message_size g.bindings.items g.list };
 }
 
 impl ResponseBuilder {
     /// The response with no variable bindings yet. Of `head` all but its variable bindings counts.
-    pub(crate) fn new(alloc: Global, head: Message, limit: i32) -> Self
+    pub(crate) fn new(alloc: Global, head: Message, max_message_size: i32) -> Self
         ensures head { result.head ≡ head }
-        ensures limit { result.limit ≡ limit }
+        ensures max_message_size { result.max_message_size ≡ max_message_size }
         ensures empty { result.bindings ≡ [] }
     {
         ResponseBuilder {
             head,
-            limit,
+            max_message_size,
             bindings: Vec::new(alloc),
             list: 0,
         }
@@ -61,14 +66,14 @@ impl ResponseBuilder {
     /// is.
     pub(crate) fn push(&mut self, binding: Binding) -> Result<bool, AllocError>
         ensures head { self.new.head ≡ self.old.head }
-        ensures limit { self.new.limit ≡ self.old.limit }
+        ensures max_message_size { self.new.max_message_size ≡ self.old.max_message_size }
         ensures more { result ≡ Ok true → self.new.bindings ≡ self.old.bindings ++ binding ∷ [] }
         ensures full { result ≡ Ok false
             → (self.new.bindings ≡ self.old.bindings) × ¬ (FitsWith self.old
             (self.old.bindings ++ binding ∷ [])) }
     {
         let list = (self.list + binding_size(&binding)).min(LIMIT);
-        if !has_room(&self.head, list, self.limit) {
+        if !has_room(&self.head, list, self.max_message_size) {
             drop(binding);
             return Ok(false);
         }
@@ -109,11 +114,11 @@ impl ResponseBuilder {
     /// above the limit, tooBig or nothing is sent.
     pub(crate) fn send(self, alloc: Global) -> Result<Reply, AllocError>
         ensures { let reply = with_bindings self.head self.bindings in
-            IfOk result (IsOut self.limit reply reply) }
+            IfOk result (IsOut self.max_message_size reply reply) }
     {
         let list = self.list;
-        let limit = self.limit;
-        send_measured(alloc, self.into_message(), list, limit)
+        let max_message_size = self.max_message_size;
+        send_measured(alloc, self.into_message(), list, max_message_size)
     }
 
     /// The response with its variable bindings. It is within its limit, or has none.
@@ -166,20 +171,20 @@ pub(crate) fn is_end(value: &Value) -> bool
 
 /// Returns `true` if a response is within a limit with variable bindings that take `list` octets.
 /// Only one that is close to the limit is measured for it.
-fn has_room(head: &Message, list: usize, limit: i32) -> bool
+fn has_room(head: &Message, list: usize, max_message_size: i32) -> bool
     requires { list ≤ 2 ^ 32 }
     ensures { (bindings : List AnyBinding) → list ≡ size_counted (length (list_contents bindings))
-        → IsTrue result ↔ IsWithinLimit limit (with_bindings head.now bindings) }
+        → IsTrue result ↔ IsWithinLimit max_message_size (with_bindings head.now bindings) }
 {
-    if is_within(size_bound(head, list), limit) {
+    if is_within(size_bound(head, list), max_message_size) {
         return true;
     }
-    is_within(size_with(head, list), limit)
+    is_within(size_with(head, list), max_message_size)
 }
 
 /// Returns `true` if a size is within a limit; only size 0 is within a limit below 1.
-pub(crate) fn is_within(size: usize, limit: i32) -> bool
-    ensures { IsTrue result ↔ (size ≤ count_of limit) }
+pub(crate) fn is_within(size: usize, max_message_size: i32) -> bool
+    ensures { IsTrue result ↔ (size ≤ count_of max_message_size) }
 {
-    size <= limit.max(0) as usize
+    size <= max_message_size.max(0) as usize
 }

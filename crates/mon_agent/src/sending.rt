@@ -71,11 +71,15 @@ fn response_body(request_id: i32, error_status: i32, error_index: i32, bindings:
 }
 
 /// Sends a response, or tooBig in its place where it is above the limit, or nothing where both are.
-pub(crate) fn send(alloc: Global, reply: Message, limit: i32) -> Result<Reply, AllocError>
-    ensures { IfOk result (IsOut limit reply reply) }
+pub(crate) fn send(
+    alloc: Global,
+    reply: Message,
+    max_message_size: i32,
+) -> Result<Reply, AllocError>
+    ensures { IfOk result (IsOut max_message_size reply reply) }
 {
     let list = list_len(reply.body.bindings());
-    send_measured(alloc, reply, list, limit)
+    send_measured(alloc, reply, list, max_message_size)
 }
 
 /// Sends what `send` does, where the variable bindings of the response take `list` octets.
@@ -83,33 +87,38 @@ pub(crate) fn send_measured(
     alloc: Global,
     reply: Message,
     list: usize,
-    limit: i32,
+    max_message_size: i32,
 ) -> Result<Reply, AllocError>
     requires { list ≡ size_counted (length (list_contents (bindings_of reply.body))) }
-    ensures { IfOk result (IsOut limit reply reply) }
+    ensures { IfOk result (IsOut max_message_size reply reply) }
 {
-    match measure_within(&reply, list, limit) {
+    match measure_within(&reply, list, max_message_size) {
         Some(size) => write_listed(alloc, &reply, list, size),
-        None => send_too_big(alloc, reply, limit),
+        None => send_too_big(alloc, reply, max_message_size),
     }
 }
 
 /// Sends tooBig in the place of any response of this community and request-id that is above the
 /// limit, or nothing where tooBig is above it too.
-pub(crate) fn send_too_big(alloc: Global, reply: Message, limit: i32) -> Result<Reply, AllocError>
-    ensures { (other : AnyMessage) → too_big reply ≡ too_big other → IsAboveLimit limit other
-        → IfOk result (IsOut limit other other) }
+pub(crate) fn send_too_big(
+    alloc: Global,
+    reply: Message,
+    max_message_size: i32,
+) -> Result<Reply, AllocError>
+    ensures { (other : AnyMessage) → too_big reply ≡ too_big other
+        → IsAboveLimit max_message_size other
+        → IfOk result (IsOut max_message_size other other) }
 {
     let too_big = too_big(alloc, reply);
-    send_or_drop(alloc, &too_big, limit)
+    send_or_drop(alloc, &too_big, max_message_size)
 }
 
 /// Sends this response, which is a tooBig, or nothing where it is above the limit.
-fn send_or_drop(alloc: Global, reply: &Message, limit: i32) -> Result<Reply, AllocError>
-    ensures { (other : AnyMessage) → reply.now ≡ too_big other → IsAboveLimit limit other
-        → IfOk result (IsOut limit other other) }
+fn send_or_drop(alloc: Global, reply: &Message, max_message_size: i32) -> Result<Reply, AllocError>
+    ensures { (other : AnyMessage) → reply.now ≡ too_big other → IsAboveLimit max_message_size other
+        → IfOk result (IsOut max_message_size other other) }
 {
-    match size_within(reply, limit) {
+    match size_within(reply, max_message_size) {
         Some(size) => write(alloc, reply, size),
         None => Ok(Reply::Silent(Silence::TooBigTwice)),
     }
@@ -137,28 +146,28 @@ fn request_id(body: &Body) -> i32
 }
 
 /// The size of a message in octets, where it is within a limit.
-pub(crate) fn size_within(message: &Message, limit: i32) -> Option<usize>
+pub(crate) fn size_within(message: &Message, max_message_size: i32) -> Option<usize>
     ensures size { IfSome result (λ size. size ≡ length (written_message message.now)) }
     ensures length { IfSome result (λ size. HasLength message.now) }
-    ensures within { IfSome result (λ size. IsWithinLimit limit message.now) }
+    ensures within { IfSome result (λ size. IsWithinLimit max_message_size message.now) }
     ensures small { IfSome result (λ size. size < 2 ^ 32) }
-    ensures above { IfNone result (IsAboveLimit limit message.now) }
+    ensures above { IfNone result (IsAboveLimit max_message_size message.now) }
 {
-    measure_within(message, list_len(message.body.bindings()), limit)
+    measure_within(message, list_len(message.body.bindings()), max_message_size)
 }
 
 /// The size of a message in octets, where it is within a limit. Its variable bindings take `list`
 /// octets.
-fn measure_within(message: &Message, list: usize, limit: i32) -> Option<usize>
+fn measure_within(message: &Message, list: usize, max_message_size: i32) -> Option<usize>
     requires { list ≡ size_counted (length (list_contents (bindings_of message.now.body))) }
     ensures size { IfSome result (λ size. size ≡ length (written_message message.now)) }
     ensures length { IfSome result (λ size. HasLength message.now) }
-    ensures within { IfSome result (λ size. IsWithinLimit limit message.now) }
+    ensures within { IfSome result (λ size. IsWithinLimit max_message_size message.now) }
     ensures small { IfSome result (λ size. size < 2 ^ 32) }
-    ensures above { IfNone result (IsAboveLimit limit message.now) }
+    ensures above { IfNone result (IsAboveLimit max_message_size message.now) }
 {
     let size = size_with(message, list);
-    if !is_within(size, limit) {
+    if !is_within(size, max_message_size) {
         return None;
     }
     Some(size)

@@ -111,7 +111,7 @@ noted-none k [] = refl
 noted-none k (p ∷ ps) = ap (λ l. p ∷ l) (noted-none (k + 1) ps)
 
 module _ {X : Type 0} (f : X → X) where
-  -- a list of which the elements before this place are changed, and those behind it are to be
+  -- a list of which the elements before this place are changed, and those behind it are not yet
   pub changed-more : (xs : List X) (n : ℕ) (d y : X) → n < length xs → y ≡ f (get_or xs n d)
       → take (n + 1) (set xs n y) ++ map f (drop (n + 1) (set xs n y)) ≡ take n xs ++ map f (drop n xs)
   changed-more xs n d y lt is =

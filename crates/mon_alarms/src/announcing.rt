@@ -13,7 +13,7 @@ use std::marker::Model;
 pub struct Pending {
     /// The state that was announced last.
     pub announced: AlarmState,
-    /// The event that began another state.
+    /// The event that started another state.
     pub since: Option<AlarmEvent>,
     /// The number of looks in which that state has held.
     pub held: u32,
@@ -116,8 +116,8 @@ impl Announcer {
 
     /// Takes the changes since the last call in, and returns what is announced. Between two looks
     /// that is nothing, and at a look, in the order of the rules, each change that with it has held
-    /// in `after` looks, by the event that began it. An event that comes before a change has held
-    /// long enough begins it anew, or ends it. A change of a rule beyond the last is ignored. With
+    /// in `after` looks, by the event that started it. An event that comes before a change has held
+    /// long enough starts it again, or ends it. A change of a rule beyond the last is ignored. With
     /// an `after` of 0 or 1 the changes are announced as they are.
     ///
     /// # Errors

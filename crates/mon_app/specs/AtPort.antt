@@ -6,7 +6,7 @@ use Rattle.mon_app.specs.declared.fault.SocketFault.{SocketFault}
 use Rattle.mon_app.specs.declared.port.Received.{Received as AnyReceived}
 use Rattle.mon_app.specs.declared.reason.SocketReason.{SocketReason}
 
--- a datagram came at a moment, in hundredths of a second of the agent's life; or a wait failed for
+-- a datagram came at a time, in hundredths of a second of the agent's life; or a wait failed for
 -- a reason; octets were sent to where the last datagram came from, or could not be sent there
 pub data AtPort : Type 0 where
   Received : List ℕ → ℕ → AtPort

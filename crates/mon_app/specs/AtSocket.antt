@@ -48,13 +48,14 @@ IsHeardIn Told Silent Received agent room t Other =
 abbrev pub hundredths_between : Instant → Instant → ℕ
 hundredths_between from to = (instant_nanos to - instant_nanos from) / 10_000_000
 
--- a life begins at a time that the clock told
+-- a life begins at a time that the clock returned
 pub record IsStart (Told : Instant → Instant → Type 0) (began : Instant) : Type 0 where
   pub earlier : Instant
   pub told : Told earlier began
 
 -- A datagram that a port received: the system's, from the address that replies go to, at a time
--- that the clock told. Its moment is that time in the life that began then.
+-- that the clock returned. Its `moment` is how long after `began` that is, in whole hundredths of
+-- a second.
 pub record IsArrival (Received : ℕ → SocketAddr → Type 0) (Told : Instant → Type 0)
     (began : Instant) (from : Addr) (r : AnyReceived) : Type 0 where
   pub sender : SocketAddr

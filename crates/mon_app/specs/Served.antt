@@ -60,7 +60,7 @@ pub record Standing (D : Type 0) : Type 0 where
 abbrev pub stands : {D : Type 0} → Agent D → Standing D
 stands agent = record { counts = counters_of agent; device = device_of agent }
 
--- The agent's reply to a datagram that came at a moment, and what became of its counters and its
+-- The agent's reply to a datagram that came at a time, and what became of its counters and its
 -- device, of which devices of one kind hold, fail and refuse so.
 pub record AnswersIt {D : Type 0} (held : D → Held) (failed : D → ℕ) (refuses : D → Change → Type 0)
     (policy : PolicyTables) (settings : Settings)

@@ -32,8 +32,8 @@ pub fn send_request<W: Wire>(
     wire: &mut W,
     question: &Question<'_>,
 ) -> Result<Message, AppFault>
-    ensures asked { GoesOnBy (λ log. IsAsked (asked_in question.now) log result) (W.told wire.old)
-        (W.told wire.new) }
+    ensures asked { GoesOnBy (λ log. IsAsked (asked_in question.now) log result) (W.log wire.old)
+        (W.log wire.new) }
     ensures failures { W.failures wire.new ≡ socket_failures result (W.failures wire.old) }
 {
     let octets = write_message(alloc, &request(alloc, question)?)?;
@@ -59,8 +59,8 @@ pub fn take_reply<W: Wire>(
     question: &Question<'_>,
     room: &mut [u8],
 ) -> Result<Option<Message>, AppFault>
-    ensures heard { GoesOnBy (λ log. IsWait (asked_in question.now) log result) (W.told wire.old)
-        (W.told wire.new) }
+    ensures wait { GoesOnBy (λ log. IsWait (asked_in question.now) log result) (W.log wire.old)
+        (W.log wire.new) }
     ensures failures { W.failures wire.new ≡ socket_failures result (W.failures wire.old) }
 {
     for _ in 0..HEARINGS {

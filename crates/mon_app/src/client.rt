@@ -28,7 +28,7 @@ pub fn answer_text<W: Wire, S: NameTexts>(
     names: &S,
 ) -> Result<String, AppFault>
     ensures answer { GoesOnBy (λ log. IsPrinted (S.shown names.now) string_bytes
-        (asked_in question.now) log result) (W.told wire.old) (W.told wire.new) }
+        (asked_in question.now) log result) (W.log wire.old) (W.log wire.new) }
     ensures failures { W.failures wire.new ≡ socket_failures result (W.failures wire.old) }
 {
     let bindings = answers(alloc, wire, question)?;
@@ -42,7 +42,7 @@ pub(crate) fn answers<W: Wire>(
     question: &Question<'_>,
 ) -> Result<Bindings, AppFault>
     ensures answer { GoesOnBy (λ log. IsQuestionAnswered (asked_in question.now) log result)
-        (W.told wire.old) (W.told wire.new) }
+        (W.log wire.old) (W.log wire.new) }
     ensures failures { W.failures wire.new ≡ socket_failures result (W.failures wire.old) }
 {
     let Message { body, .. } = send_request(alloc, wire, question)?;

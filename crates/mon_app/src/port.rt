@@ -20,20 +20,20 @@ pub trait Port {
     ghost use Rattle.mon_app.specs.AtPort.{AtPort, Happens, IsReplied, receiving};
 
     // What happened at it, in order, if the port states that.
-    ghost told: { Self → Option (List AtPort) };
+    ghost log: { Self → Option (List AtPort) };
 
     // How often it failed, at most 2^64 - 1.
     ghost failures: { Self → ℕ };
 
     /// Waits for a datagram, which is put into the buffer.
     fn receive(&mut self, room: &mut [u8]) -> Result<Received, SocketFault>
-        ensures told { told self.new ≡ extended (told self.old) (receiving room.new result) }
+        ensures log { log self.new ≡ extended (log self.old) (receiving room.new result) }
         ensures failures { failures self.new ≡ failed_after result (failures self.old) }
         ensures room { length room.new ≡ length room.old }
         ensures within { IfOk result (λ received. received.len ≤ length room.new) };
 
     /// Sends a datagram to where the last one came from. One that cannot be sent is lost.
     fn reply(&mut self, octets: &[u8])
-        ensures { Happens (IsReplied octets.now) (told self.old) (told self.new) (failures self.old)
+        ensures { Happens (IsReplied octets.now) (log self.old) (log self.new) (failures self.old)
             (failures self.new) };
 }

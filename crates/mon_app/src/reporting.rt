@@ -20,7 +20,7 @@ fn entry_of(row: &Row) -> Entry<'_>
     let instance = &row.instance;
     let totals = Totals::of(samples);
     let engine = instance.engine.as_slice();
-    Entry::new(engine, &instance.name, samples, totals, &[], 0)
+    Entry::new(engine, &instance.name, samples, totals)
 }
 
 /// What a replay keeps: its windows, and the lines that name what it refuses.

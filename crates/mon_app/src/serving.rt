@@ -62,7 +62,7 @@ pub fn serve_one<P: Port, D: Device + Drop>(
     ensures served { Happens (λ log. IsServed
         (AnswersIt D.held D.failed D.refuses (policy_of agent.old) (settings_of agent.old))
         (stands agent.old) (stands agent.new) log result)
-        (P.told port.old) (P.told port.new) (P.failures port.old) (P.failures port.new) }
+        (P.log port.old) (P.log port.new) (P.failures port.old) (P.failures port.new) }
     // The agent's policy and settings stay.
     ensures policy { policy_of agent.new ≡ policy_of agent.old }
     ensures settings { settings_of agent.new ≡ settings_of agent.old }
@@ -83,7 +83,7 @@ fn serve_in<P: Port, D: Device + Drop>(
     ensures served { Happens (λ log. IsServed
         (AnswersIt D.held D.failed D.refuses (policy_of agent.old) (settings_of agent.old))
         (stands agent.old) (stands agent.new) log result)
-        (P.told port.old) (P.told port.new) (P.failures port.old) (P.failures port.new) }
+        (P.log port.old) (P.log port.new) (P.failures port.old) (P.failures port.new) }
     // The agent's policy and settings stay.
     ensures policy { policy_of agent.new ≡ policy_of agent.old }
     ensures settings { settings_of agent.new ≡ settings_of agent.old }
@@ -106,8 +106,8 @@ fn serve_in<P: Port, D: Device + Drop>(
 /// # Errors
 /// `SocketFault` where 16 waits in a row failed, with the reason of the last.
 fn next_datagram<P: Port>(port: &mut P, room: &mut [u8]) -> Result<Received, SocketFault>
-    ensures awaited { Happens (λ log. IsAwaited room.new log result) (P.told port.old)
-        (P.told port.new) (P.failures port.old) (P.failures port.new) }
+    ensures awaited { Happens (λ log. IsAwaited room.new log result) (P.log port.old)
+        (P.log port.new) (P.failures port.old) (P.failures port.new) }
     ensures within { IfOk result (λ received. received.len ≤ length room.new) }
 {
     for _ in 0..PASSED_OVER {

@@ -92,7 +92,7 @@ impl<R: Ticks, S: Receives + Sends> WireBy<'_, R, S> {
 
     /// Receives something in the rest of the wait.
     fn receive_in_wait(&self, room: &mut [u8]) -> Result<Heard, SocketFault>
-        ensures heard { IfOk result (IsHeardIn
+        ensures received { IfOk result (IsHeardIn
             (R.told self.now.waiting.rt.now self.now.waiting.timer.quiet) (S.quiet self.now.socket)
             (S.received self.now.socket) self.now.agent room.new self.now.waiting.timer) }
         ensures within { IfOk result (FitsRoom (length room.new)) }
@@ -111,13 +111,13 @@ impl<R: Ticks, S: Receives + Sends> Wire for WireBy<'_, R, S> {
     ghost use Rattle.mon_udp.specs.Counts.{failed_after};
 
     // What happens at a socket is not known.
-    ghost told = { λ _. None };
+    ghost log = { λ _. None };
 
     ghost failures = { λ w. w.failures };
 
     fn send(&mut self, octets: &[u8]) -> Result<(), SocketFault>
         ensures failures { self.new.failures ≡ failed_after result self.old.failures }
-        // A wait of 2,000 ms begins at the time that the clock tells in this call.
+        // A wait of 2,000 ms begins at the time that the clock returns in this call.
         ensures wait { OnOk result (Begins
             (R.told self.old.waiting.rt.now self.old.waiting.timer.quiet) 2000 self.new.waiting.timer) }
         // What is answered as sent was sent: these octets, to the agent's address.
@@ -133,8 +133,8 @@ impl<R: Ticks, S: Receives + Sends> Wire for WireBy<'_, R, S> {
 
     fn receive(&mut self, room: &mut [u8]) -> Result<Heard, SocketFault>
         ensures failures { self.new.failures ≡ failed_after result self.old.failures }
-        // A datagram is the system's and the agent's; the wire is quiet only if the wait is over.
-        ensures heard { IfOk result (IsHeardIn
+        // A datagram is the system's and the agent's; the wire times out only if the wait is over.
+        ensures received { IfOk result (IsHeardIn
             (R.told self.old.waiting.rt.now self.old.waiting.timer.quiet) (S.quiet self.old.socket)
             (S.received self.old.socket) self.old.agent room.new self.old.waiting.timer) }
         ensures within { IfOk result (FitsRoom (length room.new)) }

@@ -60,7 +60,7 @@ impl<'a, R: Ticks, S: Binds + Receives + Sends> PortBy<'a, R, S> {
     where
         R: Net,
         ensures bound { IfOk result (λ p. IsBound (S.bound p.socket) (S.stands p.socket) listen) }
-        // Its life begins at a time that the clock tells in this call.
+        // Its life begins at a time that the clock returns in this call.
         ensures life { IfOk result (λ p. IsStart (R.told rt.now) p.began) }
         // Until a datagram comes, replies go to the address that was asked for.
         ensures listen { IfOk result (λ port. port.from ≡ listen) }
@@ -150,14 +150,14 @@ impl<R: Ticks, S: Receives + Sends> Port for PortBy<'_, R, S> {
     ghost use Rattle.mon_app.specs.AtSocket.{IsSentOrCounted};
 
     // What happens at a socket is not known.
-    ghost told = { λ _. None };
+    ghost log = { λ _. None };
 
     ghost failures = { λ p. p.failures };
 
     fn receive(&mut self, room: &mut [u8]) -> Result<Received, SocketFault>
         ensures failures { self.new.failures ≡ failed_after result self.old.failures }
-        // The datagram is the system's, at a time that the clock tells in this call; replies go to
-        // its sender from now on.
+        // The datagram is the system's, at a time that the clock returns in this call; replies go
+        // to its sender from now on.
         ensures arrives { IfOk result (IsArrival (S.received self.old.socket room.new)
             (R.told self.old.rt.now self.old.began) self.old.began self.new.from) }
         // If it fails replies go where they went.

@@ -89,7 +89,7 @@ pub fn walk<W: Wire, S: NameTexts, H: Host>(
 ) -> Result<(), WalkFault>
     ensures walk { GoesOnBy (λ log. HostGoesOnBy (λ said. IsWalk (S.shown names.now)
         (question_after asked.now)
-        asked.now.start.now log said result) (H.log host.old) (H.log host.new)) (W.told wire.old) (W.told wire.new) }
+        asked.now.start.now log said result) (H.log host.old) (H.log host.new)) (W.log wire.old) (W.log wire.new) }
     ensures failures { W.failures wire.new ≡ walk_failures result (W.failures wire.old) }
 {
     let printed = walk_through(alloc, host, wire, asked, names)?;
@@ -109,7 +109,7 @@ fn walk_through<W: Wire, S: NameTexts, H: Host>(
 ) -> Result<bool, WalkFault>
     ensures walk { GoesOnBy (λ log. HostGoesOnBy (λ said. AreTurns (S.shown names.now)
         (question_after asked.now)
-        asked.now.start.now log said result) (H.log host.old) (H.log host.new)) (W.told wire.old) (W.told wire.new) }
+        asked.now.start.now log said result) (H.log host.old) (H.log host.new)) (W.log wire.old) (W.log wire.new) }
     ensures failures { W.failures wire.new ≡ walk_failures result (W.failures wire.old) }
 {
     let mut last = asked.start.try_clone(alloc)?;
@@ -173,7 +173,7 @@ fn walk_on<W: Wire, S: NameTexts, H: Host>(
     requires few { turn.now.request_id < 65536 }
     ensures turn { GoesOnBy (λ log. HostGoesOnBy (λ said. IsTurn (S.shown names.now)
         (question_after turn.now.asked turn.now.request_id turn.now.last.now) turn.now.asked.start.now turn.now.last.now
-        said log (name_in result) × SaysWhether said result) (H.log host.old) (H.log host.new)) (W.told wire.old) (W.told wire.new) }
+        said log (name_in result) × SaysWhether said result) (H.log host.old) (H.log host.new)) (W.log wire.old) (W.log wire.new) }
     ensures failures { W.failures wire.new ≡ walk_failures result (W.failures wire.old) }
 {
     let found = after(alloc, wire, turn)?;
@@ -188,7 +188,7 @@ fn walk_on<W: Wire, S: NameTexts, H: Host>(
 fn after<W: Wire>(alloc: Global, wire: &mut W, turn: &Turn<'_>) -> Result<Bindings, AppFault>
     requires { turn.now.request_id < 65536 }
     ensures answer { GoesOnBy (λ log. IsQuestionAnswered (question_after turn.now.asked
-        turn.now.request_id turn.now.last.now) log result) (W.told wire.old) (W.told wire.new) }
+        turn.now.request_id turn.now.last.now) log result) (W.log wire.old) (W.log wire.new) }
     ensures failures { W.failures wire.new ≡ socket_failures result (W.failures wire.old) }
 {
     let question = Question {

@@ -21,19 +21,19 @@ pub trait Wire {
     ghost use Rattle.mon_app.specs.AtWire.{AtWire, FitsRoom, hearing, sending};
 
     // What happened at it, in order, if the wire states that.
-    ghost told: { Self → Option (List AtWire) };
+    ghost log: { Self → Option (List AtWire) };
 
     // How often it failed, at most 2^64 - 1.
     ghost failures: { Self → ℕ };
 
     /// Sends a datagram to the agent.
     fn send(&mut self, octets: &[u8]) -> Result<(), SocketFault>
-        ensures told { told self.new ≡ extended (told self.old) (sending octets.now result) }
+        ensures log { log self.new ≡ extended (log self.old) (sending octets.now result) }
         ensures failures { failures self.new ≡ failed_after result (failures self.old) };
 
     /// Waits for a datagram, which is put into the buffer.
     fn receive(&mut self, room: &mut [u8]) -> Result<Heard, SocketFault>
-        ensures told { told self.new ≡ extended (told self.old) (hearing room.new result) }
+        ensures log { log self.new ≡ extended (log self.old) (hearing room.new result) }
         ensures failures { failures self.new ≡ failed_after result (failures self.old) }
         ensures within { IfOk result (FitsRoom (length room.new)) };
 }

@@ -13,38 +13,24 @@ pub(crate) fn answer(alloc: Global, text: &mut String, line: &str) -> Option<()>
     match word {
         "set" => assigned(alloc, text, rest),
         "silences" => silences(text),
-        "faults" => faults(text),
+        "faults" => {
+            let why = AgentFault::OutOfMemory;
+            put_fault(text, why.number(), why.name())
+        }
         _ => None,
     }
 }
 
-/// Says what an agent of the settings replies to a Set, and what it has counted and is named then.
+/// Says what an agent of the settings replies to a Set: whether it had counted nothing when memory
+/// ran out, what it sends, in hex digits, how many messages it has counted, and its name.
 fn assigned(alloc: Global, text: &mut String, set: &str) -> Option<()> {
     let set = octets(alloc, set)?;
     let mut agent = agent(alloc)?;
-    put_assigned(alloc, text, &mut agent, set.as_slice())
-}
-
-fn put_assigned(
-    alloc: Global,
-    text: &mut String,
-    agent: &mut Agent<SimDevice>,
-    set: &[u8],
-) -> Option<()> {
-    let (reply, same) = answer_again(alloc, agent, set)?;
-    put_replied(text, agent, &reply, same)
-}
-
-/// Appends whether an agent had counted nothing when memory ran out, what it sent, in hex digits,
-/// how many messages it has counted, and its name.
-fn put_replied(
-    text: &mut String,
-    agent: &Agent<SimDevice>,
-    reply: &Reply,
-    same: bool,
-) -> Option<()> {
+    let (reply, same) = answer_again(alloc, &mut agent, set.as_slice())?;
     write!(text, "{same} ").ok()?;
-    put_digits(text, sent(reply))?;
+    if let Reply::Send(octets) = &reply {
+        put_digits(text, octets.as_slice())?;
+    }
     let messages = agent.counters().value(Counter::InPackets);
     write!(text, " {messages} ").ok()?;
     put_digits(text, agent.device().sys_text(SysText::SystemName))
@@ -76,14 +62,6 @@ fn answer_once(
     agent.answer(alloc, datagram, at)
 }
 
-/// Returns the octets that an agent sends; none if it is silent.
-fn sent(reply: &Reply) -> &[u8] {
-    match reply {
-        Reply::Send(octets) => octets.as_slice(),
-        Reply::Silent(_) => &[],
-    }
-}
-
 /// Lists the causes of silence.
 fn silences(text: &mut String) -> Option<()> {
     let causes = [
@@ -98,10 +76,4 @@ fn silences(text: &mut String) -> Option<()> {
         put_fault(text, cause.number(), cause.name())?;
     }
     Some(())
-}
-
-/// Lists the faults of an agent.
-fn faults(text: &mut String) -> Option<()> {
-    let why = AgentFault::OutOfMemory;
-    put_fault(text, why.number(), why.name())
 }

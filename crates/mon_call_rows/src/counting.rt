@@ -97,16 +97,11 @@ fn interface(alloc: Global, index: u32) -> Interface {
 /// Makes this many interfaces, from index 1.
 fn interfaces(alloc: Global, many: u32) -> Option<Vec<Interface>> {
     let mut interfaces = Vec::new(alloc);
-    push_interfaces(alloc, &mut interfaces, many)?;
-    Some(interfaces)
-}
-
-fn push_interfaces(alloc: Global, interfaces: &mut Vec<Interface>, many: u32) -> Option<()> {
-    for index in 0..many {
-        let index = index.checked_add(1)?;
+    for place in 0..many {
+        let index = place.checked_add(1)?;
         interfaces.push(interface(alloc, index)).ok()?;
     }
-    Some(())
+    Some(interfaces)
 }
 
 /// Makes a device of these interfaces.
@@ -152,28 +147,17 @@ impl Large {
         let found = found.ok()??;
         put_name(alloc, text, &found.name)
     }
-
-    /// Appends the name after another one, and whether the device was asked 1 to MOST times.
-    fn put_next_within(
-        &self,
-        alloc: Global,
-        text: &mut String,
-        name: &Oid,
-        most: u64,
-    ) -> Option<()> {
-        self.put_next(alloc, text, name)?;
-        let calls = self.mib.device().calls.get();
-        let is_within = 1 <= calls && calls <= most;
-        write!(text, ", 1 to {most} calls: {is_within}").ok()
-    }
 }
 
 /// Answers a line `MANY MOST NAME` with the name after another one on a device of MANY interfaces,
 /// and says if the device was asked 1 to MOST times.
 pub(crate) fn row(alloc: Global, text: &mut String, line: &str) -> Option<()> {
     let (many, most, name) = three(line, ' ')?;
-    let (most, many) = (parsed(most)?, parsed(many)?);
+    let (most, many): (u64, u32) = (parsed(most)?, parsed(many)?);
     let name = Oid::parse(alloc, name).ok()?;
     let large = Large::new(alloc, interfaces(alloc, many)?)?;
-    large.put_next_within(alloc, text, &name, most)
+    large.put_next(alloc, text, &name)?;
+    let calls = large.mib.device().calls.get();
+    let is_within = 1 <= calls && calls <= most;
+    write!(text, ", 1 to {most} calls: {is_within}").ok()
 }

@@ -121,7 +121,7 @@ impl Wire for Memory {
     ghost use Rattle.std.specs.Prelude.{Some, map};
     ghost use Rattle.mon_call_rows.specs.Log.{at_wire};
 
-    ghost told = { λ w. Some (map at_wire w.log.items) };
+    ghost log = { λ w. Some (map at_wire w.log.items) };
 
     ghost failures = { λ w. w.failures };
 

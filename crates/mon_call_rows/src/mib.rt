@@ -22,7 +22,10 @@ pub(crate) fn answer(alloc: Global, text: &mut String, line: &str) -> Option<()>
         "object" => object(alloc, text, rest),
         "admin" => admin(text),
         "oper" => oper(text),
-        "moment" => moment(text, parsed(rest)?),
+        "moment" => match Moment::new(parsed(rest)?) {
+            Some(moment) => write!(text, "{}", moment.hundredths()).ok(),
+            None => put(text, "none"),
+        },
         "counts" => counted(text, parsed(rest)?),
         "set-faults" => set_faults(text),
         "device-faults" => device_faults(text),
@@ -35,26 +38,17 @@ fn device(interfaces: Vec<Interface>, texts: SysTexts) -> Result<SimDevice, Devi
     SimDevice::new(interfaces, texts)
 }
 
-/// Makes the device of the small agent.
-fn simulated(alloc: Global) -> Option<SimDevice> {
+/// Makes the changes of a line in the device of the small agent. Appends of each the change that
+/// undoes it or the fault, and how often the device has failed then.
+fn changed(alloc: Global, text: &mut String, line: &str) -> Option<()> {
     let AgentSettings {
         texts,
         interfaces,
         ..
     } = settings(alloc)?;
-    device(interfaces, texts).ok()
-}
-
-/// Makes the changes of a line in the device of the small agent. Appends of each the change that
-/// undoes it or the fault, and how often the device has failed then.
-fn changed(alloc: Global, text: &mut String, line: &str) -> Option<()> {
-    let mut device = simulated(alloc)?;
-    put_changed(alloc, text, &mut device, line)
-}
-
-fn put_changed(alloc: Global, text: &mut String, device: &mut SimDevice, line: &str) -> Option<()> {
+    let mut device = device(interfaces, texts).ok()?;
     for change in line.split("; ") {
-        put_applied(text, device, change_of(alloc, change)?)?;
+        put_applied(text, &mut device, change_of(alloc, change)?)?;
     }
     Some(())
 }
@@ -94,34 +88,27 @@ fn status_of(word: &str) -> Option<AdminStatus> {
 /// failed then.
 fn put_applied(text: &mut String, device: &mut SimDevice, change: Change) -> Option<()> {
     put_between(text, "; ")?;
-    put_undoing(text, device.apply(change))?;
-    write!(text, " after {} failures", device.failures()).ok()
-}
-
-fn put_undoing(text: &mut String, applied: Result<Change, DeviceFault>) -> Option<()> {
-    match applied {
-        Ok(undo) => write!(text, "{undo:?}").ok(),
-        Err(why) => put_fault(text, why.number(), why.name()),
+    let applied = device.apply(change);
+    match &applied {
+        Ok(undo) => write!(text, "{undo:?}").ok()?,
+        Err(why) => put_fault(text, why.number(), why.name())?,
     }
+    write!(text, " after {} failures", device.failures()).ok()
 }
 
 /// Appends the access and the syntax of the object of a line `NAME INDEX`, and its name at the
 /// index.
 fn object(alloc: Global, text: &mut String, line: &str) -> Option<()> {
     let (word, index) = two(line, ' ')?;
-    let object = object_of(word)?;
+    let object = match word {
+        "ifAlias" => Object::Column(Column::IfAlias),
+        "sysServices" => Object::Scalar(Scalar::SysServices),
+        _ => return None,
+    };
     let (access, syntax) = (object.access(), object.syntax());
     write!(text, "{access:?} {syntax:?} ").ok()?;
     let name = object.name(alloc, parsed(index)?).ok()?;
     put_name(alloc, text, &name)
-}
-
-fn object_of(word: &str) -> Option<Object> {
-    match word {
-        "ifAlias" => Some(Object::Column(Column::IfAlias)),
-        "sysServices" => Some(Object::Scalar(Scalar::SysServices)),
-        _ => None,
-    }
 }
 
 /// Lists the administrative statuses of an interface.
@@ -150,14 +137,6 @@ fn oper(text: &mut String) -> Option<()> {
         write!(text, "{status:?} {}", status.number()).ok()?;
     }
     Some(())
-}
-
-/// Appends this many hundredths of a second, if the agent's time can be that.
-fn moment(text: &mut String, hundredths: u64) -> Option<()> {
-    match Moment::new(hundredths) {
-        Some(moment) => write!(text, "{}", moment.hundredths()).ok(),
-        None => put(text, "none"),
-    }
 }
 
 /// Counts a message of another version, where this many were counted, and a message. Appends both

@@ -10,34 +10,20 @@ pub(crate) fn answer(alloc: Global, text: &mut String, line: &str) -> Option<()>
     let (name, module) = line.strip_prefix("adds ")?.split_once(' ')?;
     let module = read_module(alloc, module).ok()?;
     let mut names = Names::new(alloc).ok()?;
-    put_added_twice(alloc, text, &mut names, &module, name)
+    put_added(alloc, text, &mut names, &module)?;
+    put(text, ", ")?;
+    put_meaning(alloc, text, &names, name)?;
+    put(text, ", ")?;
+    put_added(alloc, text, &mut names, &module)
 }
 
-fn put_added_twice(
-    alloc: Global,
-    text: &mut String,
-    names: &mut Names,
-    module: &Module,
-    name: &str,
-) -> Option<()> {
-    put_added(alloc, text, names, module)?;
-    put(text, ", ")?;
-    put_meaning(alloc, text, names, name)?;
-    put(text, ", ")?;
-    put_added(alloc, text, names, module)
-}
-
-/// Adds a module, a second time if memory ran out the first time.
-fn add_again(alloc: Global, names: &mut Names, module: &Module) -> Result<(), NamesFault> {
-    match names.add(alloc, module) {
+/// Adds a module, a second time if memory ran out the first time, and says what was answered.
+fn put_added(alloc: Global, text: &mut String, names: &mut Names, module: &Module) -> Option<()> {
+    let added = match names.add(alloc, module) {
         Err(NamesFault::OutOfMemory) => names.add(alloc, module),
         done => done,
-    }
-}
-
-/// Adds a module, and says what was answered.
-fn put_added(alloc: Global, text: &mut String, names: &mut Names, module: &Module) -> Option<()> {
-    match add_again(alloc, names, module) {
+    };
+    match added {
         Ok(()) => put(text, "Ok"),
         Err(why) => put_fault(text, why.number(), why.name()),
     }

@@ -1,6 +1,6 @@
 //! What is read of a reader to its end, and how often it is read.
 
-use mon_app::{AppFault, Counted, Reads, read_all};
+use mon_app::{Counted, read_all};
 use mon_row_texts::{octets, parsed, put_digits, put_fault, two};
 use std::alloc::Global;
 use std::io::{Error, ErrorKind, Read, Result as IoResult};
@@ -9,40 +9,31 @@ use std::io::{Error, ErrorKind, Read, Result as IoResult};
 pub(crate) fn answer(alloc: Global, text: &mut String, line: &str) -> Option<()> {
     let (word, rest) = two(line, ' ')?;
     match word {
-        "gives" => given(alloc, text, rest),
-        "slow" => slowly(alloc, text, parsed(rest)?),
+        "gives" => {
+            let octets = octets(alloc, rest)?;
+            put_whole(alloc, text, octets.as_slice())
+        }
+        "slow" => {
+            let slow = Slow {
+                left: parsed(rest)?,
+                is_interrupted: false,
+            };
+            put_whole(alloc, text, slow)
+        }
         _ => None,
     }
 }
 
-/// Says what is read of a reader that gives these octets at once.
-fn given(alloc: Global, text: &mut String, digits: &str) -> Option<()> {
-    let octets = octets(alloc, digits)?;
-    put_whole(alloc, text, octets.as_slice())
-}
-
-/// Says what is read of a reader that fails after this many octets.
-fn slowly(alloc: Global, text: &mut String, left: u8) -> Option<()> {
-    let slow = Slow {
-        left,
-        is_interrupted: false,
-    };
-    put_whole(alloc, text, slow)
-}
-
-/// Says what is read of a reader, and how it was read.
+/// Appends the octets that are read of a reader or the fault, and how often it was read, was at its
+/// end and failed.
 fn put_whole<R: Read + Drop>(alloc: Global, text: &mut String, reader: R) -> Option<()> {
     let mut reader = Counted::new(reader);
     let read = read_all(alloc, &mut reader);
-    put_read(text, &read, reader.counts())
-}
-
-/// Appends the octets or the fault, and how often the reader was read, was at its end and failed.
-fn put_read(text: &mut String, read: &Result<Vec<u8>, AppFault>, counts: Reads) -> Option<()> {
-    match read {
+    match &read {
         Ok(octets) => put_digits(text, octets.as_slice())?,
         Err(why) => put_fault(text, why.number(), why.name())?,
     }
+    let counts = reader.counts();
     let (reads, ends, failures) = (counts.reads, counts.ends, counts.failures);
     write!(text, ", {reads} reads, {ends} ends, {failures} failures").ok()
 }

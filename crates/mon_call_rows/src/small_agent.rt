@@ -2,10 +2,9 @@
 
 use mon_agent::Agent;
 use mon_app::{Asking, Question};
-use mon_mib::{Interface, Settings, SimDevice, SysTexts};
+use mon_mib::SimDevice;
 use mon_oid::Oid;
 use mon_settings::{AgentSettings, read_agent};
-use mon_vacm::Policy;
 use std::alloc::Global;
 
 /// The settings: `public` reads all but ifPhysAddress, and `private` writes the objects of mib-2
@@ -78,16 +77,6 @@ pub(crate) fn question<'a>(
     }
 }
 
-fn made(
-    policy: Policy,
-    settings: Settings,
-    texts: SysTexts,
-    interfaces: Vec<Interface>,
-) -> Option<Agent<SimDevice>> {
-    let device = SimDevice::new(interfaces, texts).ok()?;
-    Some(Agent::new(policy, settings, device))
-}
-
 /// Makes the agent of the settings.
 pub(crate) fn agent(alloc: Global) -> Option<Agent<SimDevice>> {
     let AgentSettings {
@@ -97,5 +86,6 @@ pub(crate) fn agent(alloc: Global) -> Option<Agent<SimDevice>> {
         interfaces,
         ..
     } = settings(alloc)?;
-    made(policy, settings, texts, interfaces)
+    let device = SimDevice::new(interfaces, texts).ok()?;
+    Some(Agent::new(policy, settings, device))
 }

@@ -19,7 +19,7 @@ const ID: usize = 17;
 impl Wire for Same {
     ghost use Rattle.std.specs.Prelude.{None};
 
-    ghost told = { λ _. None };
+    ghost log = { λ _. None };
 
     // It never fails.
     ghost failures = { λ _. 0 };
@@ -64,18 +64,14 @@ pub(crate) fn row(alloc: Global, text: &mut String, stride: Stride, line: &str) 
     let reply = octets(alloc, reply)?;
     let start = Oid::parse(alloc, name).ok()?;
     let mut wire = Same { reply };
-    put_walked(alloc, text, &mut wire, &start, stride)
-}
-
-fn put_walked(
-    alloc: Global,
-    text: &mut String,
-    wire: &mut Same,
-    start: &Oid,
-    stride: Stride,
-) -> Option<()> {
-    let mut host = Recorder::new(alloc, nothing(alloc));
-    let walked = walked(alloc, &mut host, wire, start, stride);
+    let nothing = Given {
+        words: Vec::new(alloc),
+        input: Ok(Vec::new(alloc)),
+        files: Vec::new(alloc),
+        output: Ok(()),
+    };
+    let mut host = Recorder::new(alloc, nothing);
+    let walked = walked(alloc, &mut host, &mut wire, &start, stride);
     let printed = printed_by(alloc, &host)?;
     match walked {
         Ok(()) => write!(text, "{printed:?}").ok(),
@@ -83,16 +79,6 @@ fn put_walked(
             write!(text, "{printed:?}, {} {}", why.number(), why.name()).ok()
         }
         Err(WalkFault::Output(_)) => None,
-    }
-}
-
-/// Surroundings that give nothing.
-fn nothing(alloc: Global) -> Given {
-    Given {
-        words: Vec::new(alloc),
-        input: Ok(Vec::new(alloc)),
-        files: Vec::new(alloc),
-        output: Ok(()),
     }
 }
 

@@ -343,7 +343,7 @@ abbrev pub LacksNumber : Invocation → Type 0
 LacksNumber (asked.Report w) = (w.printed.station_label ≡ true) × (w.settings ≡ None)
 LacksNumber _ = ⊥
 
--- stations that are to be placed on machines, and no folder for their settings
+-- machines for stations, and no folder for the settings of the stations
 abbrev pub LacksSplit : Invocation → Type 0
 LacksSplit (asked.Settings w) = IsSome w.machines × (w.split ≡ None)
 LacksSplit _ = ⊥

@@ -325,7 +325,7 @@ impl Invocation<'_, '_> {
         }
     }
 
-    /// Returns `true` if stations are to be placed on machines, and no folder is named for their
+    /// Returns `true` if machines are given for stations, and no folder is named for their
     /// settings.
     pub fn lacks_split(&self) -> bool
         ensures { IsTrue result ↔ LacksSplit self.now }

@@ -6,24 +6,19 @@ use mon_alarms::Rule;
 use mon_board::{Board, Watch, WatchFault};
 use mon_report::{ReportFault, write_report};
 use mon_row_texts::{parsed, put, put_fault, put_trimmed, three, two};
-use mon_sample::Sample;
 use std::alloc::Global;
 use std::io::{Result as IoResult, Write};
 
 /// Reads the rules `INSTANCE/RISING/FALLING`, with commas between them; of a dash none.
 fn rules_of(alloc: Global, words: &str) -> Option<Vec<Rule>> {
     let mut rules = Vec::new(alloc);
-    if words != "-" {
-        read_rules(&mut rules, words)?;
+    if words == "-" {
+        return Some(rules);
     }
-    Some(rules)
-}
-
-fn read_rules(rules: &mut Vec<Rule>, words: &str) -> Option<()> {
     for word in words.split(',') {
         rules.push(rule_of(word)?).ok()?;
     }
-    Some(())
+    Some(rules)
 }
 
 fn rule_of(word: &str) -> Option<Rule> {
@@ -56,14 +51,10 @@ pub(crate) fn watched(alloc: Global, text: &mut String, line: &str) -> Option<()
 pub(crate) fn taken(alloc: Global, text: &mut String, line: &str) -> Option<()> {
     let (instances, samples) = two(line, ' ')?;
     let mut board = board_of(alloc, instances, "-")?;
-    put_all_taken(alloc, text, &mut board, samples)
-}
-
-fn put_all_taken(alloc: Global, text: &mut String, board: &mut Board, samples: &str) -> Option<()> {
     for word in samples.split(',') {
-        put_taken(alloc, text, board, word)?;
+        put_taken(alloc, text, &mut board, word)?;
     }
-    put_counts(text, board)
+    put_counts(text, &board)
 }
 
 fn put_taken(alloc: Global, text: &mut String, board: &mut Board, word: &str) -> Option<()> {
@@ -120,29 +111,18 @@ impl Write for Narrow {
 pub(crate) fn reported(alloc: Global, text: &mut String, line: &str) -> Option<()> {
     let (instances, rules, records) = three(line, ' ')?;
     let mut board = board_of(alloc, instances, rules)?;
-    put_reported(alloc, text, &mut board, records)
-}
-
-fn put_reported(alloc: Global, text: &mut String, board: &mut Board, records: &str) -> Option<()> {
     let samples = samples_of(alloc, records)?;
-    take_all(board, samples.as_slice())?;
-    put_whole(alloc, text, board)
-}
-
-fn take_all(board: &mut Board, samples: &[Sample]) -> Option<()> {
-    for sample in samples {
+    for sample in samples.as_slice() {
         let _ = board.take(0, *sample).ok()?;
     }
-    Some(())
+    put_whole(alloc, text, &board)
 }
 
+/// Appends the report, if each writer that is too narrow for it fails with a beginning of it.
 fn put_whole(alloc: Global, text: &mut String, board: &Board) -> Option<()> {
     let mut whole = Vec::new(alloc);
     write_report(board, &mut whole).ok()?;
-    put_if_narrow_fail(alloc, text, board, whole.as_slice())
-}
-
-fn put_if_narrow_fail(alloc: Global, text: &mut String, board: &Board, whole: &[u8]) -> Option<()> {
+    let whole = whole.as_slice();
     for room in 0..whole.len() {
         if !fails_within(alloc, board, &whole[..room]) {
             return None;

@@ -4,7 +4,6 @@ ghost use Rattle.mon_exchange.specs.Claim.{IsSendable, claim_of};
 
 use mon_exchange::{Claim, ClaimRef, read_claim, write_claim};
 use mon_row_texts::{octets, put, put_digits, put_fault, put_name};
-use mon_sample::Sample;
 use std::alloc::Global;
 
 /// Appends the claim that these octets spell, its size and its octets as they are written; or the
@@ -22,7 +21,9 @@ fn put_claim(alloc: Global, text: &mut String, claim: &Claim) -> Option<()>
 {
     put_fields(alloc, text, claim)?;
     for sample in claim.samples.as_slice() {
-        put_sample(text, sample)?;
+        let (boots, time, mark) = (sample.boots(), sample.time(), sample.discontinuity());
+        let (kind, value) = (sample.kind().name(), sample.value());
+        write!(text, " {boots}:{time}:{mark}:{kind}:{value}").ok()?;
     }
     put_written(alloc, text, &claim.lend())
 }
@@ -34,19 +35,6 @@ fn put_fields(alloc: Global, text: &mut String, claim: &Claim) -> Option<()> {
     put_digits(text, claim.engine.as_slice())?;
     put(text, " ")?;
     put_name(alloc, text, &claim.name)
-}
-
-fn put_sample(text: &mut String, sample: &Sample) -> Option<()> {
-    write!(
-        text,
-        " {}:{}:{}:{}:{}",
-        sample.boots(),
-        sample.time(),
-        sample.discontinuity(),
-        sample.kind().name(),
-        sample.value()
-    )
-    .ok()
 }
 
 fn put_written(alloc: Global, text: &mut String, claim: &ClaimRef) -> Option<()>

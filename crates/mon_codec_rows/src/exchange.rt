@@ -1,7 +1,7 @@
 //! What claims change at a station, and what it offers then.
 
 use mon_board::{Board, Watch, Watched};
-use mon_exchange::{Claim, Peers, Portion, portions, read_claim, serial_after};
+use mon_exchange::{Peers, Portion, portions, read_claim};
 use mon_row_texts::{octets, parsed, put, put_fault, watched};
 use std::alloc::Global;
 
@@ -35,20 +35,15 @@ fn push_watched(
         .ok()
 }
 
-/// Makes the empty windows.
-fn board(alloc: Global) -> Option<Board> {
-    let mut instances = Vec::new(alloc);
-    push_watched(alloc, &mut instances, "1.3.6.1.2.1.2.2.1.10.1", 64, 64)?;
-    push_watched(alloc, &mut instances, "1.3.6.1.2.1.2.2.1.10.2", 4, 2)?;
-    let watch = Watch::new(instances, Vec::new(alloc)).ok()?;
-    Board::new(alloc, watch).ok()
-}
-
 impl Exchange {
     /// Makes the station with empty windows.
     pub fn new(alloc: Global) -> Option<Self> {
+        let mut instances = Vec::new(alloc);
+        push_watched(alloc, &mut instances, "1.3.6.1.2.1.2.2.1.10.1", 64, 64)?;
+        push_watched(alloc, &mut instances, "1.3.6.1.2.1.2.2.1.10.2", 4, 2)?;
+        let watch = Watch::new(instances, Vec::new(alloc)).ok()?;
+        let board = Board::new(alloc, watch).ok()?;
         let peers = Peers::new(alloc, 1, &[2, 3]).ok()?;
-        let board = board(alloc)?;
         Some(Exchange { board, peers })
     }
 
@@ -72,14 +67,11 @@ impl Exchange {
     /// its station.
     fn note(&mut self, alloc: Global, text: &mut String, digits: &str) -> Option<()> {
         let octets = octets(alloc, digits)?;
-        match read_claim(alloc, octets.as_slice()) {
-            Ok(claim) => self.put_noted(text, &claim),
-            Err(why) => put_fault(text, why.number(), why.name()),
-        }
-    }
-
-    fn put_noted(&mut self, text: &mut String, claim: &Claim) -> Option<()> {
-        match self.peers.note(&mut self.board, claim) {
+        let claim = match read_claim(alloc, octets.as_slice()) {
+            Ok(claim) => claim,
+            Err(why) => return put_fault(text, why.number(), why.name()),
+        };
+        match self.peers.note(&mut self.board, &claim) {
             Ok(noted) => {
                 let known = self.peers.known(claim.station)?;
                 write!(text, "{noted:?} {known}").ok()
@@ -102,15 +94,11 @@ impl Exchange {
         let slot = self.peers.slot(parsed(word)?)?;
         write!(text, "{} to slot {slot}", self.peers.own()).ok()?;
         let portions = portions(alloc, &self.board, slot).ok()?;
-        put_portions(text, portions.as_slice())
+        for portion in portions.as_slice() {
+            put_portion(text, portion)?;
+        }
+        Some(())
     }
-}
-
-fn put_portions(text: &mut String, portions: &[Portion]) -> Option<()> {
-    for portion in portions {
-        put_portion(text, portion)?;
-    }
-    Some(())
 }
 
 fn put_portion(text: &mut String, portion: &Portion) -> Option<()> {
@@ -119,10 +107,4 @@ fn put_portion(text: &mut String, portion: &Portion) -> Option<()> {
         write!(text, " {}.{}", sample.boots(), sample.time()).ok()?;
     }
     Some(())
-}
-
-/// Appends the serial after this one.
-pub(crate) fn serial(text: &mut String, word: &str) -> Option<()> {
-    let next = serial_after(parsed(word)?);
-    write!(text, "{next}").ok()
 }

@@ -4,7 +4,7 @@ use mon_board::{Board, Watch, Watched};
 use mon_row_texts::{
     first_line, octets, parsed, put, put_digits, put_refused, put_report, three, two, watched,
 };
-use mon_saved::{Image, image_size, read, read_image, write_image, write_within};
+use mon_saved::{image_size, read, read_image, write_image, write_within};
 use std::alloc::Global;
 
 /// Answers a line `ENGINE/NAME/WINDOW/EPOCH,.. HEX`, a watch's instances and an image: with the
@@ -14,7 +14,13 @@ pub(crate) fn row(alloc: Global, text: &mut String, line: &str) -> Option<()> {
     let (words, digits) = two(line, ' ')?;
     let octets = octets(alloc, digits)?;
     let watch = watch_of(alloc, words)?;
-    put_image(alloc, text, &watch, octets.as_slice())
+    match read_image(alloc, &watch, octets.as_slice()) {
+        Ok((board, incarnation)) => {
+            put_sizes(alloc, text, &watch, octets.as_slice(), incarnation)?;
+            put_written(alloc, text, &board, incarnation)
+        }
+        Err(why) => put_refused(text, why.number(), why.name()),
+    }
 }
 
 /// Appends the report of the board that a line's image is read as under its watch, without the last
@@ -23,22 +29,8 @@ pub(crate) fn report(alloc: Global, text: &mut String, line: &str) -> Option<()>
     let (words, digits) = two(line, ' ')?;
     let octets = octets(alloc, digits)?;
     let watch = watch_of(alloc, words)?;
-    put_read_report(alloc, text, &watch, octets.as_slice())
-}
-
-fn put_read_report(alloc: Global, text: &mut String, watch: &Watch, octets: &[u8]) -> Option<()> {
-    let (board, _incarnation) = read_image(alloc, watch, octets).ok()?;
+    let (board, _incarnation) = read_image(alloc, &watch, octets.as_slice()).ok()?;
     put_report(alloc, text, &board)
-}
-
-fn put_image(alloc: Global, text: &mut String, watch: &Watch, octets: &[u8]) -> Option<()> {
-    match read_image(alloc, watch, octets) {
-        Ok((board, incarnation)) => {
-            put_sizes(alloc, text, watch, octets, incarnation)?;
-            put_written(alloc, text, &board, incarnation)
-        }
-        Err(why) => put_refused(text, why.number(), why.name()),
-    }
 }
 
 /// Appends the incarnation, and the sizes and the number of samples that the image has of each
@@ -52,10 +44,6 @@ fn put_sizes(
 ) -> Option<()> {
     write!(text, "incarnation {incarnation} saved").ok()?;
     let image = read(alloc, watch, octets).ok()?;
-    put_entries(text, &image)
-}
-
-fn put_entries(text: &mut String, image: &Image) -> Option<()> {
     for entry in image.entries.as_slice() {
         let many = entry.samples.as_slice().len();
         write!(text, " {}/{}/{many}", entry.window, entry.epoch).ok()?;
@@ -71,15 +59,11 @@ fn put_written(alloc: Global, text: &mut String, board: &Board, incarnation: u32
     let image = write_image(alloc, board, incarnation).ok()?;
     let mut within = Vec::with_capacity(alloc, image_size(board)).ok()?;
     write_within(&mut within, board, incarnation);
-    put_same(text, image.as_slice(), within.as_slice())
-}
-
-fn put_same(text: &mut String, image: &[u8], within: &[u8]) -> Option<()> {
-    if image != within {
+    if image.as_slice() != within.as_slice() {
         return None;
     }
     put(text, " written ")?;
-    put_digits(text, image)
+    put_digits(text, image.as_slice())
 }
 
 /// Makes the watch of instances `ENGINE/NAME/WINDOW/EPOCH`.
@@ -90,17 +74,13 @@ fn watch_of(alloc: Global, words: &str) -> Option<Watch> {
 /// Reads the instances `ENGINE/NAME/WINDOW/EPOCH`, with commas between them; of a dash none.
 pub(crate) fn instances_of(alloc: Global, words: &str) -> Option<Vec<Watched>> {
     let mut instances = Vec::new(alloc);
-    if words != "-" {
-        read_instances(alloc, &mut instances, words)?;
+    if words == "-" {
+        return Some(instances);
+    }
+    for word in words.split(',') {
+        read_instance(alloc, &mut instances, word)?;
     }
     Some(instances)
-}
-
-fn read_instances(alloc: Global, instances: &mut Vec<Watched>, words: &str) -> Option<()> {
-    for word in words.split(',') {
-        read_instance(alloc, instances, word)?;
-    }
-    Some(())
 }
 
 fn read_instance(alloc: Global, instances: &mut Vec<Watched>, word: &str) -> Option<()> {
@@ -116,25 +96,14 @@ fn read_instance(alloc: Global, instances: &mut Vec<Watched>, word: &str) -> Opt
 /// were written in all.
 pub fn time_images<R: Input + Print>(rt: &R, alloc: Global, times: u32) -> Option<()> {
     let line = first_line(rt, alloc)?;
-    let sum = all_written(alloc, line.trim_end(), times)?;
-    println!(rt; "{sum} octets").ok()
-}
-
-/// Reads the image of a line and writes it, this many times, and returns how many octets were
-/// written.
-fn all_written(alloc: Global, line: &str, times: u32) -> Option<u64> {
-    let (words, digits) = two(line, ' ')?;
+    let (words, digits) = two(line.trim_end(), ' ')?;
     let octets = octets(alloc, digits)?;
     let watch = watch_of(alloc, words)?;
-    written_again(alloc, &watch, octets.as_slice(), times)
-}
-
-fn written_again(alloc: Global, watch: &Watch, octets: &[u8], times: u32) -> Option<u64> {
     let mut sum: u64 = 0;
     for _ in 0..times {
-        sum = sum.wrapping_add(read_and_written(alloc, watch, octets)?);
+        sum = sum.wrapping_add(read_and_written(alloc, &watch, octets.as_slice())?);
     }
-    Some(sum)
+    println!(rt; "{sum} octets").ok()
 }
 
 /// Reads an image and writes it, and returns how many octets were written.

@@ -15,8 +15,12 @@ use std::alloc::Global;
 /// after the sample, of all for a dash.
 pub(crate) fn row(alloc: Global, text: &mut String, line: &str) -> Option<()> {
     let (instances, steps) = two(line, ' ')?;
+    let (own_steps, other_steps, last_steps) = three(steps, ' ')?;
     let (mut own, mut other) = boards(alloc, instances)?;
-    put_joined(alloc, text, &mut own, &mut other, steps)
+    follow(alloc, text, &mut own, own_steps)?;
+    follow(alloc, text, &mut other, other_steps)?;
+    own.join(&other);
+    follow(alloc, text, &mut own, last_steps)
 }
 
 /// Makes two boards of one watch.
@@ -29,22 +33,6 @@ fn boards(alloc: Global, instances: &str) -> Option<(Board, Board)>
         Board::new(alloc, watch).ok()?,
         Board::new(alloc, copy).ok()?,
     ))
-}
-
-fn put_joined(
-    alloc: Global,
-    text: &mut String,
-    own: &mut Board,
-    other: &mut Board,
-    steps: &str,
-) -> Option<()>
-    requires { other.old.watch ≡ own.old.watch }
-{
-    let (own_steps, other_steps, last_steps) = three(steps, ' ')?;
-    follow(alloc, text, own, own_steps)?;
-    follow(alloc, text, other, other_steps)?;
-    own.join(other);
-    follow(alloc, text, own, last_steps)
 }
 
 /// Does the steps, and appends what is owed where one asks for it.

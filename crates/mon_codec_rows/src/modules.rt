@@ -2,7 +2,7 @@
 
 use mon_oid::Oid;
 use mon_row_texts::{put, put_fault, put_name};
-use mon_smi::{Names, Token, read_module, tokens};
+use mon_smi::{Names, read_module, tokens};
 use std::alloc::Global;
 
 /// A module of four names, of which two mean each other.
@@ -11,14 +11,11 @@ const EX_MIB: &str =
 
 /// Appends the tokens of a text: of each its kind, and where it begins and ends; or the fault.
 pub(crate) fn cut(alloc: Global, text: &mut String, words: &str) -> Option<()> {
-    match tokens(alloc, words) {
-        Ok(found) => put_tokens(text, found.as_slice()),
-        Err(why) => put_fault(text, why.number(), why.name()),
-    }
-}
-
-fn put_tokens(text: &mut String, found: &[Token]) -> Option<()> {
-    for token in found {
+    let found = match tokens(alloc, words) {
+        Ok(found) => found,
+        Err(why) => return put_fault(text, why.number(), why.name()),
+    };
+    for token in found.as_slice() {
         let (kind, start, end) = (token.kind, token.span.start, token.span.end);
         write!(text, " {kind:?} {start}..{end}").ok()?;
     }
@@ -36,22 +33,14 @@ pub(crate) fn row(alloc: Global, text: &mut String, words: &str) -> Option<()> {
 /// Returns the built-in names and those of the module.
 fn known(alloc: Global) -> Option<Names> {
     let mut names = Names::new(alloc).ok()?;
-    add_module(alloc, &mut names)?;
-    Some(names)
-}
-
-fn add_module(alloc: Global, names: &mut Names) -> Option<()> {
     let module = read_module(alloc, EX_MIB).ok()?;
-    names.add(alloc, &module).ok()
+    names.add(alloc, &module).ok()?;
+    Some(names)
 }
 
 /// Appends the identifier that a text means; or the fault.
 pub(crate) fn meant(alloc: Global, text: &mut String, words: &str) -> Option<()> {
     let names = known(alloc)?;
-    put_meant(alloc, text, &names, words)
-}
-
-fn put_meant(alloc: Global, text: &mut String, names: &Names, words: &str) -> Option<()> {
     match names.resolve(alloc, words) {
         Ok(name) => put_name(alloc, text, &name),
         Err(why) => put_fault(text, why.number(), why.name()),
@@ -61,10 +50,6 @@ fn put_meant(alloc: Global, text: &mut String, names: &Names, words: &str) -> Op
 /// Appends the name of an identifier.
 pub(crate) fn called(alloc: Global, text: &mut String, words: &str) -> Option<()> {
     let names = known(alloc)?;
-    put_called(alloc, text, &names, words)
-}
-
-fn put_called(alloc: Global, text: &mut String, names: &Names, words: &str) -> Option<()> {
     let name = Oid::parse(alloc, words).ok()?;
     let called = names.name_of(alloc, &name).ok()?;
     put(text, called.as_str())

@@ -7,42 +7,23 @@ use std::alloc::Global;
 /// Says how many sub-identifiers the identifier has that these words spell, its text, and whether a
 /// copy is equal; or the fault.
 pub(crate) fn row(alloc: Global, text: &mut String, words: &str) -> Option<()> {
-    match Oid::parse(alloc, words) {
-        Ok(name) => put_parsed(alloc, text, &name),
-        Err(why) => put_fault(text, why.number(), why.name()),
-    }
-}
-
-fn put_parsed(alloc: Global, text: &mut String, name: &Oid) -> Option<()> {
-    let is_equal = is_copied(alloc, name)?;
-    write!(text, "{} ", name.parts().len()).ok()?;
-    put_name(alloc, text, name)?;
-    write!(text, " {is_equal}").ok()
-}
-
-/// Returns `true` if a copy is equal.
-fn is_copied(alloc: Global, name: &Oid) -> Option<bool> {
+    let name = match Oid::parse(alloc, words) {
+        Ok(name) => name,
+        Err(why) => return put_fault(text, why.number(), why.name()),
+    };
     let copy = name.try_clone(alloc).ok()?;
-    Some(copy == *name)
+    write!(text, "{} ", name.parts().len()).ok()?;
+    put_name(alloc, text, &name)?;
+    write!(text, " {}", copy == name).ok()
 }
 
 /// Appends the text of the identifier of these numbers, with spaces between them; or the fault.
 pub(crate) fn made(alloc: Global, text: &mut String, words: &str) -> Option<()> {
-    let mut parts = Vec::new(alloc);
-    read_parts(&mut parts, words)?;
-    put_made(alloc, text, parts.as_slice())
-}
-
-fn read_parts(parts: &mut Vec<u32>, words: &str) -> Option<()> {
+    let mut parts: Vec<u32> = Vec::new(alloc);
     for word in words.split(' ') {
-        let part = parsed(word)?;
-        parts.push(part).ok()?;
+        parts.push(parsed(word)?).ok()?;
     }
-    Some(())
-}
-
-fn put_made(alloc: Global, text: &mut String, parts: &[u32]) -> Option<()> {
-    match Oid::from_parts(alloc, parts) {
+    match Oid::from_parts(alloc, parts.as_slice()) {
         Ok(name) => put_name(alloc, text, &name),
         Err(why) => put_fault(text, why.number(), why.name()),
     }
@@ -54,11 +35,7 @@ pub(crate) fn compared(alloc: Global, text: &mut String, words: &str) -> Option<
     let (own, other) = two(words, ' ')?;
     let own = Oid::parse(alloc, own).ok()?;
     let other = Oid::parse(alloc, other).ok()?;
-    put_compared(text, &own, &other)
-}
-
-fn put_compared(text: &mut String, own: &Oid, other: &Oid) -> Option<()> {
-    let (order, same) = (own.compare(other), own.cmp(other));
-    let (equal, prefix) = (*own == *other, own.is_prefix_of(other));
+    let (order, same) = (own.compare(&other), own.cmp(&other));
+    let (equal, prefix) = (own == other, own.is_prefix_of(&other));
     write!(text, "{order:?} {same:?} {equal} {prefix}").ok()
 }

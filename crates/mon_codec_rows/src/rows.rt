@@ -35,7 +35,9 @@
 //!     called TEXT       the name of an identifier
 //!     text KIND TEXT    the octets of the value that a text means for a kind; or the fault
 
-use crate::{boards, claims, exchange, images, marks, modules, names, samples, values};
+use crate::{boards, claims, images, marks, modules, names, samples, values};
+use mon_exchange::serial_after;
+use mon_row_texts::parsed;
 use std::alloc::Global;
 
 /// Appends the answer to a line of this first word, if nothing that lines change is asked.
@@ -44,7 +46,7 @@ pub fn answer(alloc: Global, text: &mut String, word: &str, rest: &str) -> Optio
         "value" => values::value_row(alloc, text, rest),
         "message" => values::message_row(alloc, text, rest),
         "claim" => claims::row(alloc, text, rest),
-        "serial" => exchange::serial(text, rest),
+        "serial" => write!(text, "{}", serial_after(parsed(rest)?)).ok(),
         "image" => images::row(alloc, text, rest),
         "report" => images::report(alloc, text, rest),
         "name" => names::row(alloc, text, rest),

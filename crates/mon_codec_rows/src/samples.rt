@@ -10,14 +10,11 @@ use std::alloc::Global;
 /// Appends the fields of the sample of this record, and its record as it is written; or the fault.
 pub(crate) fn row(alloc: Global, text: &mut String, digits: &str) -> Option<()> {
     let octets = octets(alloc, digits)?;
-    match Sample::from_record(octets.as_slice().first_chunk::<21>()?) {
-        Ok(sample) => put_fields(text, &sample),
-        Err(why) => put_fault(text, why.number(), why.name()),
-    }
-}
-
-fn put_fields(text: &mut String, sample: &Sample) -> Option<()> {
-    put_stamp(text, sample)?;
+    let sample = match Sample::from_record(octets.as_slice().first_chunk::<21>()?) {
+        Ok(sample) => sample,
+        Err(why) => return put_fault(text, why.number(), why.name()),
+    };
+    put_stamp(text, &sample)?;
     let (discontinuity, kind, number) = (
         sample.discontinuity(),
         sample.kind().name(),
@@ -48,17 +45,13 @@ pub(crate) fn sample_of(alloc: Global, digits: &str) -> Option<Sample> {
 /// Reads the samples of records with commas between them; of a dash none.
 pub(crate) fn samples_of(alloc: Global, words: &str) -> Option<Vec<Sample>> {
     let mut samples = Vec::new(alloc);
-    if words != "-" {
-        read_samples(alloc, &mut samples, words)?;
+    if words == "-" {
+        return Some(samples);
     }
-    Some(samples)
-}
-
-fn read_samples(alloc: Global, samples: &mut Vec<Sample>, words: &str) -> Option<()> {
     for word in words.split(',') {
         samples.push(sample_of(alloc, word)?).ok()?;
     }
-    Some(())
+    Some(samples)
 }
 
 /// Makes an empty track of this size and epoch.
@@ -77,13 +70,9 @@ pub(crate) fn track(alloc: Global, text: &mut String, line: &str) -> Option<()> 
     let (size, epoch, records) = three(line, ' ')?;
     let samples = samples_of(alloc, records)?;
     let mut track = track_of(alloc, size, epoch)?;
-    put_tracked(text, &mut track, samples.as_slice())
-}
-
-fn put_tracked(text: &mut String, track: &mut Track, samples: &[Sample]) -> Option<()> {
-    for sample in samples {
+    for sample in samples.as_slice() {
         put_inserted(text, track.insert(*sample))?;
-        put_totals(text, track)?;
+        put_totals(text, &track)?;
     }
     put_kept(text, track.items())
 }
@@ -129,27 +118,16 @@ fn put_kept(text: &mut String, items: &[Sample]) -> Option<()> {
 pub(crate) fn window(alloc: Global, text: &mut String, line: &str) -> Option<()> {
     let (size, epoch, records) = three(line, ' ')?;
     let samples = samples_of(alloc, records)?;
-    let mut window = window_of(alloc, size, epoch)?;
-    put_inserting(text, &mut window, samples.as_slice())
-}
-
-fn put_inserting(text: &mut String, window: &mut Window, samples: &[Sample]) -> Option<()> {
-    for sample in samples {
-        let inserted = window.insert(*sample);
-        put_inserted(text, inserted)?;
-        put(text, ", ")?;
-    }
-    put_kept(text, window.items())
-}
-
-/// Makes an empty window of this size and epoch.
-fn window_of(alloc: Global, size: &str, epoch: &str) -> Option<Window> {
-    let size = parsed(size)?;
-    let epoch = parsed(epoch)?;
+    let (size, epoch) = (parsed(size)?, parsed(epoch)?);
     if epoch < 1 || epoch > size || size > 64 {
         return None;
     }
-    Window::new(alloc, size, epoch).ok()
+    let mut window = Window::new(alloc, size, epoch).ok()?;
+    for sample in samples.as_slice() {
+        put_inserted(text, window.insert(*sample))?;
+        put(text, ", ")?;
+    }
+    put_kept(text, window.items())
 }
 
 /// Appends the totals of two tracks of a line `SIZE EPOCH RECORD,.. RECORD,..` that are joined, and
@@ -159,30 +137,22 @@ pub(crate) fn joined(alloc: Global, text: &mut String, line: &str) -> Option<()>
     let (own, others) = two(rest, ' ')?;
     let mut track = filled(alloc, size, epoch, own)?;
     let other = filled(alloc, size, epoch, others)?;
-    put_joined(text, &mut track, &other)
+    if track.size() != other.size() || track.epoch() != other.epoch() {
+        return None;
+    }
+    track.join(&other);
+    put_totals(text, &track)?;
+    put_kept(text, track.items())
 }
 
 /// Makes a track with the samples of these records.
 fn filled(alloc: Global, size: &str, epoch: &str, records: &str) -> Option<Track> {
     let samples = samples_of(alloc, records)?;
     let mut track = track_of(alloc, size, epoch)?;
-    insert_all(&mut track, samples.as_slice());
-    Some(track)
-}
-
-fn put_joined(text: &mut String, track: &mut Track, other: &Track) -> Option<()> {
-    if track.size() != other.size() || track.epoch() != other.epoch() {
-        return None;
-    }
-    track.join(other);
-    put_totals(text, track)?;
-    put_kept(text, track.items())
-}
-
-fn insert_all(track: &mut Track, samples: &[Sample]) {
-    for sample in samples {
+    for sample in samples.as_slice() {
         let _ = track.insert(*sample);
     }
+    Some(track)
 }
 
 /// Appends the state of the rule of a line `RISING FALLING RECORD,..` over its samples; or the
@@ -191,9 +161,13 @@ pub(crate) fn alarm(alloc: Global, text: &mut String, line: &str) -> Option<()> 
     let (rising, falling, records) = three(line, ' ')?;
     let (rising, falling) = (parsed(rising)?, parsed(falling)?);
     let samples = samples_of(alloc, records)?;
-    match Rule::new(0, rising, falling) {
-        Ok(rule) => put_state(text, state(&rule, samples.as_slice())),
-        Err(why) => put_fault(text, why.number(), why.name()),
+    let rule = match Rule::new(0, rising, falling) {
+        Ok(rule) => rule,
+        Err(why) => return put_fault(text, why.number(), why.name()),
+    };
+    match state(&rule, samples.as_slice()) {
+        AlarmState::Clear => put(text, "clear"),
+        AlarmState::Raised { boots, time } => write!(text, "raised@{boots}:{time}").ok(),
     }
 }
 
@@ -218,12 +192,5 @@ fn put_event(text: &mut String, event: AlarmEvent) -> Option<()> {
         AlarmEvent::Raised { boots, time } => write!(text, " raised@{boots}:{time}").ok(),
         AlarmEvent::Cleared { boots, time } => write!(text, " clear@{boots}:{time}").ok(),
         AlarmEvent::Lapsed => put(text, " clear"),
-    }
-}
-
-fn put_state(text: &mut String, alarm: AlarmState) -> Option<()> {
-    match alarm {
-        AlarmState::Clear => put(text, "clear"),
-        AlarmState::Raised { boots, time } => write!(text, "raised@{boots}:{time}").ok(),
     }
 }

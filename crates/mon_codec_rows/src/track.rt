@@ -1,6 +1,6 @@
 //! Samples inserted into one track of 64, in rising, falling or mixed order, for bench/track.
 
-use mon_rates::{Totals, Track};
+use mon_rates::Track;
 use mon_row_texts::parsed;
 use mon_sample::{Kind, Sample};
 use mon_window::Inserted;
@@ -41,7 +41,13 @@ struct Tally {
 /// SHARE is 1 to 64. Prints how many samples were added, known and too old, the sum of the places
 /// of those added, and the totals.
 pub fn time_track<R: Print>(rt: &R, alloc: Global, words: &[String]) -> Option<()> {
-    let (tally, totals) = counted(alloc, words_of(words)?)?;
+    let asked = words_of(words)?;
+    if asked.epoch < 1 || asked.epoch > SIZE {
+        return None;
+    }
+    let mut track = Track::new(alloc, SIZE, asked.epoch).ok()?;
+    let tally = inserted(&mut track, asked);
+    let totals = track.totals();
     println!(rt;
         "{} added, {} known, {} too old, {}",
         tally.added, tally.known, tally.too_old, tally.places
@@ -54,19 +60,14 @@ pub fn time_track<R: Print>(rt: &R, alloc: Global, words: &[String]) -> Option<(
     .ok()
 }
 
-/// Inserts them all into a new track, and returns its totals too.
-fn counted(alloc: Global, asked: Arguments) -> Option<(Tally, Totals)> {
-    if asked.epoch < 1 || asked.epoch > SIZE {
-        return None;
-    }
-    let mut track = Track::new(alloc, SIZE, asked.epoch).ok()?;
-    let tally = inserted(&mut track, asked);
-    Some((tally, track.totals()))
-}
-
 /// Reads the three arguments.
 fn words_of(words: &[String]) -> Option<Arguments> {
-    let order = order_of(words.first()?.as_str())?;
+    let order = match words.first()?.as_str() {
+        "rising" => Order::Rising,
+        "falling" => Order::Falling,
+        "mixed" => Order::Mixed,
+        _ => return None,
+    };
     let epoch = parsed(words.get(1)?.as_str())?;
     let times = parsed(words.get(2)?.as_str())?;
     Some(Arguments {
@@ -76,16 +77,7 @@ fn words_of(words: &[String]) -> Option<Arguments> {
     })
 }
 
-fn order_of(word: &str) -> Option<Order> {
-    match word {
-        "rising" => Some(Order::Rising),
-        "falling" => Some(Order::Falling),
-        "mixed" => Some(Order::Mixed),
-        _ => None,
-    }
-}
-
-/// Inserts them all.
+/// Inserts them all: samples of a counter that rises by 3 a second.
 fn inserted(track: &mut Track, asked: Arguments) -> Tally {
     let mut tally = Tally {
         added: 0,
@@ -99,7 +91,9 @@ fn inserted(track: &mut Track, asked: Arguments) -> Tally {
             .wrapping_mul(6364136223846793005)
             .wrapping_add(1442695040888963407);
         let second = second(asked, turn, random);
-        match track.insert(sample(second)) {
+        let value = u64::from(second.wrapping_mul(3));
+        let sample = Sample::new(second / LIFE, second % LIFE, 0, Kind::Counter32, value);
+        match track.insert(sample) {
             Inserted::Added { at, .. } => {
                 tally.added = tally.added.wrapping_add(1);
                 tally.places = tally.places.wrapping_add(at as u64);
@@ -119,10 +113,4 @@ fn second(asked: Arguments, turn: u32, random: u64) -> u32 {
         Order::Falling => asked.times.wrapping_sub(turn),
         Order::Mixed => turn.wrapping_add((random >> 58) as u32),
     }
-}
-
-/// Makes the sample of a second: a counter that rises by 3 a second.
-fn sample(second: u32) -> Sample {
-    let value = u64::from(second.wrapping_mul(3));
-    Sample::new(second / LIFE, second % LIFE, 0, Kind::Counter32, value)
 }

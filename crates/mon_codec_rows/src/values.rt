@@ -2,7 +2,7 @@
 
 use mon_app::{ValueKind, value_of};
 use mon_ber::{Value, read_value, size_of, write_value};
-use mon_pdu::{Binding, Body, Message, message_size, read_message, write_message};
+use mon_pdu::{Body, Message, message_size, read_message, write_message};
 use mon_row_texts::{first_line, octets, put, put_digits, put_fault, put_name, two};
 use std::alloc::Global;
 
@@ -10,14 +10,11 @@ use std::alloc::Global;
 /// they are written; or the fault.
 pub(crate) fn value_row(alloc: Global, text: &mut String, digits: &str) -> Option<()> {
     let octets = octets(alloc, digits)?;
-    match read_value(alloc, octets.as_slice()) {
-        Ok((value, spelled)) => put_value(alloc, text, &value, spelled),
-        Err(why) => put_fault(text, why.number(), why.name()),
-    }
-}
-
-fn put_value(alloc: Global, text: &mut String, value: &Value, spelled: usize) -> Option<()> {
-    let size = size_of(value).ok()?;
+    let (value, spelled) = match read_value(alloc, octets.as_slice()) {
+        Ok(read) => read,
+        Err(why) => return put_fault(text, why.number(), why.name()),
+    };
+    let size = size_of(&value).ok()?;
     write!(text, "{value:?} {spelled} {size} ").ok()?;
     let copy = value.try_clone(alloc).ok()?;
     put_written(alloc, text, &copy)
@@ -54,7 +51,9 @@ pub(crate) fn message_row(alloc: Global, text: &mut String, digits: &str) -> Opt
 fn put_message(alloc: Global, text: &mut String, message: &Message) -> Option<()> {
     put_fields(text, message)?;
     for binding in message.body.bindings() {
-        put_binding(alloc, text, binding)?;
+        put(text, " ")?;
+        put_name(alloc, text, &binding.name)?;
+        write!(text, "={:?}", binding.value).ok()?;
     }
     let size = message_size(message).ok()?;
     write!(text, " {size} ").ok()?;
@@ -66,45 +65,23 @@ fn put_message(alloc: Global, text: &mut String, message: &Message) -> Option<()
 fn put_fields(text: &mut String, message: &Message) -> Option<()> {
     put_digits(text, message.community.as_slice())?;
     let tag = message.body.octet();
-    let (first, second, third) = numbers(&message.body);
-    write!(text, " {tag} {first} {second} {third}").ok()
-}
-
-fn put_binding(alloc: Global, text: &mut String, binding: &Binding) -> Option<()> {
-    put(text, " ")?;
-    put_name(alloc, text, &binding.name)?;
-    let value = &binding.value;
-    write!(text, "={value:?}").ok()
-}
-
-fn numbers(body: &Body) -> (i32, i32, i32) {
-    match body {
+    let (first, second, third) = match &message.body {
         Body::Pdu(pdu) => (pdu.request_id, pdu.error_status, pdu.error_index),
         Body::Bulk(bulk) => (bulk.request_id, bulk.non_repeaters, bulk.max_repetitions),
-    }
+    };
+    write!(text, " {tag} {first} {second} {third}").ok()
 }
 
 /// Reads the message of the first line, in hex digits, and writes it, this many times, and prints
 /// how many octets were written in all.
 pub fn time_messages<R: Input + Print>(rt: &R, alloc: Global, times: u32) -> Option<()> {
     let line = first_line(rt, alloc)?;
-    let sum = all_written(alloc, line.trim_end(), times)?;
-    println!(rt; "{sum}").ok()
-}
-
-/// Reads the message of these digits and writes it, this many times, and returns how many octets
-/// were written.
-fn all_written(alloc: Global, digits: &str, times: u32) -> Option<u64> {
-    let octets = octets(alloc, digits)?;
-    written_again(alloc, octets.as_slice(), times)
-}
-
-fn written_again(alloc: Global, octets: &[u8], times: u32) -> Option<u64> {
+    let octets = octets(alloc, line.trim_end())?;
     let mut sum: u64 = 0;
     for _ in 0..times {
-        sum = sum.saturating_add(read_and_written(alloc, octets)?);
+        sum = sum.saturating_add(read_and_written(alloc, octets.as_slice())?);
     }
-    Some(sum)
+    println!(rt; "{sum}").ok()
 }
 
 /// Reads a message and writes it, and returns how many octets were written.

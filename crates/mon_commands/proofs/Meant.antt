@@ -9,7 +9,7 @@ use Rattle.mon_oid.specs.Oid.{IsOid}
 use Rattle.mon_smi.specs.Names.{MeansNumbers}
 use Rattle.mon_smi.specs.declared.definition.Definition.{Definition}
 
--- whatever the words mean that are left, they all mean what was found and that
+-- if the remaining arguments mean something, all arguments mean what was found and then that
 pub record LeadsTo (known : List Definition) (all rest oids : List (List ℕ)) : Type 0 where
   pub meant : (others : List (List ℕ)) → AreMeant known rest others → AreMeant known all (oids ++ others)
   pub unmeant : (failure : Failure) → IsFirstUnmeant known rest failure → IsFirstUnmeant known all failure

@@ -37,7 +37,7 @@ pub moved : {P S : Type 0} → (Holds : P → S → Type 0) (policy other : P) (
     → Holds other others
 moved Holds policy other settings others same alike holds = subst (λ s. Holds other s) alike (subst (λ p. Holds p settings) same holds)
 
--- a failure that says that memory ran out is told in one line
+-- a failure that says that memory ran out is reported in one line
 pub told_of_memory : (failure : Failure) (done more : Done) → IsMemory failure → GoesOnBy (IsTold level.Warning failure) done more
     → GoesOnBy (λ log. log ≡ untaken_lines Untaken) done more
 told_of_memory failure done more memory told =

@@ -1,4 +1,4 @@
--- Steps that are done in turn.
+-- Steps that are done one after another.
 use Rattle.std.proofs.Common.{◌≡◌, List, refl, sym, ap, subst}
 use Rattle.std.specs.Prelude.{IsErrAnd, Option, Result, Ok, Err}
 use Rattle.mon_host.specs.Log.{GoesOnBy}

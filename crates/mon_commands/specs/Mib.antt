@@ -7,8 +7,8 @@ use Rattle.mon_console.specs.Naming.{AreKnown, IsUnjoined, IsUnnamed, IsUnread}
 use Rattle.mon_console.specs.declared.failure.Failure.{Failure}
 use Rattle.mon_host.specs.AtHost.{AtHost}
 use Rattle.mon_host.specs.Then.{Quietly, Then}
-use Rattle.mon_listing.specs.Listing.{IsFirstUnnamed, IsListing, names_in}
 use Rattle.mon_smi.specs.Grammar.{Derives}
+use Rattle.mon_smi.specs.Listing.{IsFirstUnnamed, IsListing, names_in}
 use Rattle.mon_smi.specs.declared.definition.Definition.{Definition}
 use Rattle.mon_smi.specs.declared.fault.NamesFault.{NamesFault}
 

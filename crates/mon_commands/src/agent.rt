@@ -36,7 +36,7 @@ pub fn serve_agent<L: Listens, H: Host>(
     words: AgentArgs<'_>,
 ) -> Result<(), Failure>
     ensures { GoesOnBy (λ log. IsServingAgent (ports_by (L.has_opened net.now)
-        (L.has_failed net.now) L.Port.told L.Port.failures)
+        (L.has_failed net.now) L.Port.log L.Port.failures)
         words.entry log result) (H.log host.old) (H.log host.new) }
 {
     let told = read_agent_settings(alloc, host, words.settings, words.boots)?;
@@ -72,7 +72,7 @@ fn serve_at<L: Listens, H: Host>(
     agent: &mut Agent<SimDevice>,
 ) -> Result<(), Failure>
     ensures { GoesOnBy (λ log. IsServedAt (ports_by (L.has_opened net.now)
-        (L.has_failed net.now) L.Port.told L.Port.failures)
+        (L.has_failed net.now) L.Port.log L.Port.failures)
         service.listen service.count agent.old log result) (H.log host.old) (H.log host.new) }
 {
     let (mut port, at) = listen_at(alloc, net, service.listen)?;
@@ -114,7 +114,7 @@ fn serve_all<P: Port, D: Device + Drop, H: Host>(
         (policy_of agent.old) (settings_of agent.old) in
         Happens (λ at_port. GoesOnBy (λ log. IsServing Answers count (stands agent.old)
         (stands agent.new) at_port log result) (H.log host.old) (H.log host.new))
-        (P.told port.old) (P.told port.new) (P.failures port.old) (P.failures port.new) }
+        (P.log port.old) (P.log port.new) (P.failures port.old) (P.failures port.new) }
 {
     let mut room = Buffers::new(alloc)?;
     for _ in 0..count {
@@ -135,7 +135,7 @@ fn serve_next<P: Port, D: Device + Drop, H: Host>(
         (policy_of agent.old) (settings_of agent.old) in
         Happens (λ at_port. GoesOnBy (λ log. IsNextServed Answers (stands agent.old)
         (stands agent.new) at_port log result) (H.log host.old) (H.log host.new))
-        (P.told port.old) (P.told port.new) (P.failures port.old) (P.failures port.new) }
+        (P.log port.old) (P.log port.new) (P.failures port.old) (P.failures port.new) }
     ensures policy { policy_of agent.new ≡ policy_of agent.old }
     ensures settings { settings_of agent.new ≡ settings_of agent.old }
 {
@@ -150,7 +150,7 @@ fn tell_untaken<H: Host>(host: &mut H, served: Served)
 {
     match served {
         Served::Answered => {}
-        Served::Untaken => Failure::from(AppFault::OutOfMemory).tell(host, Level::Warning),
+        Served::Untaken => Failure::from(AppFault::OutOfMemory).report(host, Level::Warning),
     }
 }
 
@@ -267,8 +267,8 @@ fn moment_of(alloc: Global, hundredths: u64) -> Result<Moment, Failure>
     }
 }
 
-/// Answers the datagrams of a text, which arrive at a time and so many times each, and returns what
-/// is printed, with the names that are given.
+/// Answers the datagrams of a text, which arrive at a time, each as often as `arrivals` says.
+/// Returns what is printed, with the names that are given.
 fn told_answers<D: Device + Drop>(
     alloc: Global,
     agent: &mut Agent<D>,

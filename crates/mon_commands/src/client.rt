@@ -22,7 +22,7 @@ pub fn get<N: Opens, H: Host>(
     request: Request<'_, '_>,
 ) -> Result<(), Failure>
     ensures { GoesOnBy (λ log. IsGetting (agents_by (N.has_opened net.now) (N.has_failed net.now)
-        N.Wire.told)
+        N.Wire.log)
         request.entry log result)
         (H.log host.old) (H.log host.new) }
 {
@@ -37,7 +37,7 @@ pub fn next<N: Opens, H: Host>(
     request: Request<'_, '_>,
 ) -> Result<(), Failure>
     ensures { GoesOnBy (λ log. IsGettingNext (agents_by (N.has_opened net.now)
-        (N.has_failed net.now) N.Wire.told)
+        (N.has_failed net.now) N.Wire.log)
         request.entry log result)
         (H.log host.old) (H.log host.new) }
 {
@@ -52,7 +52,7 @@ pub fn bulk<N: Opens, H: Host>(
     words: BulkArgs<'_, '_>,
 ) -> Result<(), Failure>
     ensures { GoesOnBy (λ log. IsAskingMany (agents_by (N.has_opened net.now) (N.has_failed net.now)
-        N.Wire.told)
+        N.Wire.log)
         words.entry log result)
         (H.log host.old) (H.log host.new) }
 {
@@ -71,7 +71,7 @@ pub fn set<N: Opens, H: Host>(
     words: SetArgs<'_, '_>,
 ) -> Result<(), Failure>
     ensures { GoesOnBy (λ log. IsSetting (agents_by (N.has_opened net.now) (N.has_failed net.now)
-        N.Wire.told)
+        N.Wire.log)
         words.entry log result) (H.log host.old) (H.log host.new) }
 {
     let query = query_of(alloc, host, words.request)?;
@@ -88,7 +88,7 @@ fn ask<N: Opens, H: Host>(
     asking: Asking<'_>,
 ) -> Result<(), Failure>
     ensures { GoesOnBy (λ log. IsAsking (agents_by (N.has_opened net.now) (N.has_failed net.now)
-        N.Wire.told)
+        N.Wire.log)
         request.entry asking.entry log result)
         (H.log host.old) (H.log host.new) }
 {
@@ -105,7 +105,7 @@ fn print_answer<'a, N: Opens, H: Host>(
     asking: Asking<'a>,
 ) -> Result<(), Failure>
     ensures { GoesOnBy (λ log. PrintsAnswer (agents_by (N.has_opened net.now) (N.has_failed net.now)
-        N.Wire.told)
+        N.Wire.log)
         query.now asking.entry log result)
         (H.log host.old) (H.log host.new) }
 {
@@ -120,7 +120,7 @@ fn answer<'a, N: Opens>(
     query: &'a Query<'a>,
     asking: Asking<'a>,
 ) -> Result<String, Failure>
-    ensures { IsAnswered (agents_by (N.has_opened net.now) (N.has_failed net.now) N.Wire.told)
+    ensures { IsAnswered (agents_by (N.has_opened net.now) (N.has_failed net.now) N.Wire.log)
         query.now asking.entry result }
 {
     if query.prints_names {
@@ -138,7 +138,7 @@ fn answer_shown<'a, N: Opens, S: NameTexts>(
     asking: Asking<'a>,
     names: &S,
 ) -> Result<String, Failure>
-    ensures { IsAnsweredAs (agents_by (N.has_opened net.now) (N.has_failed net.now) N.Wire.told)
+    ensures { IsAnsweredAs (agents_by (N.has_opened net.now) (N.has_failed net.now) N.Wire.log)
         (S.shown names.now) query.now asking.entry result }
 {
     let question = Question {
@@ -161,7 +161,7 @@ fn answer_query<N: Opens, S: NameTexts>(
     question: &Question<'_>,
     names: &S,
 ) -> Result<String, AppFault>
-    ensures { IsAnswerText (agents_by (N.has_opened net.now) (N.has_failed net.now) N.Wire.told)
+    ensures { IsAnswerText (agents_by (N.has_opened net.now) (N.has_failed net.now) N.Wire.log)
         agent (S.shown names.now) (asked_in question.now) result }
 {
     let mut wire = net.open(agent)?;

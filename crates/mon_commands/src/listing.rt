@@ -7,8 +7,7 @@ ghost use Rattle.mon_commands.specs.Mib.{IsListed, IsMib};
 use mon_cli::MibArgs;
 use mon_console::{Failure, KnownNames, known_names, name_failure, no_module, print, read_text};
 use mon_host::Host;
-use mon_listing::ListFault;
-use mon_smi::read_module;
+use mon_smi::{ListFault, read_module};
 use std::alloc::{AllocError, Global};
 
 /// Prints the names of the module in a file, by the names of other modules too.
@@ -38,7 +37,7 @@ fn list(alloc: Global, path: &str, text: &str, known: KnownNames) -> Result<Stri
     };
     let mut known = known;
     known.add(alloc, path, &module)?;
-    match mon_listing::list(alloc, known.names(), module.defs.as_slice()) {
+    match mon_smi::list(alloc, known.names(), module.defs.as_slice()) {
         Ok(lines) => Ok(lines),
         Err(ListFault::OutOfMemory) => Err(Failure::from(AllocError)),
         Err(ListFault::Unnamed(name, fault)) => {

@@ -22,7 +22,7 @@ pub fn walk<N: Opens, H: Host>(
     words: WalkArgs<'_, '_>,
 ) -> Result<(), Failure>
     ensures { GoesOnBy (λ log. IsWalking (agents_by (N.has_opened net.now)
-        (N.has_failed net.now) N.Wire.told)
+        (N.has_failed net.now) N.Wire.log)
         words.entry log result) (H.log host.old) (H.log host.new) }
 {
     let query = query_of(alloc, host, words.request)?;
@@ -56,7 +56,7 @@ fn walk_query<N: Opens, H: Host>(
     stride: Stride,
 ) -> Result<(), Failure>
     ensures { GoesOnBy (λ log. IsWalkOf (agents_by (N.has_opened net.now)
-        (N.has_failed net.now) N.Wire.told)
+        (N.has_failed net.now) N.Wire.log)
         query.now stride query.now.asked.items log result) (H.log host.old) (H.log host.new) }
 {
     if query.asked.len() != 1 {
@@ -87,7 +87,7 @@ fn walk_shown<N: Opens, S: NameTexts, H: Host>(
     names: &S,
 ) -> Result<(), Failure>
     ensures { GoesOnBy (λ log. IsShown (agents_by (N.has_opened net.now)
-        (N.has_failed net.now) N.Wire.told)
+        (N.has_failed net.now) N.Wire.log)
         (S.shown names.now) route.now.agent route.now.plan.stride route.now.plan.community.now
         route.now.plan.start.now log result) (H.log host.old) (H.log host.new) }
 {
@@ -106,7 +106,7 @@ fn walk_agent<N: Opens, S: NameTexts, H: Host>(
     names: &S,
 ) -> Result<(), WalkFault>
     ensures { GoesOnBy (λ log. IsWalkAt (agents_by (N.has_opened net.now)
-        (N.has_failed net.now) N.Wire.told)
+        (N.has_failed net.now) N.Wire.log)
         route.now.agent.address (S.shown names.now) route.now.plan.stride
         route.now.plan.community.now route.now.plan.start.now log result)
         (H.log host.old) (H.log host.new) }

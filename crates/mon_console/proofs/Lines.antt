@@ -28,7 +28,7 @@ of_7 a b c d e f g = of_3 a b (c ++ (d ++ (e ++ (f ++ g)))) ∙ of_6 (a ++ b) c 
 pub of_8 : (a b c d e f g h : List ℕ) → a ++ (b ++ (c ++ (d ++ (e ++ (f ++ (g ++ h)))))) ≡ a ++ b ++ c ++ d ++ e ++ f ++ g ++ h
 of_8 a b c d e f g h = of_3 a b (c ++ (d ++ (e ++ (f ++ (g ++ h))))) ∙ of_7 (a ++ b) c d e f g h
 
--- the same text in another form
+-- a text that was made is equal to any other form of it
 pub reads_as : (made : Result (String Global) AllocError) (text other : List ℕ) → IfOk made (λ t. string_bytes t ≡ text) → text ≡ other
     → IfOk made (λ t. string_bytes t ≡ other)
 reads_as (Ok t) text other is same = is ∙ same

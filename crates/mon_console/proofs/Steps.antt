@@ -1,4 +1,4 @@
--- What is done in turn, of what commands share.
+-- What commands share: steps that are done one after another.
 use Rattle.std.proofs.Common.{◌≡◌, ◌≢◌, ◌∙◌, Bool, List, ℕ, [], ◌∷◌, ◌++◌, arith, false, sym, ap, inr, subst}
 use Rattle.std.proofs.lemmas.Bool.Decides.{nat_tests}
 use Rattle.std.specs.Prelude.{◌==◌, Option, Some, Result, Ok, codes, option_map, string_bytes}

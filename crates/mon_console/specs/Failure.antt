@@ -56,7 +56,7 @@ pub record IsOfStream (place : List ℕ) (reason : Why) (failure : Failure) : Ty
   pub more : HasReason place reason.words failure.more
   pub cut : failure.is_cut ≡ is_cut_by reason.kind
 
--- the failure of an argument or a text: PLACE: WANTED is wanted
+-- the failure of an argument or a text, whose line is `PLACE: WANTED is wanted`
 abbrev pub IsOfText : List ℕ → List ℕ → Failure → Type 0
 IsOfText place wanted = IsSaid (App BadText) (place ++ codes ": " ++ wanted ++ codes " is wanted")
 

@@ -104,7 +104,7 @@ abbrev pub names_in : Result KnownNames Failure → Result (List Definition) Fai
 names_in (Ok known) = Ok known.names
 names_in (Err failure) = Err failure
 
--- the same, and which module defines which
+-- the built-in names and those of the modules in files, and which module defines which
 abbrev pub AreKnown : List (List ℕ) → List AtHost → Result KnownNames Failure → Type 0
 AreKnown paths log result = AreNames paths log (names_in result)
 

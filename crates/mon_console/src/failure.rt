@@ -136,18 +136,18 @@ impl Failure {
 
     /// Sends the fault's line to standard error, and a second one that says what was wrong and
     /// where, both of this level. If memory ran out, the first line says all.
-    pub fn tell<H: Host>(&self, host: &mut H, level: Level)
+    pub fn report<H: Host>(&self, host: &mut H, level: Level)
         ensures { GoesOnBy (IsTold level self.now) (H.log host.old) (H.log host.new) }
     {
         let innermost = self.fault.innermost();
         host.note(level, format_args!("snmpmon: {innermost}\n"));
         if innermost.number != OUT_OF_MEMORY {
-            self.tell_more(host, level);
+            self.report_more(host, level);
         }
     }
 
     /// Sends the second line to standard error.
-    fn tell_more<H: Host>(&self, host: &mut H, level: Level)
+    fn report_more<H: Host>(&self, host: &mut H, level: Level)
         ensures { GoesOnBy (IsSecond level (option_map string_bytes self.now.more))
             (H.log host.old) (H.log host.new) }
     {

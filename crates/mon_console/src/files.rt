@@ -95,7 +95,7 @@ pub fn write_file<H: Host>(
     }
 }
 
-/// Gives the file at a path another one, in the place of a file that is there.
+/// Renames the file at a path to another path, in place of a file that is there.
 fn rename<H: Host>(alloc: Global, host: &mut H, path: &str, other: &str) -> Result<(), Failure>
     ensures { GoesOnBy (λ log. IsRename path.now other.now log result)
         (H.log host.old) (H.log host.new) }

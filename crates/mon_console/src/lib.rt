@@ -1,7 +1,7 @@
 //! What the program's commands share: why one failed and where, what they read, print and replace,
 //! names by the modules that are given, and how reports are printed.
 //! Contract: what was done to the surroundings, in which order, and that a failure has the fault
-//! and the words of the call that failed.
+//! and the text of the call that failed.
 #![tactic(auto)]
 
 mod agents;

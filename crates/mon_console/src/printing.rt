@@ -278,7 +278,7 @@ fn presented(sort: Option<Sort>) -> Presentation
     }
 }
 
-/// Returns the names, if they are to be shown.
+/// Returns the names if they are shown.
 fn names_if(shown: bool, known: KnownNames) -> Option<Names>
     ensures { result ≡ shown_names shown known.names }
 {

@@ -52,7 +52,7 @@ filled text e = record {
   seen = [];
 }
 
--- the stream took so many of the octets that were left
+-- the stream took this many of the octets that were left
 abbrev pub with_sent : ℕ → Parts → Parts
 with_sent n e = record {
   host = e.host;
@@ -152,7 +152,7 @@ pub data IsStep {S : Type 0} (Wrote Read : Call S) (old : S) (before : Parts) (n
   receives : before.unsent ≡ [] → IsReceiving Read old before new after step
       → IsStep Wrote Read old before new after step
 
--- The calls of a turn, at most so many: one after another, until one stops.
+-- The calls of a turn, at most this many: one after another, until one stops.
 pub data AreSteps {S : Type 0} (Wrote Read : Call S)
     : ℕ → S → Parts → S → Parts → Stop → Type 0 where
   spent : (s : S) (e : Parts) → AreSteps Wrote Read 0 s e s e Waits

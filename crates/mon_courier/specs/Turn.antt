@@ -24,7 +24,7 @@ use Rattle.mon_courier.specs.declared.verdict.Verdict.TheVariants.{Delivered, Tr
 abbrev pub Connecting : Type 0 → Type 1
 Connecting S = SocketAddr → Result S Error → Type 0
 
--- an attempt that began then has not taken 5 seconds yet
+-- an attempt that started then has not taken 5 seconds yet
 abbrev pub in_time : (now since : ℕ) → Bool
 in_time now since = nat_lt (now - since) 5000
 
@@ -73,8 +73,8 @@ settled_news (Responds status) now since failing = judged_news status failing
 abbrev pub line_of : {S : Type 0} → S → ℕ → Line S
 line_of stream since = record { stream = stream; since = since }
 
--- An attempt that began then goes on: its stream is asked up to 32 times, and what comes of that is
--- taken note of.
+-- An attempt that started then goes on: its stream is asked up to 32 times, and what comes of that
+-- is taken note of.
 pub record IsFlight {S : Type 0} (Wrote Read : Call S) (now : ℕ) (stream : S) (since : ℕ)
     (old new : State S) (said : Option News) : Type 0 where
   pub stream_after : S

@@ -25,14 +25,14 @@ const MAX_CALLS: u8 = 32;
 /// How long an attempt may take up to the end of the response's head, in milliseconds.
 const LIMIT_MS: u64 = 5_000;
 
-/// In how many milliseconds a turn is wanted while a request is in flight.
+/// After how many milliseconds a turn is needed while a request is in flight.
 const TICK_MS: u64 = 50;
 
 /// A connection to the receiver.
 #[derive(Drop)]
 pub(crate) struct Line<S> {
     pub(crate) stream: S,
-    /// When the attempt began, in milliseconds.
+    /// When the attempt started, in milliseconds.
     pub(crate) since: u64,
 }
 
@@ -141,7 +141,7 @@ impl<S: Stream + Drop> CourierBy<S> {
 
     /// Goes on with what is in flight as far as it can without waiting; if nothing is, begins the
     /// next attempt if it is due, and goes on with it. `now` is in milliseconds, on a clock that
-    /// never goes back. Returns what is to be said, if anything.
+    /// never goes back. Returns what must be reported, if anything.
     pub fn turn<R: Net>(&mut self, rt: &R, now: u64) -> Option<News>
         ensures { IsTurn S.asked_connect S.asked_write S.asked_read now self.old self.new result }
     {

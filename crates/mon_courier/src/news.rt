@@ -1,4 +1,4 @@
-//! What is to be said of deliveries.
+//! What is reported of deliveries.
 
 ghost use Rattle.std.specs.Prelude.{◌≡◌, string_bytes};
 ghost use Rattle.mon_courier.specs.News.{cause_text, kind_text, news_text};
@@ -9,7 +9,7 @@ use std::io::ErrorKind;
 /// Why an attempt to deliver a text failed.
 #[derive(Clone, Copy, Debug, PartialEq, Eq)]
 pub enum Cause {
-    /// The system began no connection.
+    /// The system started no connection.
     Connect(ErrorKind),
     /// The connection could not be made, or it failed before the request was sent.
     Send(ErrorKind),
@@ -25,7 +25,7 @@ pub enum Cause {
     Status(u16),
 }
 
-/// What is to be said, once.
+/// What is reported, once.
 #[derive(Clone, Copy, Debug, PartialEq, Eq)]
 pub enum News {
     /// Deliveries begin to fail. The text is tried again.

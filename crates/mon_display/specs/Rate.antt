@@ -9,7 +9,7 @@ use Rattle.mon_display.specs.declared.rate.Unit.TheVariants.{Bits, Each}
 unfoldable pub rounded : ℕ → ℕ → ℕ
 rounded n step = n / step + (if nat_le step (2 * (n % step)) then 1 else 0)
 
--- of so many exponents from k on the first by whose power of ten the number is at most 999 steps;
+-- of this many exponents from k on the first by whose power of ten the number is at most 999 steps;
 -- else the one after them
 unfoldable pub exponent_from : ℕ → ℕ → ℕ → ℕ
 exponent_from zero k n = k

@@ -56,8 +56,8 @@ abbrev pub other_kind : SettingsKind → SettingsKind
 other_kind kind.Agent = kind.Station
 other_kind kind.Station = kind.Agent
 
--- whether the name, at this place, is a key of settings of the other kind: of those at the top
--- alone
+-- whether the name, at this place, is a key of settings of the other kind: only of those at
+-- the top
 abbrev pub is_of_other : SettingsKind → Place → List ℕ → Bool
 is_of_other whose place.Whole name = is_one_of (top_keys (other_kind whose)) name
 is_of_other whose (place.At last) name = false

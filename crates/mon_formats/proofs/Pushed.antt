@@ -18,7 +18,7 @@ pub when_added : {A E : Type 0} (P : Type 0) (r : Result A E) (new all old : Lis
 when_added P (Ok x) new all old added f = f added
 when_added P (Err x) new all old added f = tt
 
--- a key, a value's text and what follows it, behind what stood there
+-- a key, a value's text and what follows it, after the earlier text
 pub behind : (new old key : List ℕ) (d e : Data) (rest : List ℕ) → d ≡ e → new ≡ old ++ (key ++ compact_text d) → new ++ rest ≡ old ++ (key ++ (compact_text e ++ rest))
 behind new old key d e rest same added =
     ap (λ l. l ++ rest) added

@@ -1,4 +1,4 @@
--- The words that name formats.
+-- The names of formats, as arguments have them.
 use Rattle.std.specs.Prelude.{ℕ, List, codes}
 use Rattle.mon_formats.specs.declared.format.Format.{Format}
 use Rattle.mon_formats.specs.declared.format.Format.TheVariants.{Text, Json, Prometheus}

@@ -118,7 +118,7 @@ suffix_length OpenMetrics kinds.Gauge = 0
 unfoldable pub family_name : Exposition → Kind → (sample : List ℕ) → List ℕ
 family_name format kind sample = take (length sample - suffix_length format kind) sample
 
--- the suffix that OpenMetrics gives the samples of a family of this type
+-- the suffix that samples of a family of this type have in OpenMetrics
 abbrev pub suffix : Kind → List ℕ
 suffix kinds.Counter = codes "_total"
 suffix kinds.Info = codes "_info"

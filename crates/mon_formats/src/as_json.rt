@@ -137,7 +137,7 @@ fn is_fresh_in(figures: &Figures, place: usize) -> bool
     is_fresh(figures.stale_after, figures.ages.get(place).copied())
 }
 
-/// Adds an instance, behind a comma where another stands before it.
+/// Adds an instance, after a comma if another precedes it.
 fn put_instance<S: NameTexts>(
     alloc: Global,
     text: &mut Vec<u8>,
@@ -452,8 +452,8 @@ fn put_end(alloc: Global, text: &mut Vec<u8>, seen: Seen) -> Result<(), AllocErr
     text.extend_from_slice(b"}")
 }
 
-/// Whether an instance of a running station is stale, as a member between others; nothing without a
-/// station.
+/// Returns the member, between others, that says if an instance of a running station is stale; an
+/// empty text without a station.
 fn stale_member(fresh: Option<bool>) -> &'static [u8]
     ensures { (items : List ℕ) → members_text true (with_stale fresh
         (member (codes "totals") (totals_data items) no_members))
@@ -555,8 +555,8 @@ fn put_samples(text: &mut Vec<u8>, samples: &[Sample]) -> Result<(), AllocError>
     text.extend_from_slice(b"]")
 }
 
-/// Adds a sample, behind a comma where another stands before it: its stamp, its discontinuity, its
-/// kind and the number that its value means.
+/// Adds a sample, after a comma if another precedes it: its stamp, its discontinuity, its kind and
+/// the number that its value means.
 fn put_sample(text: &mut Vec<u8>, sample: &Sample, later: bool) -> Result<(), AllocError>
     ensures text { OnOk result (text.new.items ≡ text.old.items
         ++ (comma_if later ++ compact_text (sample_data sample.now))) }
@@ -571,7 +571,7 @@ fn put_sample(text: &mut Vec<u8>, sample: &Sample, later: bool) -> Result<(), Al
     text.extend_from_slice(b"}")
 }
 
-/// The bracket and the first key of a sample, behind a comma where another stands before it.
+/// Returns the bracket and the first key of a sample, after a comma if another precedes it.
 fn boots_key(later: bool) -> &'static [u8]
     ensures { result.now ≡ comma_if later ++ codes "{\"boots\":" }
 {

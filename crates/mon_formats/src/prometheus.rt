@@ -51,7 +51,7 @@ struct Listing<'a, 'e> {
 }
 
 impl<'a, 'e> Listing<'a, 'e> {
-    /// The same instances, of which none is stale.
+    /// Returns the listing without ages, so that none of its instances is stale.
     fn all(self) -> Self
         ensures entries { result.entries.now ≡ self.entry.entries.now }
         ensures given { result.given.now ≡ self.entry.given.now }

@@ -54,8 +54,8 @@ pub data IsPiece (seen : List ℕ) : (now : List ℕ) → List AtStream → Resu
   broke : (kind : ErrorKind)
       → IsPiece seen seen (Received (most_octets - length seen) (Err kind) ∷ []) (Err (Broken kind))
 
--- The head of a response is read, of which these octets came, in so many further pieces at most: as
--- long as more is needed. It gives the status, or it is none of a response.
+-- The head of a response is read, of which these octets came, in at most `left` further pieces: as
+-- long as more is needed. The result is its status, or what the trouble is.
 pub data IsReceiving : (left : ℕ) → (seen : List ℕ) → List AtStream → Result ℕ Trouble
     → Type 0 where
   scattered : (seen : List ℕ) → IsReceiving 0 seen [] (Err Scattered)

@@ -4,9 +4,9 @@ use Rattle.std.specs.IoError.{error_kind}
 use Rattle.std.specs.declared.io.Error.{Error}
 use Rattle.std.specs.declared.io.ErrorKind.{ErrorKind}
 
--- Each further wait for octets, or each further sending, was limited to so many seconds; octets
--- were offered, of which the stream took so many of the first; or octets came to a buffer of this
--- size, none where the other side sends no more. Or the call failed.
+-- Each further wait for octets, or each further sending, was limited to this many seconds; octets
+-- were offered, of which the stream took this many of the first; or octets came to a buffer of this
+-- size, none if the other side sends no more. Or the call failed.
 pub data AtStream : Type 0 where
   ReadsLimited : ℕ → Result Unit ErrorKind → AtStream
   WritesLimited : ℕ → Result Unit ErrorKind → AtStream

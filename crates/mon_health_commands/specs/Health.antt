@@ -29,7 +29,7 @@ pub record HappensAt {S : Type 0} (Connected : S → Type 0) (log : S → Option
   pub happened : GoesOnBy Holds (log before) (log after)
 
 -- Stations as the command reaches them. `Reached at seconds Holds` says that a stream was connected
--- to an address within so many seconds and that this holds of what happened at it;
+-- to an address within this many seconds and that this holds of what happened at it;
 -- `Unreached at seconds kind` that none could be, by an error of this kind.
 pub record Stations : Type 1 where
   pub Reached : SocketAddr → ℕ → (List AtStream → Type 0) → Type 0

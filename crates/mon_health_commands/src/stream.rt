@@ -68,13 +68,13 @@ pub trait Connects {
 
     type Stream: Stream + Drop;
 
-    // It connected this stream to an address, within so many seconds.
+    // It connected this stream to an address, within this many seconds.
     ghost has_connected: { Self → AnySocketAddr → ℕ → Self.Stream → Type 0 };
 
-    // It could not connect a stream to an address within so many seconds, for this error.
+    // It could not connect a stream to an address within this many seconds, for this error.
     ghost has_failed: { Self → AnySocketAddr → ℕ → Error → Type 0 };
 
-    /// Connects a stream to an address, within so many seconds.
+    /// Connects a stream to an address, within this many seconds.
     ///
     /// # Errors
     /// The system's: `TimedOut` if nothing answered in time.

@@ -106,12 +106,12 @@ abbrev pub finding_node : List ℕ → Result (Option (ℕ × ℕ)) Reason → A
 finding_node path (Ok node) = NodeFound path node
 finding_node path (Err reason) = NodeUnfound path (why reason)
 
--- a clock that never goes back told the time
+-- the time was asked of a clock that never goes back
 abbrev pub telling_time : Result Instant Reason → AtHost
 telling_time (Ok now) = Timed now
 telling_time (Err reason) = Untimed (why reason)
 
--- the wall clock told the time
+-- the time was asked of the wall clock
 abbrev pub telling_date : Result SystemTime Reason → AtHost
 telling_date (Ok now) = Dated now
 telling_date (Err reason) = Undated (why reason)

@@ -39,7 +39,7 @@ pub trait Host {
     fn print(&mut self, octets: &[u8]) -> Result<(), Reason>
         ensures { GoesOn (printing octets.now result ∷ []) (log self.old) (log self.new) };
 
-    /// Sends a text of this level to standard error. Where that fails nobody is told.
+    /// Sends a text of this level to standard error. A failure of that is not reported.
     fn note<D: Display + Drop>(&mut self, level: Level, text: D)
         ensures { GoesOnBy (IsNoted level (D.output text)) (log self.old) (log self.new) };
 

@@ -18,7 +18,7 @@ pub enum Level {
 }
 
 impl Level {
-    /// Returns what stands before a line of this level for the journal.
+    /// Returns what is written before a line of this level for the journal.
     pub fn mark<'a>(self) -> &'a str
         ensures { result.now ≡ mark self }
     {

@@ -149,7 +149,7 @@ impl Recorder {
         Ok(())
     }
 
-    /// Gives the file at a path another one.
+    /// Replaces the file at a path by another one.
     fn put_at(&mut self, path: &str, other: &str) -> Result<(), ErrorKind>
         ensures steps { self.new.steps ≡ self.old.steps }
         ensures lost { self.new.is_lost ≡ self.old.is_lost }

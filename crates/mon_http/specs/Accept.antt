@@ -122,7 +122,7 @@ abbrev pub accepted : List Header → List (List ℕ)
 accepted fields = flat_map (λ h. if is_named (codes "accept") h then parts 44 h.1 else []) fields
 
 -- How exactly a media type of a range names that of a format: 3 by its type and subtype, 2 by its
--- type, 1 as any, 0 not at all. OpenMetrics has to be named by its subtype, so that who takes
+-- type, 1 as any, 0 not at all. OpenMetrics must be named by its subtype, so that who takes
 -- anything gets the text format.
 abbrev pub exactness : Exposition → (kind : List ℕ) → ℕ
 exactness OpenMetrics kind =
@@ -150,7 +150,7 @@ abbrev pub specificity : Exposition → (range : List ℕ) → ℕ
 specificity format range = specificity_by (exactness format (kind_of range)) (version_of format)
     (value_in (codes "version") (parameters_of range))
 
--- no preference: a format that no range names is not wanted
+-- no preference: a format that no range names is not preferred
 abbrev pub no_preference : Preference
 no_preference = record { specificity = 0; quality = 0 }
 
@@ -179,7 +179,7 @@ decisive a b = if is_above b a then b else a
 abbrev pub preference_in : Exposition → (elements : List (List ℕ)) → Preference
 preference_in format elements = fold decisive no_preference (map (preference_for format) elements)
 
--- OpenMetrics is wanted, and at least as much as the text format
+-- OpenMetrics is preferred, and at least as much as the text format
 abbrev pub prefers_open_metrics : (elements : List (List ℕ)) → Bool
 prefers_open_metrics elements = nat_lt 0 (preference_in OpenMetrics elements).quality
     && nat_le (preference_in Text elements).quality (preference_in OpenMetrics elements).quality

@@ -7,7 +7,7 @@ use Rattle.http1.specs.Fields.{Header, is_named}
 use Rattle.http1.specs.Text.{eq_ignore_case}
 use Rattle.mon_http.specs.Route.{authority_of, before, is_absolute}
 
--- an octet of a name that stands for itself: unreserved or a sub-delimiter (RFC 3986, section 2)
+-- an octet of a name that means itself: unreserved or a sub-delimiter (RFC 3986, section 2)
 abbrev pub is_name_octet : ℕ → Bool
 is_name_octet b =
     is_ascii_alphanumeric b || (b == 45) || (b == 46) || (b == 95) || (b == 126) || (b == 33)

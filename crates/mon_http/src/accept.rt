@@ -1,12 +1,11 @@
 //! Which format of the figures a request accepts (RFC 9110, sections 12.4.2 and 12.5.1).
 
 ghost use Rattle.std.specs.Prelude.{◌≡◌, ◌≤◌, All, IsTrue, drop, fold, length, map, option_map, reverse, slice_index};
-ghost use Rattle.mon_http.specs.declared.accept.Exposition.TheVariants as Expositions;
 ghost use Rattle.std.specs.List.{list_all};
 ghost use Rattle.std.specs.Iterator.{YieldsFirstRef, item_count};
 ghost use Rattle.httparse.specs.Grammar.{is_token, skip_ows, trim_ows};
 ghost use Rattle.httparse.specs.Spans.{IsHeaderWithin, header_bytes};
-ghost use Rattle.mon_http.specs.Accept.{accepted, accepts_open_metrics, after_first, decisive, decimal_of, digit_at, exactness, has_name, has_octet, is_above, is_decimal, is_element, is_kind, is_pair, is_parameter, is_range, kind_of, no_preference, parameters_of, parts, parts_left, preference_for, preference_by, preference_in, quality_by, quality_of, quality_value, specificity, specificity_by, thousandths_of, value_in, version_of};
+ghost use Rattle.mon_http.specs.Accept.{accepted, accepts_open_metrics, after_first, decisive, digit_at, exactness, has_octet, is_decimal, is_element, is_pair, is_parameter, is_range, kind_of, parameters_of, parts, parts_left, preference_for, quality_of, quality_value, specificity, value_in, version_of};
 
 use crate::host::are_digits;
 use crate::route::before;
@@ -41,7 +40,17 @@ impl Exposition {
         ensures bound { result ≤ 3 }
     {
         match self {
-            Exposition::Text => text_exactness(kind),
+            Exposition::Text => {
+                if eq_ignore_case(kind, b"text/plain") {
+                    3
+                } else if eq_ignore_case(kind, b"text/*") {
+                    2
+                } else if eq_ignore_case(kind, b"*/*") {
+                    1
+                } else {
+                    0
+                }
+            }
             Exposition::OpenMetrics => {
                 if eq_ignore_case(kind, b"application/openmetrics-text") {
                     3
@@ -50,22 +59,6 @@ impl Exposition {
                 }
             }
         }
-    }
-}
-
-/// Returns how exactly a media type of a range names that of the text format.
-fn text_exactness(kind: &[u8]) -> u8
-    ensures named { result ≡ exactness Expositions.Text kind.now }
-    ensures bound { result ≤ 3 }
-{
-    if eq_ignore_case(kind, b"text/plain") {
-        3
-    } else if eq_ignore_case(kind, b"text/*") {
-        2
-    } else if eq_ignore_case(kind, b"*/*") {
-        1
-    } else {
-        0
     }
 }
 
@@ -183,26 +176,12 @@ fn is_pair(text: &[u8], between: u8) -> bool
         && is_token(after_first(text, between))
 }
 
-/// Returns `true` if the text is a parameter, or nothing.
-fn is_parameter(text: &[u8]) -> bool
-    ensures { result ≡ is_parameter text.now }
-{
-    text.is_empty() || is_pair(text, b'=')
-}
-
-/// Returns `true` if the parameter has this name, in any case.
-fn has_name(name: &[u8], parameter: &[u8]) -> bool
-    ensures { result ≡ has_name name.now parameter.now }
-{
-    has_octet(parameter, b'=') && eq_ignore_case(before(parameter, b'=', b'='), name)
-}
-
-/// Returns the value of the first parameter of this name.
+/// Returns the value of the first parameter of this name, in any case.
 fn value_in<'a>(name: &[u8], parameters: Parts<'a>) -> Option<&'a [u8]>
     ensures { option_map (λ v. v.now) result ≡ value_in name.now (parts_left parameters.entry) }
 {
     for parameter in parameters {
-        if has_name(name, parameter) {
+        if has_octet(parameter, b'=') && eq_ignore_case(before(parameter, b'=', b'='), name) {
             return Some(after_first(parameter, b'='));
         }
     }
@@ -214,7 +193,7 @@ fn are_parameters(parameters: Parts<'_>) -> bool
     ensures { result ≡ list_all is_parameter (parts_left parameters.entry) }
 {
     for parameter in parameters {
-        if !is_parameter(parameter) {
+        if !parameter.is_empty() && !is_pair(parameter, b'=') {
             return false;
         }
     }
@@ -246,14 +225,6 @@ fn after_two(text: &[u8]) -> &[u8]
     if text.len() < 2 { b"" } else { &text[2..] }
 }
 
-/// Returns the thousandths that up to three digits after a point mean.
-fn thousandths_of(digits: &[u8]) -> u32
-    ensures value { result ≡ thousandths_of digits.now }
-    ensures bound { result ≤ 28305 }
-{
-    100 * digit_at(digits, 0) + 10 * digit_at(digits, 1) + digit_at(digits, 2)
-}
-
 /// Returns `true` for 0 or 1, and maybe a point with up to three digits.
 fn is_decimal(text: &[u8]) -> bool
     ensures { result ≡ is_decimal text.now }
@@ -264,13 +235,6 @@ fn is_decimal(text: &[u8]) -> bool
         && are_digits(after_two(text))
 }
 
-/// Returns such a number in thousandths.
-fn decimal_of(text: &[u8]) -> u32
-    ensures { result ≡ decimal_of text.now }
-{
-    1000 * digit_at(text, 0) + thousandths_of(after_two(text))
-}
-
 /// Returns a quality value in thousandths, or `None` if the text is none.
 fn quality_value(text: &[u8]) -> Option<u32>
     ensures { result ≡ quality_value text.now }
@@ -278,26 +242,21 @@ fn quality_value(text: &[u8]) -> Option<u32>
     if !is_decimal(text) {
         return None;
     }
-    let value = decimal_of(text);
+    let digits = after_two(text);
+    let thousandths = 100 * digit_at(digits, 0) + 10 * digit_at(digits, 1) + digit_at(digits, 2);
+    let value = 1000 * digit_at(text, 0) + thousandths;
     if value <= 1000 { Some(value) } else { None }
 }
 
-/// Returns the quality that a parameter `q` has in thousandths, 1000 if there is none.
-fn quality_by(q: Option<&[u8]>) -> Option<u32>
-    ensures { result ≡ quality_by (option_map (λ v. v.now) q.entry) }
-{
-    match q {
-        Some(text) => quality_value(text),
-        None => Some(1000),
-    }
-}
-
-/// Returns the quality of a media range in thousandths, or `None` if its weight is no quality
-/// value.
+/// Returns the quality of a media range in thousandths, 1000 if it has no weight, or `None` if its
+/// weight is no quality value.
 fn quality_of(range: &[u8]) -> Option<u32>
     ensures { result ≡ quality_of range.now }
 {
-    quality_by(value_in(b"q", parameters_of(range)))
+    match value_in(b"q", parameters_of(range)) {
+        Some(weight) => quality_value(weight),
+        None => Some(1000),
+    }
 }
 
 /// Returns `true` for a media range with its parameters and weight.
@@ -347,31 +306,21 @@ impl Preference {
     }
 }
 
-/// Returns how specific a range of this exactness is, by its parameter `version`.
-fn specificity_by(exactness: u8, version: &[u8], named: Option<&[u8]>) -> u8
-    requires { exactness ≤ 3 }
-    ensures { result ≡ specificity_by exactness version.now
-        (option_map (λ v. v.now) named.entry) }
+/// Returns how specific a range is about a format, by its media type and its parameter `version`.
+fn specificity(format: Exposition, range: &[u8]) -> u8
+    ensures { result ≡ specificity format range.now }
 {
-    match named {
+    let exactness = format.exactness(kind_of(range));
+    match value_in(b"version", parameters_of(range)) {
         None => 2 * exactness,
         Some(named) => {
-            if named == version && exactness > 0 {
+            if named == format.version() && exactness > 0 {
                 2 * exactness + 1
             } else {
                 0
             }
         }
     }
-}
-
-/// Returns how specific a range is about a format.
-fn specificity(format: Exposition, range: &[u8]) -> u8
-    ensures { result ≡ specificity format range.now }
-{
-    let exactness = format.exactness(kind_of(range));
-    let named = value_in(b"version", parameters_of(range));
-    specificity_by(exactness, format.version(), named)
 }
 
 /// Returns what a range says about a format.

@@ -1,7 +1,7 @@
 //! The body of a response.
 
-ghost use Rattle.std.specs.Prelude.{◌≡◌, ◌≤◌, ◌++◌, OnOk, length};
-ghost use Rattle.mon_http.specs.Response.{body_text, round_text, unhealthy_text};
+ghost use Rattle.std.specs.Prelude.{◌≡◌, ◌++◌, OnOk, length};
+ghost use Rattle.mon_http.specs.Response.{body_text, unhealthy_text};
 
 use crate::answer::LastRound;
 use itoa::Buffer;
@@ -20,26 +20,34 @@ pub(crate) struct Body<'a> {
 
 impl Body<'_> {
     /// Returns the number of its octets.
-    #[tactic(auto, unfolding(crate::specs::Response::text_with))]
+    #[tactic(auto, unfolding(crate::specs::Response::text_with, crate::specs::Response::round_text))]
     pub(crate) fn len(self) -> usize
         ensures { result ≡ length (body_text self.entry) }
     {
-        match self.last {
-            Some(last) => self.text.len() + round_len(last),
-            None => self.text.len(),
-        }
+        let Some(last) = self.last else {
+            return self.text.len();
+        };
+        let mut digits = Buffer::new();
+        let number = digits.format(last.number).len();
+        let seconds = digits.format(last.seconds).len();
+        self.text.len() + ROUND_OCTETS + number + seconds
     }
 
     /// Adds it to a response.
-    #[tactic(auto, unfolding(crate::specs::Response::text_with))]
+    #[tactic(auto, unfolding(crate::specs::Response::text_with, crate::specs::Response::round_text))]
     pub(crate) fn put(self, out: &mut Vec<u8>) -> Result<(), AllocError>
         ensures { OnOk result (out.new.items ≡ out.old.items ++ body_text self.entry) }
     {
         out.extend_from_slice(self.text)?;
-        match self.last {
-            Some(last) => put_round(out, last),
-            None => Ok(()),
-        }
+        let Some(last) = self.last else {
+            return Ok(());
+        };
+        let mut digits = Buffer::new();
+        out.extend_from_slice(b"round ")?;
+        out.extend_from_slice(digits.format(last.number).as_bytes())?;
+        out.extend_from_slice(b" ended ")?;
+        out.extend_from_slice(digits.format(last.seconds).as_bytes())?;
+        out.extend_from_slice(b" s ago\n")
     }
 }
 
@@ -58,29 +66,4 @@ pub(crate) fn unhealthy_body<'a>(last: Option<LastRound>) -> Body<'a>
             last: None,
         },
     }
-}
-
-/// Returns the number of octets of a round's text.
-#[tactic(auto, unfolding(crate::specs::Response::round_text))]
-fn round_len(last: LastRound) -> usize
-    ensures len { result ≡ length (round_text last) }
-    ensures short { result ≤ 100 }
-{
-    let mut digits = Buffer::new();
-    let number = digits.format(last.number).len();
-    let seconds = digits.format(last.seconds).len();
-    ROUND_OCTETS + number + seconds
-}
-
-/// Adds which round ended last, and how long ago.
-#[tactic(auto, unfolding(crate::specs::Response::round_text))]
-fn put_round(out: &mut Vec<u8>, last: LastRound) -> Result<(), AllocError>
-    ensures { OnOk result (out.new.items ≡ out.old.items ++ round_text last) }
-{
-    let mut digits = Buffer::new();
-    out.extend_from_slice(b"round ")?;
-    out.extend_from_slice(digits.format(last.number).as_bytes())?;
-    out.extend_from_slice(b" ended ")?;
-    out.extend_from_slice(digits.format(last.seconds).as_bytes())?;
-    out.extend_from_slice(b" s ago\n")
 }

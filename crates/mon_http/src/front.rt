@@ -1,7 +1,7 @@
 //! Where the head of a request ends among the octets of a connection.
 
 ghost use Rattle.std.specs.Prelude.{◌≡◌, ◌≤◌, false, drop, length, IfSome, IfNone};
-ghost use Rattle.mon_http.specs.Front.{skip_line_ends, head_length, line_count, is_other_version, end_of_line, names_other_version};
+ghost use Rattle.mon_http.specs.Front.{skip_line_ends, head_length, line_count, names_other_version};
 ghost use Rattle.mon_http.specs.Scan.{IsScanned};
 
 use crate::route::before;
@@ -59,30 +59,18 @@ pub(crate) fn line_count(octets: &[u8]) -> usize
     octets.iter().filter(|octet| **octet == b'\n').count()
 }
 
-/// Returns `true` if these are a space and a version other than HTTP/1.0 and HTTP/1.1.
-fn is_other_version(octets: &[u8]) -> bool
-    ensures { result ≡ is_other_version octets.now }
-{
-    octets.len() == 9
-        && octets[..6] == b" HTTP/"[..]
-        && octets[6].is_ascii_digit()
-        && octets[7] == b'.'
-        && octets[8].is_ascii_digit()
-        && octets != b" HTTP/1.0".as_slice()
-        && octets != b" HTTP/1.1".as_slice()
-}
-
-/// Returns the last nine octets of the request line.
-fn end_of_line(head: &[u8]) -> &[u8]
-    ensures { result.now ≡ end_of_line head.now }
-{
-    let line = before(head, b'\r', b'\n');
-    &line[line.len().saturating_sub(9)..]
-}
-
-/// Returns `true` if the request line ends in a version other than HTTP/1.0 and HTTP/1.1.
+/// Returns `true` if the request line ends in a space and a version other than HTTP/1.0 and
+/// HTTP/1.1.
 pub(crate) fn names_other_version(head: &[u8]) -> bool
     ensures { result ≡ names_other_version head.now }
 {
-    is_other_version(end_of_line(head))
+    let line = before(head, b'\r', b'\n');
+    let end = &line[line.len().saturating_sub(9)..];
+    end.len() == 9
+        && end[..6] == b" HTTP/"[..]
+        && end[6].is_ascii_digit()
+        && end[7] == b'.'
+        && end[8].is_ascii_digit()
+        && end != b" HTTP/1.0".as_slice()
+        && end != b" HTTP/1.1".as_slice()
 }

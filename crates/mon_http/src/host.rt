@@ -11,7 +11,7 @@ use crate::route::{authority_of, before, is_absolute};
 use http1::text::eq_ignore_case;
 use httparse::spans::HeaderSpan;
 
-/// Returns `true` if an octet of a name stands for itself.
+/// Returns `true` if an octet of a name means itself.
 fn is_name_octet(octet: u8) -> bool
     ensures { result ≡ is_name_octet octet }
 {

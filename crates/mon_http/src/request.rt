@@ -3,7 +3,7 @@
 ghost use Rattle.std.specs.Prelude.{◌≡◌, ◌==◌, length, map, string_bytes};
 ghost use Rattle.std.specs.List.{list_any};
 ghost use Rattle.mon_http.specs.Whole.{whole_of};
-ghost use Rattle.mon_http.specs.Request.{has_no_content, has_good_fields, is_known, long_status, method_status, served, judged, bad_status, refusal, IsVerdict};
+ghost use Rattle.mon_http.specs.Request.{has_no_content, has_good_fields, long_status, method_status, served, judged, bad_status, refusal, IsVerdict};
 
 use crate::accept::accepts_open_metrics;
 use crate::front::{line_count, names_other_version};
@@ -82,24 +82,18 @@ fn has_good_fields(minor: u8, known: &KnownFields) -> bool
         && has_no_content(known.transfer_encoding, known.content_length)
 }
 
-/// Returns `true` for a method of HTTP that is not served.
-fn is_known(method: &[u8]) -> bool
-    ensures { result ≡ is_known method.now }
+/// Returns the status with which a method is refused.
+fn method_status(method: &[u8]) -> Status
+    ensures { result ≡ method_status method.now }
 {
-    method == b"POST".as_slice()
+    let is_known = method == b"POST".as_slice()
         || method == b"PUT".as_slice()
         || method == b"DELETE".as_slice()
         || method == b"CONNECT".as_slice()
         || method == b"OPTIONS".as_slice()
         || method == b"TRACE".as_slice()
-        || method == b"PATCH".as_slice()
-}
-
-/// Returns the status with which a method is refused.
-fn method_status(method: &[u8]) -> Status
-    ensures { result ≡ method_status method.now }
-{
-    if is_known(method) {
+        || method == b"PATCH".as_slice();
+    if is_known {
         Status::MethodNotAllowed
     } else {
         Status::NotImplemented

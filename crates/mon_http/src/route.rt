@@ -1,7 +1,7 @@
 //! What is served at which request target.
 
 ghost use Rattle.std.specs.Prelude.{◌≡◌, ◌≤◌, ◌+◌, IsTrue, length};
-ghost use Rattle.mon_http.specs.Route.{authority_of, before, by_format, is_absolute, or_root, origin_form, path_of, route_at};
+ghost use Rattle.mon_http.specs.Route.{authority_of, before, by_format, is_absolute, origin_form, path_of, route_at};
 
 use http1::text::eq_ignore_case;
 
@@ -32,13 +32,6 @@ pub(crate) fn before(octets: &[u8], a: u8, b: u8) -> &[u8]
     &octets[..end]
 }
 
-/// Returns `text`, or `/` if it does not begin with one.
-fn or_root(text: &[u8]) -> &[u8]
-    ensures { result.now ≡ or_root text.now }
-{
-    if text.starts_with(b"/") { text } else { b"/" }
-}
-
 /// Returns `true` if the target is in absolute form: it begins with the scheme, in any case.
 pub(crate) fn is_absolute(target: &[u8]) -> bool
     ensures absolute { result ≡ is_absolute target.now }
@@ -60,18 +53,11 @@ pub(crate) fn authority_of(target: &[u8]) -> &[u8]
 fn origin_form(target: &[u8]) -> &[u8]
     ensures { result.now ≡ origin_form target.now }
 {
-    if is_absolute(target) {
-        or_root(&target[7 + authority_of(target).len()..])
-    } else {
-        target
+    if !is_absolute(target) {
+        return target;
     }
-}
-
-/// Returns the path of a request target, without its query (RFC 3986, section 3.4).
-fn path_of(target: &[u8]) -> &[u8]
-    ensures { result.now ≡ path_of target.now }
-{
-    before(origin_form(target), b'?', b'?')
+    let rest = &target[7 + authority_of(target).len()..];
+    if rest.starts_with(b"/") { rest } else { b"/" }
 }
 
 /// Returns the route, where the figures are in OpenMetrics if the request accepts it.
@@ -84,12 +70,13 @@ pub(crate) fn by_format(open_metrics: bool, route: Route) -> Route
     }
 }
 
-/// Returns the route of a request target, or `None` if nothing is served there.
+/// Returns the route of a request target, or `None` if nothing is served there. Its query does not
+/// matter (RFC 3986, section 3.4).
 #[tactic(auto, unfolding(crate::specs::Route::route_at))]
 pub(crate) fn route_of(target: &[u8]) -> Option<Route>
     ensures { result ≡ route_at (path_of target.now) }
 {
-    let path = path_of(target);
+    let path = before(origin_form(target), b'?', b'?');
     if path == b"/metrics".as_slice() {
         Some(Route::Metrics)
     } else if path == b"/report.json".as_slice() {

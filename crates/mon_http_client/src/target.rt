@@ -13,7 +13,7 @@ use std::str;
 pub struct Target<'a> {
     /// The address and the port as the URL has them, for the field Host.
     pub host: &'a [u8],
-    /// The same as an address.
+    /// The host as an address.
     pub address: Addr,
     /// The path and the query, `/` if the URL has none.
     pub path: &'a [u8],

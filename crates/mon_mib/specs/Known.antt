@@ -102,7 +102,7 @@ scalar_value k SnmpSilentDrops = Counter32 k.counters.silent_drops
 scalar_value k SnmpEngineId = Octets k.settings.engine
 scalar_value k SnmpEngineBoots = Integer k.settings.boots
 scalar_value k SnmpEngineTime = Integer (pos (engine_time k.moment))
-scalar_value k SnmpEngineMaxMessageSize = Integer k.settings.limit
+scalar_value k SnmpEngineMaxMessageSize = Integer k.settings.max_message_size
 
 -- the values of the columns, from an interface's facts: ifSpeed is at most 4294967295, ifHighSpeed
 -- is in millions, rounded, and a 32-bit counter is the 64-bit one modulo 2^32 (RFC 2863 sections

@@ -7,7 +7,7 @@ use Rattle.mon_mib.specs.Held.{Held}
 use Rattle.mon_mib.specs.Known.{Known}
 use Rattle.mon_mib.specs.Map.{known_by}
 
--- an agent's map at a moment, and a view by its name and the families of views
+-- an agent's map at a time, and a view by its name and the families of views
 pub record Sought (D : Type 0) : Type 0 where
   pub map : Mib D
   pub families : List ViewTreeFamily

@@ -224,7 +224,7 @@ impl<D: Device + Drop> Mib<D> {
             Scalar::SnmpEngineId => Shown::Octets(settings.engine.as_slice()),
             Scalar::SnmpEngineBoots => found(Value::Integer(settings.boots)),
             Scalar::SnmpEngineTime => found(Value::Integer(moment.engine_time() as i32)),
-            Scalar::SnmpEngineMaxMessageSize => found(Value::Integer(settings.limit)),
+            Scalar::SnmpEngineMaxMessageSize => found(Value::Integer(settings.max_message_size)),
         })
     }
 

@@ -1,4 +1,4 @@
-//! A search for variables by their names, in one view at one moment.
+//! A search for variables by their names, in one view at one time.
 
 ghost use Rattle.std.specs.Prelude.{◌≡◌, ◌↔◌, ◌++◌, ◌∷◌, [], ◌⊎◌, Contains, IfOk, IfSome, IsTrue};
 ghost use Rattle.std.specs.Option.{option_map};
@@ -28,7 +28,7 @@ use mon_vacm::{Access, Policy};
 use std::alloc::{AllocError, Global};
 use std::marker::Model;
 
-/// A search in a map at a moment, within a granted view. It keeps the gaps that it has found, so
+/// A search in a map at a time, within a granted view. It keeps the gaps that it has found, so
 /// that of all variables that the view hides each is tried once.
 #[derive(Drop)]
 pub struct Search<'a, D: Device + Drop> {

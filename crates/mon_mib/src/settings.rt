@@ -15,7 +15,7 @@ pub struct Settings {
     /// snmpEngineBoots, 1 to 2147483647 (RFC 3411 section 5).
     pub boots: i32,
     /// snmpEngineMaxMessageSize, in octets, 484 to 8192 (RFC 3411 section 5).
-    pub limit: i32,
+    pub max_message_size: i32,
 }
 
 // By hand: where one is let go, a proof has one call and not a drop of each field.
@@ -27,7 +27,7 @@ impl Drop for Settings {
             services: _,
             engine: _,
             boots: _,
-            limit: _,
+            max_message_size: _,
         } = self;
     }
 }

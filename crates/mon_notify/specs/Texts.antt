@@ -102,7 +102,7 @@ text_at shown None labels rule station summary starts_at ends_at = []
 text_at shown (Some watched) labels rule station summary starts_at ends_at =
     instance_text shown watched.instance labels rule station summary starts_at ends_at
 
--- the same, if the watch has the rule
+-- the text of what became of a rule's alarm, if the watch has the rule and its instance
 abbrev pub rule_text : (List ℕ → List ℕ) → Board → List InstanceLabels → Option Rule
     → (station : ℕ) → (summary : List ℕ) → Date → Option Date → List ℕ
 rule_text shown board labels None station summary starts_at ends_at = []

@@ -11,7 +11,7 @@ parts_text p =
     ++ codes "T"
     ++ time_of_day p ++ codes "Z"
 
--- the same of a date
+-- the text of a date with its time of day, as 1985-04-12T23:20:50Z
 abbrev pub time_text : Date → List ℕ
 time_text date = parts_text date.parts
 

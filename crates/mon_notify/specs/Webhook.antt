@@ -43,7 +43,7 @@ end_text (Some date) = time_text date
 abbrev pub annotations_data : List ℕ → Data
 annotations_data summary = object (member (codes "summary") (string summary) no_members)
 
--- the alert of these labels, which began and may have ended
+-- the alert of these labels, which started and may have ended
 abbrev pub alert_of : List (List ℕ × List ℕ) → (summary : List ℕ) → Date → Option Date → Data
 alert_of labels summary starts_at ends_at = object
     (member (codes "annotations") (annotations_data summary)

@@ -1,4 +1,4 @@
-//! What tells one set of labels from another.
+//! The fingerprint of a set of labels, which distinguishes it from other sets.
 
 ghost use Rattle.std.specs.Prelude.{◌≡◌, map};
 ghost use Rattle.mon_notify.specs.Fingerprint.{fingerprint, hashed, label_hashed, octet_hashed};

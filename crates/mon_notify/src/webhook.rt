@@ -23,7 +23,7 @@ pub struct Notice<'a> {
     pub labels: &'a [Label<'a>],
     /// A line for people.
     pub summary: &'a str,
-    /// When it began.
+    /// When it started.
     pub starts_at: HttpDate,
     /// When it ended, if it did.
     pub ends_at: Option<HttpDate>,

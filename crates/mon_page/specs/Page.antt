@@ -156,7 +156,7 @@ unfoldable pub silent_item : PeerFigures → List ℕ
 silent_item p = codes "<li class=\"down\">peer " ++ decimal p.station ++ codes " is silent, heard "
     ++ decimal p.rounds ++ codes " rounds ago</li>\n"
 
--- nothing of one that is heard
+-- the item of a silent peer; nothing of a peer that is not silent
 abbrev pub peer_item : PeerFigures → List ℕ
 peer_item p = if p.silent then silent_item p else []
 
@@ -302,14 +302,12 @@ interface_row rows =
     ++ codes "</td><td>" ++ flat_map fault_of rows
     ++ row_end (worst_state rows) (oldest None rows)
 
--- the titles of the columns
-unfoldable pub interface_titles : List ℕ
-interface_titles = codes
-    "<table class=\"i\">\n<caption>Interfaces</caption>\n<thead><tr><th scope=\"col\">Interface</th><th scope=\"col\">Alias</th><th scope=\"col\">In</th><th scope=\"col\">Out</th><th scope=\"col\">Errors and discards</th><th scope=\"col\">Alarm</th><th scope=\"col\">Age in rounds</th></tr></thead>\n<tbody>\n"
-
 -- the table of interfaces
 unfoldable pub interface_lines : List (List Row) → List ℕ
-interface_lines is = interface_titles ++ flat_map interface_row is ++ codes "</tbody>\n</table>\n"
+interface_lines is =
+    codes
+    "<table class=\"i\">\n<caption>Interfaces</caption>\n<thead><tr><th scope=\"col\">Interface</th><th scope=\"col\">Alias</th><th scope=\"col\">In</th><th scope=\"col\">Out</th><th scope=\"col\">Errors and discards</th><th scope=\"col\">Alarm</th><th scope=\"col\">Age in rounds</th></tr></thead>\n<tbody>\n"
+    ++ flat_map interface_row is ++ codes "</tbody>\n</table>\n"
 
 -- that table, if there are any
 abbrev pub interface_table : List (List Row) → List ℕ
@@ -347,15 +345,12 @@ other_row shown r =
     row_start (row_state r) ++ name_cell shown r ++ figure_cells r ++ codes "</td><td>" ++ plot_of r
     ++ row_end (row_state r) r.age
 
--- the titles of the columns
-unfoldable pub other_titles : List ℕ
-other_titles = codes
-    "<table class=\"o\">\n<caption>Other instances</caption>\n<thead><tr><th scope=\"col\">Name</th><th scope=\"col\">Value</th><th scope=\"col\">Rate</th><th scope=\"col\">Window</th><th scope=\"col\">Alarm</th><th scope=\"col\">Age in rounds</th></tr></thead>\n<tbody>\n"
-
 -- the table of other instances
 unfoldable pub other_lines : (List ℕ → List ℕ) → List Row → List ℕ
-other_lines shown rows = other_titles ++ flat_map (other_row shown) rows
-    ++ codes "</tbody>\n</table>\n"
+other_lines shown rows =
+    codes
+    "<table class=\"o\">\n<caption>Other instances</caption>\n<thead><tr><th scope=\"col\">Name</th><th scope=\"col\">Value</th><th scope=\"col\">Rate</th><th scope=\"col\">Window</th><th scope=\"col\">Alarm</th><th scope=\"col\">Age in rounds</th></tr></thead>\n<tbody>\n"
+    ++ flat_map (other_row shown) rows ++ codes "</tbody>\n</table>\n"
 
 -- that table, if there are any
 abbrev pub other_table : (List ℕ → List ℕ) → List Row → List ℕ
@@ -377,7 +372,7 @@ state_words (Some false) = codes "<b class=\"down\">down</b> "
 abbrev pub uptime_words : ℕ → List ℕ
 uptime_words stamp = if stamp == 0 then [] else codes "agent up " ++ duration_words (stamp % 2 ^ 32)
 
--- the words that name a device
+-- the text that names a device
 abbrev pub naming_words : Option Row → List ℕ
 naming_words None = []
 naming_words (Some r) = device_words r
@@ -466,7 +461,7 @@ peers_of None = []
 peers_of (Some f) = f.peers.items
 
 -- how many devices there are, and how many of them are up; raised alarms; stale instances; peers,
--- and how many of them are heard
+-- and how many of them are not silent
 abbrev pub counts_of : Option Figures → List Row → Counts
 counts_of station rows =
     record {
@@ -519,15 +514,6 @@ refresh_text None = []
 refresh_text (Some seconds) = between (codes "<meta http-equiv=\"refresh\" content=\"")
     (decimal seconds) (codes "\">\n")
 
--- the beginning of the document
-unfoldable pub first_lines : List ℕ
-first_lines = codes "<!DOCTYPE html>\n<html lang=\"en\">\n<head>\n<meta charset=\"utf-8\">\n"
-
--- what is between the refresh and the title
-unfoldable pub title_start : List ℕ
-title_start = codes
-    "<meta name=\"viewport\" content=\"width=device-width, initial-scale=1\">\n<title>"
-
 -- after how many seconds a page of a station is loaded again: after its interval, if it has one
 abbrev pub refresh_of : Option Figures → Option ℕ
 refresh_of None = None
@@ -535,7 +521,10 @@ refresh_of (Some f) = if f.interval == 0 then None else Some f.interval
 
 -- what is before the title
 unfoldable pub start_text : Option Figures → List ℕ
-start_text station = first_lines ++ refresh_text (refresh_of station) ++ title_start
+start_text station =
+    codes "<!DOCTYPE html>\n<html lang=\"en\">\n<head>\n<meta charset=\"utf-8\">\n"
+    ++ refresh_text (refresh_of station)
+    ++ codes "<meta name=\"viewport\" content=\"width=device-width, initial-scale=1\">\n<title>"
 
 -- the head of the document
 unfoldable pub head_text : Option Figures → Option (List ℕ) → List ℕ

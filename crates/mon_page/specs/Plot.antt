@@ -217,15 +217,6 @@ notes_text c counted high rules = greatest_words c counted high
     ++ flat_map (limit_note c counted) rules
 
 -- ---- the plot
--- what is before the value now
-unfoldable pub plot_start : List ℕ
-plot_start = codes
-    "<svg viewBox=\"0 -2 240 44\" preserveAspectRatio=\"none\" role=\"img\" aria-label=\""
-
--- the value now, and what is before it
-unfoldable pub start_words : Row → List ℕ
-start_words r = plot_start ++ now_words r
-
 -- the frame of the plot of samples in this scale
 abbrev pub frame_of : Scale → List ℕ → Frame
 frame_of s items = record { scale = s; span = span_of items; pairs = length items - 1 }
@@ -234,7 +225,9 @@ frame_of s items = record { scale = s; span = span_of items; pairs = length item
 -- value now, and what is said below it
 unfoldable pub drawing_text : Row → Bool → Scale → List ℕ → List Rule → List ℕ
 drawing_text r counted own items rules =
-    start_words r ++ codes "\"><path d=\"" ++ points_from items
+    codes
+    "<svg viewBox=\"0 -2 240 44\" preserveAspectRatio=\"none\" role=\"img\" aria-label=\""
+    ++ now_words r ++ codes "\"><path d=\"" ++ points_from items
     (frame_of (with_rules counted own rules) items) None 0 0 items ++ codes "\"/>"
     ++ limits_text counted (with_rules counted own rules) rules ++ codes "</svg><small>"
     ++ notes_text (column_of r.entry.name) counted own.high rules

@@ -1,4 +1,4 @@
--- The words of an instance: its value now, a level, a device, an interface, how long something is.
+-- The texts of an instance: its value now, a level, a device, an interface, how long something is.
 use Rattle.std.specs.Prelude.{ℕ, ◌-◌, ◌*◌, ◌/◌, ◌%◌, ◌^◌, min, nat_lt, Bool, true, false, ◌||◌}
 use Rattle.std.specs.Prelude.{List, ◌++◌, Option, Some, None, is_some, codes, decimal}
 use Rattle.std.specs.Prelude.{if◌then◌else◌}

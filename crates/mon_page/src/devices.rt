@@ -2,7 +2,7 @@
 
 ghost use Rattle.std.specs.Prelude.{◌≡◌, ◌≤◌, IfOk, IfSome, Some, ◌||◌, bytes_eq, find, length, not, option_map, position};
 ghost use Rattle.mon_page.specs.Words.{is_labelled};
-ghost use Rattle.std.specs.List.{list_all, list_any};
+ghost use Rattle.std.specs.List.{list_any};
 ghost use Rattle.mon_page.specs.Cells.{has_raised, newest_of};
 ghost use Rattle.mon_page.specs.Devices.{begins, device_at, devices, engine_of, is_up, is_wrong, naming_row, newest_stamp, or_first, row_before, stamp_of, targets_of};
 
@@ -40,7 +40,10 @@ impl<'r, 'a, 'e> Device<'r, 'a, 'e> {
     pub(crate) fn is_up(&self, targets: &[TargetFigures]) -> bool
         ensures { result ≡ is_up targets.now self.now }
     {
-        is_up(targets, engine_of(self.rows))
+        let engine = engine_of(self.rows);
+        targets
+            .iter()
+            .all(|target| target.up || target.engine.as_slice() != engine)
     }
 
     /// Returns `true` if it is down, or an instance is stale or has a raised alarm.
@@ -63,21 +66,6 @@ fn has_alarm(rows: &[Row]) -> bool
     ensures { result ≡ list_any (λ r. has_raised r.entry.alarms) rows.now }
 {
     rows.iter().any(|row| row.is_raised())
-}
-
-/// Returns `true` if each target of an engine id is up.
-fn is_up(targets: &[TargetFigures], engine: &[u8]) -> bool
-    ensures { result
-        ≡ list_all (λ t. t.up || not (bytes_eq t.engine.items engine.now)) targets.now }
-{
-    targets.iter().all(|target| is_fine(target, engine))
-}
-
-/// Returns `true` if a target is up, or its engine id is another.
-fn is_fine(target: &TargetFigures, engine: &[u8]) -> bool
-    ensures { result ≡ (target.now.up || not (bytes_eq target.now.engine.items engine.now)) }
-{
-    target.up || target.engine.as_slice() != engine
 }
 
 /// Returns the engine id of a device.
@@ -192,17 +180,10 @@ fn or_first<'r, 'a, 'e>(
 fn stamp_of(samples: &[Sample]) -> u64
     ensures { result ≡ stamp_of (newest_of samples.now) }
 {
-    match samples.last() {
-        None => 0,
-        Some(newest) => stamp_number(newest),
-    }
-}
-
-/// Returns the stamp of a sample as one number.
-fn stamp_number(sample: &Sample) -> u64
-    ensures { result ≡ stamp_of (Some sample.now) }
-{
-    u64::from(sample.boots()) * (1 << 32) + u64::from(sample.time())
+    let Some(newest) = samples.last() else {
+        return 0;
+    };
+    u64::from(newest.boots()) * (1 << 32) + u64::from(newest.time())
 }
 
 /// Returns the greatest stamp of instances, 0 if they have no sample.

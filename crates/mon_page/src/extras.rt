@@ -1,8 +1,8 @@
-//! What a report has beside the windows of its instances.
+//! What a report has besides the windows of its instances.
 
 use crate::figures::Figures;
 
-/// What is known beside the windows of a report's instances.
+/// What is known besides the windows of a report's instances.
 #[derive(Clone, Copy, Debug)]
 pub struct Extras<'a> {
     /// What the station says of itself, if there is one.

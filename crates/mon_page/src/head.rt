@@ -1,10 +1,8 @@
 //! The head of the page: which station it is, how old it is, and its counts.
 
-ghost use Rattle.std.specs.Prelude.{◌≡◌, ◌++◌, IfOk, None, OnOk, Some, codes, decimal, filter, length, not, option_map};
-ghost use Rattle.std.specs.List.{flat_map};
+ghost use Rattle.std.specs.Prelude.{◌≡◌, ◌++◌, IfOk, None, OnOk, Some, filter, option_map, length, not};
 ghost use Rattle.mon_page.specs.Devices.{is_up};
-ghost use Rattle.mon_page.specs.Escape.{escaped};
-ghost use Rattle.mon_page.specs.Page.{age_line, count_item, count_start, counts_of, counts_text, file_counts, origin_line, part_item, peers_of, raised_alarms, round_text, station_counts, station_line, title_text};
+ghost use Rattle.mon_page.specs.Page.{count_item, count_start, counts_of, counts_text, file_counts, origin_line, part_item, peers_of, raised_alarms, round_text, station_counts, station_line, title_text};
 
 use crate::devices::{Device, devices_of, targets_of};
 use crate::escape::{put_between, put_escaped};
@@ -27,7 +25,7 @@ pub(crate) struct Counts {
     /// Stale instances.
     pub stale: usize,
     pub peers: usize,
-    /// Of the peers those that are heard.
+    /// Of the peers those that are not silent.
     pub heard: usize,
 }
 
@@ -58,19 +56,11 @@ fn count_stale(rows: &[Row]) -> usize
     rows.iter().filter(|row| !row.is_fresh()).count()
 }
 
-/// Returns how many peers are heard.
+/// Returns how many peers are not silent.
 fn count_heard(peers: &[PeerFigures]) -> usize
     ensures { result ≡ length (filter (λ p. not p.silent) peers.now) }
 {
     peers.iter().filter(|peer| !peer.silent).count()
-}
-
-/// Returns how many alarms are raised.
-fn count_raised(alloc: Global, rows: &[Row]) -> Result<usize, AllocError>
-    ensures { IfOk result (λ n. n ≡ length (raised_alarms rows.now)) }
-{
-    let alarms = raised_alarms(alloc, rows)?;
-    Ok(alarms.len())
 }
 
 /// Returns the counts of a page.
@@ -82,15 +72,17 @@ pub(crate) fn counts_of(
     ensures { IfOk result (λ counts. counts ≡ counts_of (option_map (λ f. f.now) station.entry)
         rows.now) }
 {
-    let raised = count_raised(alloc, rows)?;
-    let found = devices_of(alloc, rows)?;
+    let raised = raised_alarms(alloc, rows)?.len();
+    let devices = devices_of(alloc, rows)?;
+    let targets = targets_of(station);
+    let peers = peers_of(station);
     Ok(Counts {
-        devices: found.len(),
-        up: count_up(targets_of(station), found.as_slice()),
+        devices: devices.len(),
+        up: count_up(targets, devices.as_slice()),
         raised,
         stale: count_stale(rows),
-        peers: peers_of(station).len(),
-        heard: count_heard(peers_of(station)),
+        peers: peers.len(),
+        heard: count_heard(peers),
     })
 }
 
@@ -172,7 +164,7 @@ pub(crate) fn put_counts(
     }
 }
 
-/// Adds the title of a page.
+/// Adds the title of a page: the station's number and its label, or what there is of them.
 pub(crate) fn put_title(
     text: &mut Vec<u8>,
     station: Option<&Figures>,
@@ -181,60 +173,19 @@ pub(crate) fn put_title(
     ensures { OnOk result (text.new.items ≡ text.old.items ++ title_text
         (option_map (λ f. f.now) station.entry) (option_map (λ l. l.now) label.entry)) }
 {
-    match station {
-        None => put_file_title(text, label),
-        Some(figures) => put_station_title(text, figures, label),
-    }
-}
-
-/// Adds the title of a report of a file.
-fn put_file_title(text: &mut Vec<u8>, label: Option<&str>) -> Result<(), AllocError>
-    ensures { OnOk result (text.new.items ≡ text.old.items ++ title_text None
-        (option_map (λ l. l.now) label.entry)) }
-{
-    match label {
-        None => text.extend_from_slice(b"snmpmon"),
-        Some(label) => put_escaped(text, label.as_bytes()),
-    }
-}
-
-/// Adds the title of a station.
-fn put_station_title(
-    text: &mut Vec<u8>,
-    figures: &Figures,
-    label: Option<&str>,
-) -> Result<(), AllocError>
-    ensures { OnOk result (text.new.items ≡ text.old.items ++ title_text (Some figures.now)
-        (option_map (λ l. l.now) label.entry)) }
-{
-    match label {
-        None => put_station_number(text, figures),
-        Some(label) => put_labelled_station(text, figures, label.as_bytes()),
-    }
-}
-
-/// Adds the number of a station.
-fn put_station_number(text: &mut Vec<u8>, figures: &Figures) -> Result<(), AllocError>
-    ensures { OnOk result (text.new.items ≡ text.old.items ++
-        (codes "station " ++ decimal figures.now.station)) }
-{
-    text.extend_from_slice(b"station ")?;
-    put_small(text, figures.station)
-}
-
-/// Adds the number and the label of a station.
-fn put_labelled_station(
-    text: &mut Vec<u8>,
-    figures: &Figures,
-    label: &[u8],
-) -> Result<(), AllocError>
-    ensures { OnOk result (text.new.items ≡ text.old.items ++ title_text (Some figures.now)
-        (Some label.now)) }
-{
+    let Some(figures) = station else {
+        return match label {
+            None => text.extend_from_slice(b"snmpmon"),
+            Some(label) => put_escaped(text, label.as_bytes()),
+        };
+    };
     text.extend_from_slice(b"station ")?;
     put_small(text, figures.station)?;
+    let Some(label) = label else {
+        return Ok(());
+    };
     text.extend_from_slice(b" &middot; ")?;
-    put_escaped(text, label)
+    put_escaped(text, label.as_bytes())
 }
 
 /// Adds when the last round ended, if one did before the year 10000.
@@ -269,26 +220,7 @@ fn put_station_line(text: &mut Vec<u8>, figures: &Figures) -> Result<(), AllocEr
     text.extend_from_slice(b"</p>\n")
 }
 
-/// Adds how old a file is, if that is known.
-fn put_age_line(text: &mut Vec<u8>, file_age: Option<u64>) -> Result<(), AllocError>
-    ensures { OnOk result (text.new.items ≡ text.old.items ++ age_line file_age) }
-{
-    match file_age {
-        None => Ok(()),
-        Some(seconds) => put_file_age(text, seconds),
-    }
-}
-
-/// Adds how old a file is.
-fn put_file_age(text: &mut Vec<u8>, seconds: u64) -> Result<(), AllocError>
-    ensures { OnOk result (text.new.items ≡ text.old.items ++ age_line (Some seconds)) }
-{
-    text.extend_from_slice(b"<p>The file is ")?;
-    put_duration(text, seconds)?;
-    text.extend_from_slice(b" old.</p>\n")
-}
-
-/// Adds the line of a station, or of a file.
+/// Adds the line of a station, or how old a file is, if that is known.
 pub(crate) fn put_origin(
     text: &mut Vec<u8>,
     station: Option<&Figures>,
@@ -297,8 +229,13 @@ pub(crate) fn put_origin(
     ensures { OnOk result (text.new.items ≡ text.old.items ++ origin_line
         (option_map (λ f. f.now) station.entry) file_age) }
 {
-    match station {
-        None => put_age_line(text, file_age),
-        Some(figures) => put_station_line(text, figures),
+    if let Some(figures) = station {
+        return put_station_line(text, figures);
     }
+    let Some(seconds) = file_age else {
+        return Ok(());
+    };
+    text.extend_from_slice(b"<p>The file is ")?;
+    put_duration(text, seconds)?;
+    text.extend_from_slice(b" old.</p>\n")
 }

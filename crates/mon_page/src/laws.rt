@@ -60,8 +60,8 @@ pub fn stale_cells()
 {}
 
 /// The numbers of raised alarms and of devices in the head are those of the lists below it. The
-/// list of alarms has those of each instance in their order, each once. Peers are heard or listed
-/// as silent.
+/// list of alarms has those of each instance in their order, each once. Each peer is
+/// counted, or listed as silent.
 pub fn counted()
     ensures alarms { (station : Option Figures) (rows : List Row)
         → (counts_of station rows).raised ≡ length (raised_alarms rows) }

@@ -1,12 +1,12 @@
 //! The document.
 
-ghost use Rattle.std.specs.Prelude.{◌≡◌, ◌++◌, IfOk, None, OnOk, Some, ◌==◌, if◌then◌else◌, option_map, string_bytes};
+ghost use Rattle.std.specs.Prelude.{◌≡◌, ◌++◌, IfOk, None, OnOk, Some, ◌==◌, option_map};
 ghost use Rattle.mon_page.specs.Devices.{devices};
 ghost use Rattle.mon_page.specs.Labelled.{labelled};
-ghost use Rattle.mon_page.specs.Page.{body_text, counts_of, counts_text, device_sections, first_lines, head_text, page_text, refresh_of, refresh_text, start_text, title_start};
+ghost use Rattle.mon_page.specs.Page.{body_text, counts_of, device_sections, head_text, page_text, refresh_of, refresh_text, start_text};
 ghost use Rattle.mon_page.specs.Rows.{rows_of};
 
-use crate::devices::{Device, devices_of};
+use crate::devices::devices_of;
 use crate::escape::put_between;
 use crate::extras::Extras;
 use crate::figures::Figures;
@@ -41,18 +41,13 @@ pub fn page_report<S: NameTexts>(
 {
     let mut text = buffer;
     text.clear();
-    put_head_of(&mut text, extras)?;
+    put_head(
+        &mut text,
+        extras.station,
+        extras.presentation.label.as_deref(),
+    )?;
     put_body(alloc, &mut text, names, entries, extras)?;
     Ok(text)
-}
-
-/// Adds the head of the document.
-fn put_head_of(text: &mut Vec<u8>, extras: Extras<'_>) -> Result<(), AllocError>
-    ensures { OnOk result (text.new.items ≡ text.old.items ++ head_text
-        (option_map (λ f. f.now) extras.entry.station) (option_map (λ l. string_bytes l)
-        extras.entry.presentation.now.label)) }
-{
-    put_head(text, extras.station, extras.presentation.label.as_deref())
 }
 
 /// Adds what follows the head.
@@ -99,25 +94,11 @@ fn put_rows<S: NameTexts>(
         (option_map (λ f. f.now) origin.entry.station) origin.entry.file_age) }
 {
     put_origin(text, origin.station, origin.file_age)?;
-    put_row_counts(alloc, text, origin.station, rows)?;
+    let counts = counts_of(alloc, origin.station, rows)?;
+    put_counts(text, origin.station, counts)?;
     put_wrong(alloc, text, names, rows, origin.station)?;
     put_row_sections(alloc, text, names, origin.station, rows)?;
     text.extend_from_slice(b"</body>\n</html>\n")
-}
-
-/// Adds the counts of instances.
-fn put_row_counts(
-    alloc: Global,
-    text: &mut Vec<u8>,
-    station: Option<&Figures>,
-    rows: &[Row],
-) -> Result<(), AllocError>
-    ensures { OnOk result (text.new.items ≡ text.old.items ++ counts_text
-        (option_map (λ f. f.now) station.entry) (counts_of (option_map (λ f. f.now) station.entry)
-        rows.now)) }
-{
-    let counts = counts_of(alloc, station, rows)?;
-    put_counts(text, station, counts)
 }
 
 /// Adds the sections of instances' devices.
@@ -132,27 +113,13 @@ fn put_row_sections<S: NameTexts>(
         (option_map (λ f. f.now) station.entry) (devices rows.now)) }
 {
     let found = devices_of(alloc, rows)?;
-    put_device_sections(alloc, text, names, station, found.as_slice())
-}
-
-/// Adds the sections of devices.
-fn put_device_sections<S: NameTexts>(
-    alloc: Global,
-    text: &mut Vec<u8>,
-    names: &S,
-    station: Option<&Figures>,
-    found: &[Device],
-) -> Result<(), AllocError>
-    ensures { OnOk result (text.new.items ≡ text.old.items ++ device_sections (S.shown names.now)
-        (option_map (λ f. f.now) station.entry) found.now) }
-{
     put_sections(
         alloc,
         text,
         names,
         Sections {
             station,
-            devices: found,
+            devices: found.as_slice(),
         },
     )
 }
@@ -161,20 +128,13 @@ fn put_device_sections<S: NameTexts>(
 fn refresh_of(station: Option<&Figures>) -> Option<u32>
     ensures { result ≡ refresh_of (option_map (λ f. f.now) station.entry) }
 {
-    match station {
-        None => None,
-        Some(figures) => refresh_after(figures.interval),
-    }
-}
-
-/// Returns the interval in seconds, or `None` if it is 0.
-fn refresh_after(interval: u32) -> Option<u32>
-    ensures { result ≡ (if interval == 0 then None else Some interval) }
-{
-    if interval == 0 {
+    let Some(figures) = station else {
+        return None;
+    };
+    if figures.interval == 0 {
         return None;
     }
-    Some(interval)
+    Some(figures.interval)
 }
 
 /// Adds the head of the document.
@@ -202,49 +162,23 @@ fn put_start(text: &mut Vec<u8>, station: Option<&Figures>) -> Result<(), AllocE
     ensures { OnOk result (text.new.items ≡ text.old.items ++ start_text
         (option_map (λ f. f.now) station.entry)) }
 {
-    text.extend_from_slice(first_lines())?;
-    put_station_refresh(text, station)?;
-    text.extend_from_slice(title_start())
-}
-
-/// Returns the beginning of the document.
-#[tactic(auto, unfolding(crate::specs::Page::first_lines))]
-fn first_lines() -> &'static [u8]
-    ensures { result.now ≡ first_lines }
-{
-    b"<!DOCTYPE html>\n<html lang=\"en\">\n<head>\n<meta charset=\"utf-8\">\n"
-}
-
-/// Returns what is between the refresh and the title.
-#[tactic(auto, unfolding(crate::specs::Page::title_start))]
-fn title_start() -> &'static [u8]
-    ensures { result.now ≡ title_start }
-{
-    b"<meta name=\"viewport\" content=\"width=device-width, initial-scale=1\">\n<title>"
+    text.extend_from_slice(
+        b"<!DOCTYPE html>\n<html lang=\"en\">\n<head>\n<meta charset=\"utf-8\">\n",
+    )?;
+    put_refresh(text, station)?;
+    text.extend_from_slice(
+        b"<meta name=\"viewport\" content=\"width=device-width, initial-scale=1\">\n<title>",
+    )
 }
 
 /// Adds after how many seconds a browser loads the page again, if it does.
-fn put_station_refresh(text: &mut Vec<u8>, station: Option<&Figures>) -> Result<(), AllocError>
+fn put_refresh(text: &mut Vec<u8>, station: Option<&Figures>) -> Result<(), AllocError>
     ensures { OnOk result (text.new.items ≡ text.old.items ++ refresh_text
         (refresh_of (option_map (λ f. f.now) station.entry))) }
 {
-    put_refresh(text, refresh_of(station))
-}
-
-/// Adds after how many seconds a browser loads the page again, if given.
-fn put_refresh(text: &mut Vec<u8>, refresh: Option<u32>) -> Result<(), AllocError>
-    ensures { OnOk result (text.new.items ≡ text.old.items ++ refresh_text refresh) }
-{
-    match refresh {
-        None => Ok(()),
-        Some(seconds) => put_seconds(text, seconds),
-    }
-}
-
-/// Adds the number of seconds.
-fn put_seconds(text: &mut Vec<u8>, seconds: u32) -> Result<(), AllocError>
-    ensures { OnOk result (text.new.items ≡ text.old.items ++ refresh_text (Some seconds)) }
-{
+    let Some(seconds) = refresh_of(station) else {
+        return Ok(());
+    };
     let mut digits = Buffer::new();
     let number = digits.format(seconds);
     put_between(

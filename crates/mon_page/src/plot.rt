@@ -3,7 +3,7 @@
 ghost use Rattle.std.specs.Prelude.{◌≡◌, ◌++◌, OnOk, None, Some, option_copied};
 ghost use Rattle.std.specs.List.{flat_map};
 ghost use Rattle.mon_display.specs.Interface.{column_of};
-ghost use Rattle.mon_page.specs.Plot.{level, before_at, widened, no_scale, scale_of, distance, later, span_of, across, below_top, spot_of, is_missed, joins, start_of, down_text, line_text, dot_text, stroke_text, points_from, limit_level, with_rule, with_rules, limit_line, limit_path, rule_lines, limits_text, greatest_words, limit_words, limit_note, notes_text, frame_of, drawing_text, plot_of, plot_start, start_words};
+ghost use Rattle.mon_page.specs.Plot.{level, before_at, widened, no_scale, scale_of, distance, later, span_of, across, below_top, spot_of, is_missed, joins, start_of, down_text, line_text, dot_text, stroke_text, points_from, limit_level, with_rules, limit_line, limit_path, rule_lines, limits_text, greatest_words, limit_words, limit_note, notes_text, frame_of, drawing_text, plot_of};
 
 use crate::escape::put_between;
 use crate::numbers::put_wide;
@@ -178,20 +178,14 @@ fn is_missed(frame: Frame, seconds: u32) -> bool
     2 * u128::from(frame.span) < u128::from(seconds) * (frame.pairs as u128)
 }
 
-/// Returns `true` if a line goes on from the sample before.
+/// Returns `true` if a line goes on from the sample before: neither boots nor the discontinuity
+/// value changed, and no rounds were missed.
 fn joins(frame: Frame, before: Option<&Sample>, sample: &Sample) -> bool
     ensures { result ≡ joins frame (option_copied before.entry) sample.now }
 {
-    match before {
-        None => false,
-        Some(before) => is_next(frame, before, sample),
-    }
-}
-
-/// Returns `true` if neither boots nor the discontinuity value changed, and no rounds were missed.
-fn is_next(frame: Frame, before: &Sample, sample: &Sample) -> bool
-    ensures { result ≡ joins frame (Some before.now) sample.now }
-{
+    let Some(before) = before else {
+        return false;
+    };
     before.boots() == sample.boots()
         && (before.discontinuity() == sample.discontinuity()
             && !is_missed(frame, seconds_after(before, sample)))
@@ -252,16 +246,9 @@ fn put_dot(text: &mut Vec<u8>, spot: Spot) -> Result<(), AllocError>
 fn put_stroke(text: &mut Vec<u8>, start: Option<Spot>, spot: Option<Spot>) -> Result<(), AllocError>
     ensures { OnOk result (text.new.items ≡ text.old.items ++ stroke_text start spot) }
 {
-    match spot {
-        None => Ok(()),
-        Some(spot) => put_spot(text, start, spot),
-    }
-}
-
-/// Adds a line to a point, or a dot there.
-fn put_spot(text: &mut Vec<u8>, start: Option<Spot>, spot: Spot) -> Result<(), AllocError>
-    ensures { OnOk result (text.new.items ≡ text.old.items ++ stroke_text start (Some spot)) }
-{
+    let Some(spot) = spot else {
+        return Ok(());
+    };
     match start {
         None => put_dot(text, spot),
         Some(start) => put_line(text, start, spot),
@@ -302,22 +289,15 @@ fn limit_level(counted: bool, threshold: i64) -> u128
     }
 }
 
-/// Returns the scale with the thresholds of a rule.
-fn with_rule(counted: bool, scale: Scale, rule: &Rule) -> Scale
-    ensures { result ≡ with_rule counted scale rule.now }
-{
-    let rising = limit_level(counted, rule.rising());
-    let falling = limit_level(counted, rule.falling());
-    widened(widened(scale, Some(rising)), Some(falling))
-}
-
 /// Returns the scale with the thresholds of all rules.
 fn with_rules(counted: bool, scale: Scale, rules: &[Rule]) -> Scale
     ensures { result ≡ with_rules counted scale rules.now }
 {
     let mut scale = scale;
     for rule in rules {
-        scale = with_rule(counted, scale, rule);
+        let rising = limit_level(counted, rule.rising());
+        let falling = limit_level(counted, rule.falling());
+        scale = widened(widened(scale, Some(rising)), Some(falling));
     }
     scale
 }
@@ -358,6 +338,7 @@ fn put_rules(
 }
 
 /// Adds the path of the thresholds, if there are rules.
+#[tactic(auto, unfolding(crate::specs::Plot::limit_path))]
 fn put_limits(
     text: &mut Vec<u8>,
     counted: bool,
@@ -369,19 +350,6 @@ fn put_limits(
     if rules.is_empty() {
         return Ok(());
     }
-    put_limit_path(text, counted, scale, rules)
-}
-
-/// Adds the path of the thresholds.
-#[tactic(auto, unfolding(crate::specs::Plot::limit_path))]
-fn put_limit_path(
-    text: &mut Vec<u8>,
-    counted: bool,
-    scale: Scale,
-    rules: &[Rule],
-) -> Result<(), AllocError>
-    ensures { OnOk result (text.new.items ≡ text.old.items ++ limit_path counted scale rules.now) }
-{
     text.extend_from_slice(b"<path class=\"limit\" d=\"")?;
     put_rules(text, counted, scale, rules)?;
     text.extend_from_slice(b"\"/>")
@@ -465,67 +433,28 @@ struct Drawing<'r, 'a, 'e> {
     rules: &'r [Rule],
 }
 
-/// Returns the frame of the plot of samples in this scale.
-fn frame_of(scale: Scale, samples: &[Sample]) -> Frame
-    ensures { result ≡ frame_of scale samples.now }
+/// Adds the strokes of the plot of samples in this scale.
+fn put_strokes(text: &mut Vec<u8>, scale: Scale, samples: &[Sample]) -> Result<(), AllocError>
+    ensures { OnOk result (text.new.items ≡ text.old.items ++ points_from samples.now
+        (frame_of scale samples.now) None 0 0 samples.now) }
 {
-    Frame {
+    let frame = Frame {
         scale,
         span: span_of(samples),
         pairs: samples.len().saturating_sub(1),
-    }
+    };
+    put_points(text, frame, samples)
 }
 
-/// Adds the strokes of a plot.
-fn put_strokes(text: &mut Vec<u8>, drawing: Drawing) -> Result<(), AllocError>
-    ensures { OnOk result (text.new.items ≡ text.old.items
-        ++ points_from drawing.entry.samples.now (frame_of (with_rules drawing.entry.counted drawing.entry.own drawing.entry.rules.now) drawing.entry.samples.now) None 0 0 drawing.entry.samples.now) }
-{
-    let scale = with_rules(drawing.counted, drawing.own, drawing.rules);
-    let frame = frame_of(scale, drawing.samples);
-    put_points(text, frame, drawing.samples)
-}
-
-/// Adds the lines of thresholds, if there are rules.
-fn put_thresholds(text: &mut Vec<u8>, drawing: Drawing) -> Result<(), AllocError>
-    ensures { OnOk result (text.new.items ≡ text.old.items
-        ++ limits_text drawing.entry.counted (with_rules drawing.entry.counted drawing.entry.own drawing.entry.rules.now) drawing.entry.rules.now) }
-{
-    let scale = with_rules(drawing.counted, drawing.own, drawing.rules);
-    put_limits(text, drawing.counted, scale, drawing.rules)
-}
-
-/// Adds what is said below a plot.
+/// Adds what is said below a plot: the greatest level, unless it is 0, and the rising thresholds.
+#[tactic(auto, unfolding(crate::specs::Plot::notes_text))]
 fn put_notes(alloc: Global, text: &mut Vec<u8>, drawing: Drawing) -> Result<(), AllocError>
     ensures { OnOk result (text.new.items ≡ text.old.items
         ++ notes_text (column_of drawing.entry.row.now.entry.name) drawing.entry.counted drawing.entry.own.high drawing.entry.rules.now) }
 {
-    let counted = drawing.counted;
-    let high = drawing.own.high;
-    put_notes_of(
-        alloc,
-        text,
-        drawing.row.column(),
-        (counted, high),
-        drawing.rules,
-    )
-}
-
-/// Adds the greatest level, unless it is 0, and the rising thresholds.
-#[tactic(auto, unfolding(crate::specs::Plot::notes_text))]
-fn put_notes_of(
-    alloc: Global,
-    text: &mut Vec<u8>,
-    column: Column,
-    level: (bool, u128),
-    rules: &[Rule],
-) -> Result<(), AllocError>
-    ensures { OnOk result (text.new.items ≡ text.old.items ++ notes_text column level.0 level.1
-        rules.now) }
-{
-    let (counted, high) = level;
-    put_greatest(alloc, text, column, counted, high)?;
-    put_limit_notes(alloc, text, column, counted, rules)
+    let column = drawing.row.column();
+    put_greatest(alloc, text, column, drawing.counted, drawing.own.high)?;
+    put_limit_notes(alloc, text, column, drawing.counted, drawing.rules)
 }
 
 /// Adds the plot of an instance, with the greatest level and the thresholds below it.
@@ -548,35 +477,22 @@ pub(crate) fn put_plot(alloc: Global, text: &mut Vec<u8>, row: &Row) -> Result<(
     )
 }
 
-/// Adds a plot.
+/// Adds a plot, whose label is the value now.
 #[tactic(auto, unfolding(crate::specs::Plot::drawing_text))]
 fn put_drawing(alloc: Global, text: &mut Vec<u8>, drawing: Drawing) -> Result<(), AllocError>
     ensures { OnOk result (text.new.items ≡ text.old.items
         ++ drawing_text drawing.entry.row.now drawing.entry.counted drawing.entry.own drawing.entry.samples.now drawing.entry.rules.now) }
 {
-    put_plot_start(alloc, text, drawing.row)?;
+    let scale = with_rules(drawing.counted, drawing.own, drawing.rules);
+    text.extend_from_slice(
+        b"<svg viewBox=\"0 -2 240 44\" preserveAspectRatio=\"none\" role=\"img\" aria-label=\"",
+    )?;
+    put_now(alloc, text, drawing.row)?;
     text.extend_from_slice(b"\"><path d=\"")?;
-    put_strokes(text, drawing)?;
+    put_strokes(text, scale, drawing.samples)?;
     text.extend_from_slice(b"\"/>")?;
-    put_thresholds(text, drawing)?;
+    put_limits(text, drawing.counted, scale, drawing.rules)?;
     text.extend_from_slice(b"</svg><small>")?;
     put_notes(alloc, text, drawing)?;
     text.extend_from_slice(b"</small>")
-}
-
-/// Adds the value now, and what is before it.
-#[tactic(auto, unfolding(crate::specs::Plot::start_words))]
-fn put_plot_start(alloc: Global, text: &mut Vec<u8>, row: &Row) -> Result<(), AllocError>
-    ensures { OnOk result (text.new.items ≡ text.old.items ++ start_words row.now) }
-{
-    text.extend_from_slice(plot_start())?;
-    put_now(alloc, text, row)
-}
-
-/// Returns what is before the value now.
-#[tactic(auto, unfolding(crate::specs::Plot::plot_start))]
-fn plot_start() -> &'static [u8]
-    ensures { result.now ≡ plot_start }
-{
-    b"<svg viewBox=\"0 -2 240 44\" preserveAspectRatio=\"none\" role=\"img\" aria-label=\""
 }

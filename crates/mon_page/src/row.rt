@@ -122,13 +122,6 @@ impl<'a, 'e> Row<'a, 'e> {
         self.state
     }
 
-    /// Returns `true` if that is this word.
-    pub(crate) fn is_in_state(&self, word: &str) -> bool
-        ensures { result ≡ bytes_eq (row_state self.now) word.now }
-    {
-        self.state == word
-    }
-
     /// Returns `true` if an alarm of it is raised.
     pub(crate) fn is_raised(&self) -> bool
         ensures { result ≡ has_raised self.now.entry.alarms }

@@ -1,68 +1,40 @@
 //! Where the instances of a device are shown: in the row of an interface, or among the others.
 
-ghost use Rattle.std.specs.Prelude.{◌≡◌, ◌++◌, IfOk, OnOk, Some, ◌&&◌, filter};
 ghost use Rattle.std.specs.List.{list_any};
-ghost use Rattle.mon_page.specs.Seats.{comes_in, goes_out, has_place, interface_at, interfaces_from, is_at, is_free, is_free_at, is_in, is_out, others, placed, placed_from};
+ghost use Rattle.std.specs.Prelude.{◌≡◌, ◌++◌, IfOk, OnOk, Some, ◌&&◌, filter};
+ghost use Rattle.mon_page.specs.Seats.{comes_in, goes_out, has_place, interface_at, interfaces_from, is_at, is_free, others, placed};
 
 use crate::row::Row;
 use mon_display::Column;
 use std::alloc::{AllocError, Global};
 use std::marker::Model;
 
-/// Returns `true` if the column counts octets that came in.
-fn is_in(column: Column) -> bool
-    ensures { result ≡ is_in column }
-{
-    matches!(column, Column::InOctets)
-}
-
-/// Returns `true` if the column counts octets that went out.
-fn is_out(column: Column) -> bool
-    ensures { result ≡ is_out column }
-{
-    matches!(column, Column::OutOctets)
-}
-
 /// Returns `true` if what the instance counts came in at an interface.
 pub(crate) fn comes_in(row: &Row) -> bool
     ensures { result ≡ comes_in row.now }
 {
-    is_in(row.column())
+    matches!(row.column(), Column::InOctets)
 }
 
 /// Returns `true` if what the instance counts went out at an interface.
 pub(crate) fn goes_out(row: &Row) -> bool
     ensures { result ≡ goes_out row.now }
 {
-    is_out(row.column())
-}
-
-/// Returns `true` if an instance came in at the interface of this ifIndex.
-fn comes_in_at(row: &Row, index: u32) -> bool
-    ensures { result ≡ (is_at index row.now && comes_in row.now) }
-{
-    row.is_at(index) && comes_in(row)
-}
-
-/// Returns `true` if an instance went out at the interface of this ifIndex.
-fn goes_out_at(row: &Row, index: u32) -> bool
-    ensures { result ≡ (is_at index row.now && goes_out row.now) }
-{
-    row.is_at(index) && goes_out(row)
+    matches!(row.column(), Column::OutOctets)
 }
 
 /// Returns `true` if one of instances came in at the interface of this ifIndex.
 fn has_in(rows: &[Row], index: u32) -> bool
     ensures { result ≡ list_any (λ r. is_at index r && comes_in r) rows.now }
 {
-    rows.iter().any(|row| comes_in_at(row, index))
+    rows.iter().any(|row| row.is_at(index) && comes_in(row))
 }
 
 /// Returns `true` if one of instances went out at the interface of this ifIndex.
 fn has_out(rows: &[Row], index: u32) -> bool
     ensures { result ≡ list_any (λ r. is_at index r && goes_out r) rows.now }
 {
-    rows.iter().any(|row| goes_out_at(row, index))
+    rows.iter().any(|row| row.is_at(index) && goes_out(row))
 }
 
 /// Returns `true` if one of instances is of the interface of this ifIndex.

@@ -1,7 +1,6 @@
 //! The section of a device.
 
 ghost use Rattle.std.specs.Prelude.{◌≡◌, ◌++◌, OnOk, length, option_map};
-ghost use Rattle.hex.specs.Hex.{encode_lower};
 ghost use Rattle.mon_page.specs.Devices.{engine_of, naming_row, newest_stamp};
 ghost use Rattle.mon_page.specs.Page.{device_sections, heading_of, interface_table, naming_words, open_word, other_table, section_line, section_start, section_text, sections_from, state_words, up_of, uptime_words};
 ghost use Rattle.mon_page.specs.Seats.{interfaces, others};
@@ -34,13 +33,6 @@ fn open_word(is_open: bool) -> &'static [u8]
     if is_open { b"open" } else { b"closed" }
 }
 
-/// Adds the class of a section.
-fn put_open(text: &mut Vec<u8>, is_open: bool) -> Result<(), AllocError>
-    ensures { OnOk result (text.new.items ≡ text.old.items ++ open_word is_open) }
-{
-    text.extend_from_slice(open_word(is_open))
-}
-
 /// Returns whether a device is up in words, if a station says so.
 fn state_words(up: Option<bool>) -> &'static [u8]
     ensures { result.now ≡ state_words up }
@@ -52,10 +44,12 @@ fn state_words(up: Option<bool>) -> &'static [u8]
     }
 }
 
-/// Adds how long an agent was up at a stamp, if there is one.
-fn put_uptime(text: &mut Vec<u8>, stamp: u64) -> Result<(), AllocError>
-    ensures { OnOk result (text.new.items ≡ text.old.items ++ uptime_words stamp) }
+/// Adds how long the agent of a device was up at its newest sample, if there is one.
+fn put_uptime(text: &mut Vec<u8>, device: &[Row]) -> Result<(), AllocError>
+    ensures { OnOk result (text.new.items ≡ text.old.items ++ uptime_words
+        (newest_stamp 0 device.now)) }
 {
+    let stamp = newest_stamp(device);
     if stamp == 0 {
         return Ok(());
     }
@@ -63,15 +57,7 @@ fn put_uptime(text: &mut Vec<u8>, stamp: u64) -> Result<(), AllocError>
     put_duration(text, stamp % (1 << 32))
 }
 
-/// Adds how long the agent of a device was up at its newest sample.
-fn put_device_uptime(text: &mut Vec<u8>, device: &[Row]) -> Result<(), AllocError>
-    ensures { OnOk result (text.new.items ≡ text.old.items ++ uptime_words
-        (newest_stamp 0 device.now)) }
-{
-    put_uptime(text, newest_stamp(device))
-}
-
-/// Adds the words that name a device.
+/// Adds the text that names a device.
 fn put_naming(alloc: Global, text: &mut Vec<u8>, device: &[Row]) -> Result<(), AllocError>
     ensures { OnOk result (text.new.items
         ≡ text.old.items ++ naming_words (naming_row device.now)) }
@@ -80,13 +66,6 @@ fn put_naming(alloc: Global, text: &mut Vec<u8>, device: &[Row]) -> Result<(), A
         None => Ok(()),
         Some(row) => put_device_words(alloc, text, row),
     }
-}
-
-/// Adds the engine id of a device in hex digits.
-fn put_device_engine(alloc: Global, text: &mut Vec<u8>, device: &[Row]) -> Result<(), AllocError>
-    ensures { OnOk result (text.new.items ≡ text.old.items ++ encode_lower (engine_of device.now)) }
-{
-    put_engine(alloc, text, engine_of(device))
 }
 
 /// Adds the heading of a section.
@@ -102,13 +81,13 @@ fn put_start(
     text.extend_from_slice(b"<section id=\"d")?;
     put_count(text, heading.number)?;
     text.extend_from_slice(b"\" class=\"")?;
-    put_open(text, heading.is_open)?;
+    text.extend_from_slice(open_word(heading.is_open))?;
     text.extend_from_slice(b"\">\n<h3><a href=\"#d")?;
     put_count(text, heading.number)?;
     text.extend_from_slice(b"\">")?;
     put_naming(alloc, text, device)?;
     text.extend_from_slice(b"</a> <small>")?;
-    put_device_engine(alloc, text, device)?;
+    put_engine(alloc, text, engine_of(device))?;
     text.extend_from_slice(b"</small></h3>\n")
 }
 
@@ -119,7 +98,7 @@ fn put_line(text: &mut Vec<u8>, heading: Heading, device: &[Row]) -> Result<(), 
 {
     text.extend_from_slice(b"<p>")?;
     text.extend_from_slice(state_words(heading.up))?;
-    put_device_uptime(text, device)?;
+    put_uptime(text, device)?;
     text.extend_from_slice(b"</p>\n<div>\n")
 }
 

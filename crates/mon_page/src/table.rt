@@ -1,12 +1,10 @@
 //! The tables of a device: its interfaces, and its other instances.
 
-ghost use Rattle.std.specs.Prelude.{◌≡◌, ◌++◌, None, OnOk, Some, codes, decimal, find, option_map};
+ghost use Rattle.std.specs.Prelude.{◌≡◌, ◌++◌, None, OnOk, Some, find, option_map};
 ghost use Rattle.std.specs.List.{flat_map};
 ghost use Rattle.mon_display.specs.Rate.{percent_text};
-ghost use Rattle.mon_page.specs.Between.{between};
-ghost use Rattle.mon_page.specs.Cells.{fresh_rate, newest_of, value_cell};
-ghost use Rattle.mon_page.specs.Page.{alias_words, column_words, fault_if, fault_of, fault_words, figure_cells, first_of, has_state, interface_lines, interface_row, interface_table, interface_titles, label_if, label_line, label_start, lead_words, name_cell, name_words, octets_if, octets_words, older, oldest, other_lines, other_row, other_table, other_titles, percent_of, row_end, row_start, share_if, share_words, worst_state};
-ghost use Rattle.mon_page.specs.Rows.{row_state};
+ghost use Rattle.mon_page.specs.Cells.{fresh_rate};
+ghost use Rattle.mon_page.specs.Page.{alias_words, column_words, fault_of, fault_words, figure_cells, first_of, has_state, interface_lines, interface_row, interface_table, label_if, label_line, label_start, name_cell, name_words, octets_if, octets_words, older, oldest, other_lines, other_row, other_table, percent_of, row_end, row_start, share_if, share_words, worst_state};
 ghost use Rattle.mon_page.specs.Seats.{comes_in, goes_out};
 ghost use Rattle.mon_page.specs.Words.{bits_of};
 
@@ -17,8 +15,7 @@ use crate::plot::put_plot;
 use crate::row::Row;
 use crate::seats::{Interface, comes_in, goes_out};
 use crate::words::{
-    bits_of, put_age, put_fresh_rate, put_interface_words, put_known, put_now, put_rate_text,
-    put_value,
+    bits_of, put_age, put_fresh_rate, put_interface_words, put_now, put_rate_text, put_value,
 };
 use crate::wrong::put_shown;
 use mon_display::{Column, Unit, percent_text};
@@ -38,15 +35,8 @@ fn put_share_words(
     text.extend_from_slice(b" ")?;
     put_percent(alloc, text, rate, speed)?;
     text.extend_from_slice(b"<meter max=\"100\" value=\"")?;
-    put_percent_number(text, rate, speed)?;
+    put_wide(text, percent_of(rate, speed))?;
     text.extend_from_slice(b"\"></meter>")
-}
-
-/// Adds what percentage of a speed a rate of octets is, rounded down.
-fn put_percent_number(text: &mut Vec<u8>, rate: u128, speed: u64) -> Result<(), AllocError>
-    ensures { OnOk result (text.new.items ≡ text.old.items ++ decimal (percent_of rate speed)) }
-{
-    put_wide(text, percent_of(rate, speed))
 }
 
 /// Returns what percentage of a speed a rate of octets is, rounded down.
@@ -64,64 +54,33 @@ fn put_percent(alloc: Global, text: &mut Vec<u8>, rate: u128, speed: u64) -> Res
     text.extend_from_slice(words.as_bytes())
 }
 
-/// Adds the part of a speed, if both are known.
-fn put_share_if(
-    alloc: Global,
-    text: &mut Vec<u8>,
-    rate: Option<u128>,
-    speed: Option<u64>,
-) -> Result<(), AllocError>
-    ensures { OnOk result (text.new.items ≡ text.old.items ++ share_if rate speed) }
-{
-    match rate {
-        None => Ok(()),
-        Some(rate) => put_share_of(alloc, text, rate, speed),
-    }
-}
-
-/// Adds the part of a speed, if that is known.
-fn put_share_of(
-    alloc: Global,
-    text: &mut Vec<u8>,
-    rate: u128,
-    speed: Option<u64>,
-) -> Result<(), AllocError>
-    ensures { OnOk result (text.new.items ≡ text.old.items ++ share_if (Some rate) speed) }
-{
-    match speed {
-        None => Ok(()),
-        Some(speed) => put_share_words(alloc, text, rate, speed),
-    }
-}
-
-/// Adds the part of its speed that an instance has.
+/// Adds the part of its speed that an instance has, if its rate and its speed are known.
 fn put_share(alloc: Global, text: &mut Vec<u8>, row: &Row) -> Result<(), AllocError>
     ensures { OnOk result (text.new.items ≡ text.old.items ++ share_if
         (fresh_rate row.now.fresh row.now.entry.items) row.now.labels.speed) }
 {
-    let rate = fresh_rate(row.entry(), row.is_fresh());
-    put_share_if(alloc, text, rate, row.speed())
+    let Some(rate) = fresh_rate(row.entry(), row.is_fresh()) else {
+        return Ok(());
+    };
+    let Some(speed) = row.speed() else {
+        return Ok(());
+    };
+    put_share_words(alloc, text, rate, speed)
 }
 
-/// Adds what octets are now, their part of the speed, and their plot.
+/// Adds what the octets of an instance are now, their part of the speed, and their plot, if there
+/// is one.
 #[tactic(auto, unfolding(crate::specs::Page::octets_words))]
-fn put_octets_words(alloc: Global, text: &mut Vec<u8>, row: &Row) -> Result<(), AllocError>
-    ensures { OnOk result (text.new.items ≡ text.old.items ++ octets_words row.now) }
-{
-    put_now(alloc, text, row)?;
-    put_share(alloc, text, row)?;
-    put_plot(alloc, text, row)
-}
-
-/// Adds that of an instance, if there is one.
 fn put_octets_if(alloc: Global, text: &mut Vec<u8>, row: Option<&Row>) -> Result<(), AllocError>
     ensures { OnOk result (text.new.items ≡ text.old.items ++ octets_if
         (option_map (λ r. r.now) row.entry)) }
 {
-    match row {
-        None => Ok(()),
-        Some(row) => put_octets_words(alloc, text, row),
-    }
+    let Some(row) = row else {
+        return Ok(());
+    };
+    put_now(alloc, text, row)?;
+    put_share(alloc, text, row)?;
+    put_plot(alloc, text, row)
 }
 
 /// Returns the first instance that came in.
@@ -136,20 +95,6 @@ fn first_out<'r, 'a, 'e>(rows: &'r [Row<'a, 'e>]) -> Option<&'r Row<'a, 'e>>
     ensures { option_map (λ r. r.now) result ≡ find goes_out rows.now }
 {
     rows.iter().find(|row| goes_out(row))
-}
-
-/// Adds that of the first instance that came in, if there is one.
-fn put_in(alloc: Global, text: &mut Vec<u8>, rows: &[Row]) -> Result<(), AllocError>
-    ensures { OnOk result (text.new.items ≡ text.old.items ++ octets_if (find comes_in rows.now)) }
-{
-    put_octets_if(alloc, text, first_in(rows))
-}
-
-/// Adds that of the first instance that went out, if there is one.
-fn put_out(alloc: Global, text: &mut Vec<u8>, rows: &[Row]) -> Result<(), AllocError>
-    ensures { OnOk result (text.new.items ≡ text.old.items ++ octets_if (find goes_out rows.now)) }
-{
-    put_octets_if(alloc, text, first_out(rows))
 }
 
 /// Returns what a column counts, in words.
@@ -167,61 +112,25 @@ fn column_words(column: Column) -> &'static [u8]
     }
 }
 
-/// Adds errors or discards a second.
+/// Adds the errors or discards of an instance a second, unless they are 0 or not known. It has none
+/// if it counts octets.
 #[tactic(auto, unfolding(crate::specs::Page::fault_words))]
-fn put_fault_words(
-    alloc: Global,
-    text: &mut Vec<u8>,
-    column: Column,
-    rate: u128,
-) -> Result<(), AllocError>
-    ensures { OnOk result (text.new.items ≡ text.old.items ++ fault_words column rate) }
-{
-    text.extend_from_slice(b"<div>")?;
-    text.extend_from_slice(column_words(column))?;
-    put_rate_text(alloc, text, Unit::Each, rate)?;
-    text.extend_from_slice(b"</div>")
-}
-
-/// Adds errors or discards, unless they are 0 or not known.
-fn put_fault_if(
-    alloc: Global,
-    text: &mut Vec<u8>,
-    column: Column,
-    rate: Option<u128>,
-) -> Result<(), AllocError>
-    ensures { OnOk result (text.new.items ≡ text.old.items ++ fault_if column rate) }
-{
-    match rate {
-        None => Ok(()),
-        Some(rate) => put_fault_rate(alloc, text, column, rate),
-    }
-}
-
-/// Adds errors or discards, unless they are 0.
-fn put_fault_rate(
-    alloc: Global,
-    text: &mut Vec<u8>,
-    column: Column,
-    rate: u128,
-) -> Result<(), AllocError>
-    ensures { OnOk result (text.new.items ≡ text.old.items ++ fault_if column (Some rate)) }
-{
-    if rate == 0 {
-        return Ok(());
-    }
-    put_fault_words(alloc, text, column, rate)
-}
-
-/// Adds the errors or discards of an instance, which has none if it counts octets.
 fn put_fault(alloc: Global, text: &mut Vec<u8>, row: &Row) -> Result<(), AllocError>
     ensures { OnOk result (text.new.items ≡ text.old.items ++ fault_of row.now) }
 {
     if comes_in(row) || goes_out(row) {
         return Ok(());
     }
-    let rate = fresh_rate(row.entry(), row.is_fresh());
-    put_fault_if(alloc, text, row.column(), rate)
+    let Some(rate) = fresh_rate(row.entry(), row.is_fresh()) else {
+        return Ok(());
+    };
+    if rate == 0 {
+        return Ok(());
+    }
+    text.extend_from_slice(b"<div>")?;
+    text.extend_from_slice(column_words(row.column()))?;
+    put_rate_text(alloc, text, Unit::Each, rate)?;
+    text.extend_from_slice(b"</div>")
 }
 
 /// Adds those of all instances of an interface.
@@ -238,7 +147,7 @@ fn put_faults(alloc: Global, text: &mut Vec<u8>, rows: &[Row]) -> Result<(), All
 fn has_state(rows: &[Row], word: &str) -> bool
     ensures { result ≡ has_state rows.now word.now }
 {
-    rows.iter().any(|row| row.is_in_state(word))
+    rows.iter().any(|row| row.state() == word)
 }
 
 /// Returns the state of instances together.
@@ -260,20 +169,13 @@ fn worst_state(rows: &[Row]) -> &'static str
 fn older(some: Option<u32>, other: Option<u32>) -> Option<u32>
     ensures { result ≡ older some other }
 {
-    match some {
-        None => other,
-        Some(some) => older_than(some, other),
-    }
-}
-
-/// Returns the greater of an age and another, if that is known.
-fn older_than(some: u32, other: Option<u32>) -> Option<u32>
-    ensures { result ≡ older (Some some) other }
-{
-    match other {
-        None => Some(some),
-        Some(other) => Some(some.max(other)),
-    }
+    let Some(age) = some else {
+        return other;
+    };
+    let Some(other) = other else {
+        return some;
+    };
+    Some(age.max(other))
 }
 
 /// Returns the greatest age of instances.
@@ -305,68 +207,40 @@ fn put_row_start(text: &mut Vec<u8>, state: &str) -> Result<(), AllocError>
 fn put_row_end(text: &mut Vec<u8>, state: &str, age: Option<u32>) -> Result<(), AllocError>
     ensures { OnOk result (text.new.items ≡ text.old.items ++ row_end state.now age) }
 {
-    put_state_cell(text, state)?;
-    put_age(text, age)?;
-    text.extend_from_slice(b"</td></tr>\n")
-}
-
-/// Adds the cell of a state, and the beginning of the next one.
-fn put_state_cell(text: &mut Vec<u8>, state: &str) -> Result<(), AllocError>
-    ensures { OnOk result (text.new.items ≡ text.old.items ++ between
-        (codes "</td><td class=\"s\">") state.now (codes "</td><td>")) }
-{
     put_between(
         text,
         b"</td><td class=\"s\">",
         state.as_bytes(),
         b"</td><td>",
-    )
-}
-
-/// Adds the state of instances together at the beginning of their row.
-fn put_worst_start(text: &mut Vec<u8>, rows: &[Row]) -> Result<(), AllocError>
-    ensures { OnOk result (text.new.items ≡ text.old.items ++ row_start (worst_state rows.now)) }
-{
-    put_row_start(text, worst_state(rows))
-}
-
-/// Adds the state and the age of instances together at the end of their row.
-fn put_worst_end(text: &mut Vec<u8>, rows: &[Row]) -> Result<(), AllocError>
-    ensures { OnOk result (text.new.items ≡ text.old.items ++ row_end (worst_state rows.now)
-        (oldest None rows.now)) }
-{
-    put_row_end(text, worst_state(rows), oldest(rows))
-}
-
-/// Adds which interface a row is of.
-fn put_lead(text: &mut Vec<u8>, if_name: Option<&str>, index: Option<u32>) -> Result<(), AllocError>
-    ensures { OnOk result (text.new.items ≡ text.old.items ++ lead_words
-        (option_map (λ n. n.now) if_name.entry) index) }
-{
-    match index {
-        None => Ok(()),
-        Some(index) => put_interface_words(text, if_name, index),
-    }
+    )?;
+    put_age(text, age)?;
+    text.extend_from_slice(b"</td></tr>\n")
 }
 
 /// Adds which interface the first of instances is of.
 fn put_name(text: &mut Vec<u8>, rows: &[Row]) -> Result<(), AllocError>
     ensures { OnOk result (text.new.items ≡ text.old.items ++ name_words (first_of rows.now)) }
 {
-    match rows.first() {
-        None => Ok(()),
-        Some(row) => put_lead(text, row.if_name(), row.index()),
-    }
+    let Some(row) = rows.first() else {
+        return Ok(());
+    };
+    let Some(index) = row.index() else {
+        return Ok(());
+    };
+    put_interface_words(text, row.if_name(), index)
 }
 
-/// Adds the ifAlias of the interface of the first of instances.
+/// Adds the ifAlias of the interface of the first of instances, if it is known.
 fn put_alias(text: &mut Vec<u8>, rows: &[Row]) -> Result<(), AllocError>
     ensures { OnOk result (text.new.items ≡ text.old.items ++ alias_words (first_of rows.now)) }
 {
-    match rows.first() {
-        None => Ok(()),
-        Some(row) => put_known(text, row.if_alias()),
-    }
+    let Some(row) = rows.first() else {
+        return Ok(());
+    };
+    let Some(alias) = row.if_alias() else {
+        return Ok(());
+    };
+    put_escaped(text, alias.as_bytes())
 }
 
 /// Adds the row of an interface with these instances.
@@ -374,17 +248,18 @@ fn put_alias(text: &mut Vec<u8>, rows: &[Row]) -> Result<(), AllocError>
 fn put_interface_row(alloc: Global, text: &mut Vec<u8>, rows: &[Row]) -> Result<(), AllocError>
     ensures { OnOk result (text.new.items ≡ text.old.items ++ interface_row rows.now) }
 {
-    put_worst_start(text, rows)?;
+    let state = worst_state(rows);
+    put_row_start(text, state)?;
     put_name(text, rows)?;
     text.extend_from_slice(b"</th><td class=\"t\">")?;
     put_alias(text, rows)?;
     text.extend_from_slice(b"</td><td>")?;
-    put_in(alloc, text, rows)?;
+    put_octets_if(alloc, text, first_in(rows))?;
     text.extend_from_slice(b"</td><td>")?;
-    put_out(alloc, text, rows)?;
+    put_octets_if(alloc, text, first_out(rows))?;
     text.extend_from_slice(b"</td><td>")?;
     put_faults(alloc, text, rows)?;
-    put_worst_end(text, rows)
+    put_row_end(text, state, oldest(rows))
 }
 
 /// Adds the rows of interfaces.
@@ -402,15 +277,8 @@ fn put_interface_rows(
     Ok(())
 }
 
-/// Returns the titles of the table of interfaces.
-#[tactic(auto, unfolding(crate::specs::Page::interface_titles))]
-fn interface_titles() -> &'static [u8]
-    ensures { result.now ≡ interface_titles }
-{
-    b"<table class=\"i\">\n<caption>Interfaces</caption>\n<thead><tr><th scope=\"col\">Interface</th><th scope=\"col\">Alias</th><th scope=\"col\">In</th><th scope=\"col\">Out</th><th scope=\"col\">Errors and discards</th><th scope=\"col\">Alarm</th><th scope=\"col\">Age in rounds</th></tr></thead>\n<tbody>\n"
-}
-
 /// Adds the table of interfaces, if there are any.
+#[tactic(auto, unfolding(crate::specs::Page::interface_lines))]
 pub(crate) fn put_interfaces(
     alloc: Global,
     text: &mut Vec<u8>,
@@ -421,19 +289,9 @@ pub(crate) fn put_interfaces(
     if interfaces.is_empty() {
         return Ok(());
     }
-    put_interface_lines(alloc, text, interfaces)
-}
-
-/// Adds the table of interfaces.
-#[tactic(auto, unfolding(crate::specs::Page::interface_lines))]
-fn put_interface_lines(
-    alloc: Global,
-    text: &mut Vec<u8>,
-    interfaces: &[Interface],
-) -> Result<(), AllocError>
-    ensures { OnOk result (text.new.items ≡ text.old.items ++ interface_lines interfaces.now) }
-{
-    text.extend_from_slice(interface_titles())?;
+    text.extend_from_slice(
+        b"<table class=\"i\">\n<caption>Interfaces</caption>\n<thead><tr><th scope=\"col\">Interface</th><th scope=\"col\">Alias</th><th scope=\"col\">In</th><th scope=\"col\">Out</th><th scope=\"col\">Errors and discards</th><th scope=\"col\">Alarm</th><th scope=\"col\">Age in rounds</th></tr></thead>\n<tbody>\n",
+    )?;
     put_interface_rows(alloc, text, interfaces)?;
     text.extend_from_slice(b"</tbody>\n</table>\n")
 }
@@ -450,39 +308,15 @@ fn put_label_if(text: &mut Vec<u8>, title: &[u8], label: Option<&str>) -> Result
 }
 
 /// Adds the line of a label.
-#[tactic(auto, unfolding(crate::specs::Page::label_line))]
+#[tactic(auto, unfolding(crate::specs::Page::label_line, crate::specs::Page::label_start))]
 fn put_label(text: &mut Vec<u8>, title: &[u8], label: &[u8]) -> Result<(), AllocError>
     ensures { OnOk result (text.new.items ≡ text.old.items ++ label_line title.now label.now) }
 {
-    text.extend_from_slice(label_start())?;
+    text.extend_from_slice(b"<div style=\"max-width:20rem\">")?;
     text.extend_from_slice(title)?;
     text.extend_from_slice(b" ")?;
     put_escaped(text, label)?;
     text.extend_from_slice(b"</div>")
-}
-
-/// Returns the beginning of the line of a label.
-#[tactic(auto, unfolding(crate::specs::Page::label_start))]
-fn label_start() -> &'static [u8]
-    ensures { result.now ≡ label_start }
-{
-    b"<div style=\"max-width:20rem\">"
-}
-
-/// Adds the line of an instance's ifName, if it is known.
-fn put_if_name(text: &mut Vec<u8>, row: &Row) -> Result<(), AllocError>
-    ensures { OnOk result (text.new.items ≡ text.old.items ++ label_if (codes "ifName")
-        row.now.labels.if_name) }
-{
-    put_label_if(text, b"ifName", row.if_name())
-}
-
-/// Adds the line of an instance's ifAlias, if it is known.
-fn put_if_alias(text: &mut Vec<u8>, row: &Row) -> Result<(), AllocError>
-    ensures { OnOk result (text.new.items ≡ text.old.items ++ label_if (codes "ifAlias")
-        row.now.labels.if_alias) }
-{
-    put_label_if(text, b"ifAlias", row.if_alias())
 }
 
 /// Adds the name of an instance, with its ifName and its ifAlias below it.
@@ -497,16 +331,8 @@ fn put_name_cell<S: NameTexts>(
         ≡ text.old.items ++ name_cell (S.shown names.now) row.now) }
 {
     put_shown(alloc, text, names, row)?;
-    put_if_name(text, row)?;
-    put_if_alias(text, row)
-}
-
-/// Adds the newest value of an instance.
-fn put_newest(text: &mut Vec<u8>, row: &Row) -> Result<(), AllocError>
-    ensures { OnOk result (text.new.items ≡ text.old.items ++ value_cell
-        (newest_of row.now.entry.items)) }
-{
-    put_value(text, row.entry().samples())
+    put_label_if(text, b"ifName", row.if_name())?;
+    put_label_if(text, b"ifAlias", row.if_alias())
 }
 
 /// Adds the cells of a value and a rate.
@@ -515,24 +341,9 @@ fn put_figures(alloc: Global, text: &mut Vec<u8>, row: &Row) -> Result<(), Alloc
     ensures { OnOk result (text.new.items ≡ text.old.items ++ figure_cells row.now) }
 {
     text.extend_from_slice(b"</th><td>")?;
-    put_newest(text, row)?;
+    put_value(text, row.entry().samples())?;
     text.extend_from_slice(b"</td><td>")?;
     put_fresh_rate(alloc, text, row)
-}
-
-/// Adds the state of an instance at the beginning of its row.
-fn put_state_start(text: &mut Vec<u8>, row: &Row) -> Result<(), AllocError>
-    ensures { OnOk result (text.new.items ≡ text.old.items ++ row_start (row_state row.now)) }
-{
-    put_row_start(text, row.state())
-}
-
-/// Adds the state and the age of an instance at the end of its row.
-fn put_state_end(text: &mut Vec<u8>, row: &Row) -> Result<(), AllocError>
-    ensures { OnOk result (text.new.items ≡ text.old.items ++ row_end (row_state row.now)
-        row.now.age) }
-{
-    put_row_end(text, row.state(), row.age())
 }
 
 /// Adds the row of an instance.
@@ -546,12 +357,12 @@ fn put_other_row<S: NameTexts>(
     ensures { OnOk result (text.new.items
         ≡ text.old.items ++ other_row (S.shown names.now) row.now) }
 {
-    put_state_start(text, row)?;
+    put_row_start(text, row.state())?;
     put_name_cell(alloc, text, names, row)?;
     put_figures(alloc, text, row)?;
     text.extend_from_slice(b"</td><td>")?;
     put_plot(alloc, text, row)?;
-    put_state_end(text, row)
+    put_row_end(text, row.state(), row.age())
 }
 
 /// Adds the rows of instances.
@@ -570,15 +381,8 @@ fn put_other_rows<S: NameTexts>(
     Ok(())
 }
 
-/// Returns the titles of the table of other instances.
-#[tactic(auto, unfolding(crate::specs::Page::other_titles))]
-fn other_titles() -> &'static [u8]
-    ensures { result.now ≡ other_titles }
-{
-    b"<table class=\"o\">\n<caption>Other instances</caption>\n<thead><tr><th scope=\"col\">Name</th><th scope=\"col\">Value</th><th scope=\"col\">Rate</th><th scope=\"col\">Window</th><th scope=\"col\">Alarm</th><th scope=\"col\">Age in rounds</th></tr></thead>\n<tbody>\n"
-}
-
 /// Adds the table of other instances, if there are any.
+#[tactic(auto, unfolding(crate::specs::Page::other_lines))]
 pub(crate) fn put_others<S: NameTexts>(
     alloc: Global,
     text: &mut Vec<u8>,
@@ -591,21 +395,9 @@ pub(crate) fn put_others<S: NameTexts>(
     if rows.is_empty() {
         return Ok(());
     }
-    put_other_lines(alloc, text, names, rows)
-}
-
-/// Adds the table of other instances.
-#[tactic(auto, unfolding(crate::specs::Page::other_lines))]
-fn put_other_lines<S: NameTexts>(
-    alloc: Global,
-    text: &mut Vec<u8>,
-    names: &S,
-    rows: &[Row],
-) -> Result<(), AllocError>
-    ensures { OnOk result (text.new.items ≡ text.old.items ++ other_lines (S.shown names.now)
-        rows.now) }
-{
-    text.extend_from_slice(other_titles())?;
+    text.extend_from_slice(
+        b"<table class=\"o\">\n<caption>Other instances</caption>\n<thead><tr><th scope=\"col\">Name</th><th scope=\"col\">Value</th><th scope=\"col\">Rate</th><th scope=\"col\">Window</th><th scope=\"col\">Alarm</th><th scope=\"col\">Age in rounds</th></tr></thead>\n<tbody>\n",
+    )?;
     put_other_rows(alloc, text, names, rows)?;
     text.extend_from_slice(b"</tbody>\n</table>\n")
 }

@@ -1,14 +1,11 @@
-//! The words of an instance: its value now, its device, its interface; and how long something is.
+//! The texts of an instance: its value now, its device, its interface; and how long something is.
 
 ghost use Rattle.std.specs.Prelude.{◌≡◌, ◌++◌, OnOk, None, Some, decimal, option_map};
-ghost use Rattle.std.specs.List.{flat_map};
 ghost use Rattle.hex.specs.Hex.{encode_lower};
 ghost use Rattle.mon_page.specs.Cells.{age_cell, fresh_rate, newest_of, value_cell};
-ghost use Rattle.mon_page.specs.Escape.{escaped};
-ghost use Rattle.mon_page.specs.Words.{bits_of, counts_octets, device_words, duration_words, interface_words, is_counted, is_labelled, known_words, level_words, moved_words, now_words, rate_or_dash, rate_words, two_units};
+ghost use Rattle.mon_page.specs.Words.{bits_of, counts_octets, device_words, duration_words, interface_words, is_counted, is_labelled, level_words, now_words, rate_or_dash, rate_words, two_units};
 ghost use Rattle.mon_display.specs.Rate.{rate_text};
 ghost use Rattle.mon_display.specs.Interface.{column_of};
-ghost use Rattle.mon_display.specs.Naming.{device_text as shown_device};
 ghost use Rattle.mon_display.specs.declared.rate.Unit.TheVariants.{Bits};
 
 use crate::escape::put_escaped;
@@ -35,13 +32,6 @@ pub(crate) fn bits_of(rate: u128) -> u128
     8 * rate.min(1 << 124)
 }
 
-/// Adds a rate of octets in bits a second.
-fn put_bits(alloc: Global, text: &mut Vec<u8>, rate: u128) -> Result<(), AllocError>
-    ensures { OnOk result (text.new.items ≡ text.old.items ++ rate_text Bits (bits_of rate)) }
-{
-    put_rate_text(alloc, text, Unit::Bits, bits_of(rate))
-}
-
 /// Adds a rate of this unit.
 pub(crate) fn put_rate_text(
     alloc: Global,
@@ -65,40 +55,13 @@ pub(crate) fn put_rate(
     ensures { OnOk result (text.new.items ≡ text.old.items ++ rate_words column rate) }
 {
     if counts_octets(column) {
-        put_bits(alloc, text, rate)
+        put_rate_text(alloc, text, Unit::Bits, bits_of(rate))
     } else {
         put_rate_text(alloc, text, Unit::Each, rate)
     }
 }
 
-/// Adds a rate of a column, with a dash if there is none.
-pub(crate) fn put_rate_or_dash(
-    alloc: Global,
-    text: &mut Vec<u8>,
-    column: Column,
-    rate: Option<u128>,
-) -> Result<(), AllocError>
-    ensures { OnOk result (text.new.items ≡ text.old.items ++ rate_or_dash column rate) }
-{
-    match rate {
-        None => text.extend_from_slice(b"-"),
-        Some(rate) => put_rate(alloc, text, column, rate),
-    }
-}
-
-/// Adds a value that was moved up by 2^63.
-fn put_moved(text: &mut Vec<u8>, level: u128) -> Result<(), AllocError>
-    ensures { OnOk result (text.new.items ≡ text.old.items ++ moved_words level) }
-{
-    if level < 1 << 63 {
-        text.extend_from_slice(b"-")?;
-        put_wide(text, (1 << 63) - level)
-    } else {
-        put_wide(text, level - (1 << 63))
-    }
-}
-
-/// Adds a level of a plot.
+/// Adds a level of a plot: a counter's rate, else a value that was moved up by 2^63.
 pub(crate) fn put_level(
     alloc: Global,
     text: &mut Vec<u8>,
@@ -109,9 +72,13 @@ pub(crate) fn put_level(
     ensures { OnOk result (text.new.items ≡ text.old.items ++ level_words column counted level) }
 {
     if counted {
-        put_rate(alloc, text, column, level)
+        return put_rate(alloc, text, column, level);
+    }
+    if level < 1 << 63 {
+        text.extend_from_slice(b"-")?;
+        put_wide(text, (1 << 63) - level)
     } else {
-        put_moved(text, level)
+        put_wide(text, level - (1 << 63))
     }
 }
 
@@ -141,8 +108,10 @@ pub(crate) fn put_fresh_rate(alloc: Global, text: &mut Vec<u8>, row: &Row) -> Re
     ensures { OnOk result (text.new.items ≡ text.old.items ++ rate_or_dash
         (column_of row.now.entry.name) (fresh_rate row.now.fresh row.now.entry.items)) }
 {
-    let rate = fresh_rate(row.entry(), row.is_fresh());
-    put_rate_or_dash(alloc, text, row.column(), rate)
+    let Some(rate) = fresh_rate(row.entry(), row.is_fresh()) else {
+        return text.extend_from_slice(b"-");
+    };
+    put_rate(alloc, text, row.column(), rate)
 }
 
 /// Adds the newest value, with a dash if there is none.
@@ -152,15 +121,8 @@ pub(crate) fn put_value(text: &mut Vec<u8>, samples: &[Sample]) -> Result<(), Al
     let Some(newest) = samples.last() else {
         return text.extend_from_slice(b"-");
     };
-    put_number(text, newest)
-}
-
-/// Adds a value.
-fn put_number(text: &mut Vec<u8>, sample: &Sample) -> Result<(), AllocError>
-    ensures { OnOk result (text.new.items ≡ text.old.items ++ value_cell (Some sample.now)) }
-{
     let mut digits = Buffer::new();
-    text.extend_from_slice(digits.format(sample.number()).as_bytes())
+    text.extend_from_slice(digits.format(newest.number()).as_bytes())
 }
 
 /// Adds an age in rounds, with a dash if there is none.
@@ -180,7 +142,7 @@ pub(crate) fn is_labelled(row: &Row) -> bool
     row.target().is_some() || row.device().is_some()
 }
 
-/// Adds the device of an instance.
+/// Adds the device of an instance: its address and its label, or its engine id if neither is known.
 pub(crate) fn put_device_words(
     alloc: Global,
     text: &mut Vec<u8>,
@@ -188,18 +150,9 @@ pub(crate) fn put_device_words(
 ) -> Result<(), AllocError>
     ensures { OnOk result (text.new.items ≡ text.old.items ++ device_words row.now) }
 {
-    if is_labelled(row) {
-        put_device_text(alloc, text, row)
-    } else {
-        put_engine(alloc, text, row.entry().engine())
+    if !is_labelled(row) {
+        return put_engine(alloc, text, row.entry().engine());
     }
-}
-
-/// Adds the address and the label of an instance's device.
-fn put_device_text(alloc: Global, text: &mut Vec<u8>, row: &Row) -> Result<(), AllocError>
-    ensures { OnOk result (text.new.items ≡ text.old.items ++ flat_map escaped
-        (shown_device row.now.labels.target row.now.labels.device)) }
-{
     let words = device_text(alloc, row.target(), row.device())?;
     put_escaped(text, words.as_bytes())
 }
@@ -221,29 +174,11 @@ pub(crate) fn put_interface_words(
     ensures { OnOk result (text.new.items ≡ text.old.items ++ interface_words
         (option_map (λ n. n.now) if_name.entry) index) }
 {
-    match if_name {
-        None => put_index(text, index),
-        Some(name) => put_escaped(text, name.as_bytes()),
+    if let Some(name) = if_name {
+        return put_escaped(text, name.as_bytes());
     }
-}
-
-/// Adds an ifIndex.
-fn put_index(text: &mut Vec<u8>, index: u32) -> Result<(), AllocError>
-    ensures { OnOk result (text.new.items ≡ text.old.items ++ interface_words None index) }
-{
     text.extend_from_slice(b"if ")?;
     put_small(text, index)
-}
-
-/// Adds a label, if it is known.
-pub(crate) fn put_known(text: &mut Vec<u8>, label: Option<&str>) -> Result<(), AllocError>
-    ensures { OnOk result (text.new.items ≡ text.old.items ++ known_words
-        (option_map (λ n. n.now) label.entry)) }
-{
-    match label {
-        None => Ok(()),
-        Some(label) => put_escaped(text, label.as_bytes()),
-    }
 }
 
 /// Adds a number of units, and another of smaller units.

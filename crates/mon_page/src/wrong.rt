@@ -1,13 +1,10 @@
 //! The list of what is wrong now.
 
-ghost use Rattle.std.specs.Prelude.{◌≡◌, ◌++◌, ◌&&◌, IfOk, None, OnOk, Some, bytes_eq, codes, decimal, is_some, option_map, string_bytes};
+ghost use Rattle.std.specs.Prelude.{◌≡◌, ◌++◌, ◌&&◌, IfOk, None, OnOk, Some, is_some, option_map};
 ghost use Rattle.std.specs.List.{flat_map};
-ghost use Rattle.mon_display.specs.Interface.{column_of, interface_of};
-ghost use Rattle.mon_display.specs.Naming.{device_text as shown_device};
-ghost use Rattle.mon_page.specs.Cells.{newest_of};
+ghost use Rattle.mon_display.specs.Interface.{interface_of};
 ghost use Rattle.mon_page.specs.Escape.{escaped};
 ghost use Rattle.mon_page.specs.Page.{alarm_item, alarm_place, down_item, failed_item, interface_before, label_of, or_nothing, peer_item, raised_alarms, raised_if, raised_of, raised_on, reason_text, row_of_engine, saves_item, silent_item, since_text, since_words, station_items, target_item, target_words, wrong_items, wrong_section};
-ghost use Rattle.mon_page.specs.Plot.{limit_words};
 ghost use Rattle.mon_page.specs.Words.{is_counted};
 
 use crate::escape::put_escaped;
@@ -16,7 +13,7 @@ use crate::numbers::{put_large, put_small};
 use crate::plot::put_limit_words;
 use crate::row::Row;
 use crate::words::{is_counted, put_device_words, put_interface_words, put_now};
-use mon_alarms::{AlarmState, Rule};
+use mon_alarms::AlarmState;
 use mon_display::device_text;
 use mon_report::Alarm;
 use mon_smi::NameTexts;
@@ -125,17 +122,10 @@ fn put_items_or_nothing<S: NameTexts>(
 {
     let mut items = Vec::new(alloc);
     put_items(alloc, &mut items, names, rows, station)?;
-    put_or_nothing(text, items.as_slice())
-}
-
-/// Adds the lines, or, if there are none, one that says that nothing is wrong.
-fn put_or_nothing(text: &mut Vec<u8>, items: &[u8]) -> Result<(), AllocError>
-    ensures { OnOk result (text.new.items ≡ text.old.items ++ or_nothing items.now) }
-{
     if items.is_empty() {
         text.extend_from_slice(b"<li>Nothing is wrong.</li>\n")
     } else {
-        text.extend_from_slice(items)
+        text.extend_from_slice(items.as_slice())
     }
 }
 
@@ -200,41 +190,26 @@ fn put_alarm<S: NameTexts>(
     text.extend_from_slice(b": ")?;
     put_now(alloc, text, raised.row)?;
     text.extend_from_slice(b", limit ")?;
-    put_row_limit(alloc, text, raised.row, &raised.alarm.rule)?;
+    let counted = is_counted(raised.row.entry().samples());
+    put_limit_words(
+        alloc,
+        text,
+        raised.row.column(),
+        counted,
+        &raised.alarm.rule,
+    )?;
     text.extend_from_slice(b", since ")?;
     put_since(text, raised.alarm.state)?;
     text.extend_from_slice(b"</li>\n")
-}
-
-/// Adds the rising threshold of a rule on an instance.
-fn put_row_limit(
-    alloc: Global,
-    text: &mut Vec<u8>,
-    row: &Row,
-    rule: &Rule,
-) -> Result<(), AllocError>
-    ensures { OnOk result (text.new.items ≡ text.old.items ++ limit_words
-        (column_of row.now.entry.name) (is_counted (newest_of row.now.entry.items)) rule.now) }
-{
-    let counted = is_counted(row.entry().samples());
-    put_limit_words(alloc, text, row.column(), counted, rule)
 }
 
 /// Adds the stamp of the sample that raised an alarm.
 fn put_since(text: &mut Vec<u8>, state: AlarmState) -> Result<(), AllocError>
     ensures { OnOk result (text.new.items ≡ text.old.items ++ since_words state) }
 {
-    match state {
-        AlarmState::Clear => Ok(()),
-        AlarmState::Raised { boots, time } => put_stamp(text, boots, time),
-    }
-}
-
-/// Adds a stamp.
-fn put_stamp(text: &mut Vec<u8>, boots: u32, time: u32) -> Result<(), AllocError>
-    ensures { OnOk result (text.new.items ≡ text.old.items ++
-        (decimal boots ++ codes ":" ++ decimal time)) }
-{
+    let AlarmState::Raised { boots, time } = state else {
+        return Ok(());
+    };
     put_small(text, boots)?;
     text.extend_from_slice(b":")?;
     put_small(text, time)
@@ -258,35 +233,15 @@ fn put_alarm_place<S: NameTexts>(
     put_shown(alloc, text, names, row)
 }
 
-/// Adds the interface of an instance, if it is of one.
+/// Adds the interface of an instance and a space, if it is of one.
 fn put_interface_before(text: &mut Vec<u8>, row: &Row) -> Result<(), AllocError>
     ensures { OnOk result (text.new.items ≡ text.old.items ++ interface_before
         row.now.labels.if_name (interface_of row.now.entry.name)) }
 {
-    put_before(text, row.if_name(), row.index())
-}
-
-/// Adds an interface, if there is one.
-fn put_before(
-    text: &mut Vec<u8>,
-    if_name: Option<&str>,
-    index: Option<u32>,
-) -> Result<(), AllocError>
-    ensures { OnOk result (text.new.items ≡ text.old.items ++ interface_before
-        (option_map (λ n. n.now) if_name.entry) index) }
-{
-    match index {
-        None => Ok(()),
-        Some(index) => put_spaced(text, if_name, index),
-    }
-}
-
-/// Adds an interface and a space.
-fn put_spaced(text: &mut Vec<u8>, if_name: Option<&str>, index: u32) -> Result<(), AllocError>
-    ensures { OnOk result (text.new.items ≡ text.old.items ++ interface_before
-        (option_map (λ n. n.now) if_name.entry) (Some index)) }
-{
-    put_interface_words(text, if_name, index)?;
+    let Some(index) = row.index() else {
+        return Ok(());
+    };
+    put_interface_words(text, row.if_name(), index)?;
     text.extend_from_slice(b" ")
 }
 
@@ -314,22 +269,9 @@ fn put_station_items(
     ensures { OnOk result (text.new.items ≡ text.old.items ++ station_items rows.now
         (option_map (λ f. f.now) station.entry)) }
 {
-    match station {
-        None => Ok(()),
-        Some(figures) => put_figures_items(alloc, text, rows, figures),
-    }
-}
-
-/// Adds the same of the figures of a station.
-fn put_figures_items(
-    alloc: Global,
-    text: &mut Vec<u8>,
-    rows: &[Row],
-    figures: &Figures,
-) -> Result<(), AllocError>
-    ensures { OnOk result (text.new.items ≡ text.old.items ++ station_items rows.now
-        (Some figures.now)) }
-{
+    let Some(figures) = station else {
+        return Ok(());
+    };
     put_targets(alloc, text, rows, figures.targets.as_slice())?;
     put_peers(text, figures.peers.as_slice())?;
     put_saves(text, figures.failed_saves)
@@ -352,6 +294,7 @@ fn put_targets(
 }
 
 /// Adds the line of a target, if it is down.
+#[tactic(auto, unfolding(crate::specs::Page::target_item))]
 fn put_down(
     alloc: Global,
     text: &mut Vec<u8>,
@@ -363,19 +306,6 @@ fn put_down(
     if target.up {
         return Ok(());
     }
-    put_target(alloc, text, rows, target)
-}
-
-/// Adds the line of a target that is down.
-#[tactic(auto, unfolding(crate::specs::Page::target_item))]
-fn put_target(
-    alloc: Global,
-    text: &mut Vec<u8>,
-    rows: &[Row],
-    target: &TargetFigures,
-) -> Result<(), AllocError>
-    ensures { OnOk result (text.new.items ≡ text.old.items ++ target_item rows.now target.now) }
-{
     text.extend_from_slice(b"<li class=\"down\">")?;
     put_target_words(alloc, text, rows, target)?;
     put_since_down(text, target)?;
@@ -393,20 +323,7 @@ fn put_target_words(
     ensures { OnOk result (text.new.items ≡ text.old.items ++ target_words rows.now target.now) }
 {
     let label = label_of(row_of_engine(target.engine.as_slice(), rows));
-    put_device_of(alloc, text, target.address.as_str(), label)
-}
-
-/// Adds a device by its address and its label.
-fn put_device_of(
-    alloc: Global,
-    text: &mut Vec<u8>,
-    address: &str,
-    label: Option<&str>,
-) -> Result<(), AllocError>
-    ensures { OnOk result (text.new.items ≡ text.old.items ++ flat_map escaped
-        (shown_device (Some address.now) (option_map (λ l. l.now) label.entry))) }
-{
-    let words = device_text(alloc, Some(address), label)?;
+    let words = device_text(alloc, Some(target.address.as_str()), label)?;
     put_escaped(text, words.as_bytes())
 }
 
@@ -424,14 +341,8 @@ fn label_of<'a>(row: Option<&Row<'a, '_>>) -> Option<&'a str>
 fn row_of_engine<'r, 'a, 'e>(engine: &[u8], rows: &'r [Row<'a, 'e>]) -> Option<&'r Row<'a, 'e>>
     ensures { option_map (λ r. r.now) result ≡ row_of_engine engine.now rows.now }
 {
-    rows.iter().find(|row| is_named(row, engine))
-}
-
-/// Returns `true` if the labels of an instance name the device of an engine id.
-fn is_named(row: &Row, engine: &[u8]) -> bool
-    ensures { result ≡ (is_some row.now.labels.device && bytes_eq row.now.entry.engine engine.now) }
-{
-    row.device().is_some() && row.is_of(engine)
+    rows.iter()
+        .find(|row| row.device().is_some() && row.is_of(engine))
 }
 
 /// Adds since when a target is down.
@@ -450,19 +361,11 @@ fn put_since_down(text: &mut Vec<u8>, target: &TargetFigures) -> Result<(), Allo
 fn put_reason(text: &mut Vec<u8>, reason: &Option<String>) -> Result<(), AllocError>
     ensures { OnOk result (text.new.items ≡ text.old.items ++ reason_text reason.now) }
 {
-    match reason {
-        None => Ok(()),
-        Some(reason) => put_reason_text(text, reason.as_bytes()),
-    }
-}
-
-/// Adds a reason.
-fn put_reason_text(text: &mut Vec<u8>, reason: &[u8]) -> Result<(), AllocError>
-    ensures { OnOk result (text.new.items ≡ text.old.items ++
-        (codes ": " ++ flat_map escaped reason.now)) }
-{
+    let Some(reason) = reason else {
+        return Ok(());
+    };
     text.extend_from_slice(b": ")?;
-    put_escaped(text, reason)
+    put_escaped(text, reason.as_bytes())
 }
 
 /// Adds a line for each peer that is silent.
@@ -476,20 +379,13 @@ fn put_peers(text: &mut Vec<u8>, peers: &[PeerFigures]) -> Result<(), AllocError
 }
 
 /// Adds the line of a peer, if it is silent.
+#[tactic(auto, unfolding(crate::specs::Page::silent_item))]
 fn put_peer(text: &mut Vec<u8>, peer: &PeerFigures) -> Result<(), AllocError>
     ensures { OnOk result (text.new.items ≡ text.old.items ++ peer_item peer.now) }
 {
-    if peer.silent {
-        return put_silent(text, peer);
+    if !peer.silent {
+        return Ok(());
     }
-    Ok(())
-}
-
-/// Adds the line of a peer that is silent.
-#[tactic(auto, unfolding(crate::specs::Page::silent_item))]
-fn put_silent(text: &mut Vec<u8>, peer: &PeerFigures) -> Result<(), AllocError>
-    ensures { OnOk result (text.new.items ≡ text.old.items ++ silent_item peer.now) }
-{
     text.extend_from_slice(b"<li class=\"down\">peer ")?;
     put_small(text, peer.station)?;
     text.extend_from_slice(b" is silent, heard ")?;
@@ -498,20 +394,13 @@ fn put_silent(text: &mut Vec<u8>, peer: &PeerFigures) -> Result<(), AllocError>
 }
 
 /// Adds the line of failed saves, if there are any.
+#[tactic(auto, unfolding(crate::specs::Page::failed_item))]
 fn put_saves(text: &mut Vec<u8>, failed: u64) -> Result<(), AllocError>
     ensures { OnOk result (text.new.items ≡ text.old.items ++ saves_item failed) }
 {
     if failed == 0 {
         return Ok(());
     }
-    put_failed(text, failed)
-}
-
-/// Adds the line of failed saves.
-#[tactic(auto, unfolding(crate::specs::Page::failed_item))]
-fn put_failed(text: &mut Vec<u8>, failed: u64) -> Result<(), AllocError>
-    ensures { OnOk result (text.new.items ≡ text.old.items ++ failed_item failed) }
-{
     text.extend_from_slice(b"<li class=\"down\">")?;
     put_large(text, failed)?;
     text.extend_from_slice(b" saves failed</li>\n")

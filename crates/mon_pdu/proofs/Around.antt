@@ -80,7 +80,7 @@ list_length octets = length-element 0x30 octets
 pub list_fits : (body : Body) (list : List ℕ) → length (contents_of_body body list) < 2 ^ 32 → length list < 2 ^ 32
 list_fits body list h = omega (arith, body_total body list, size_longer (length list), h)
 
--- what is counted of the contents tells the size
+-- the size follows from what is counted of the contents
 pub around_counts : (m : Message) (octets : List ℕ) (size contents : ℕ) → size ≡ size_counted (size_for contents) → contents ≡ size_counted (length (contents_of_message m octets))
     → size ≡ size_counted (length (message_around m octets))
 around_counts m octets size contents is counted =

@@ -46,7 +46,7 @@ pub fn unknown_pdu()
 {}
 
 /// A fault of a call, other than out of memory, is the fault that reading gives.
-pub fn told()
+pub fn fault()
     ensures { (octets : List ℕ) (e : PduFault) → e ≢ OutOfMemory → Fails e (message_at octets)
         → message_at octets ≡ Err e }
 {}

@@ -20,7 +20,7 @@ listed_at [] i m inside is = absurd (let no : ⊥ = omega (arith, inside) in no)
 listed_at (first ∷ ms) zero m inside is = ap listed is
 listed_at (first ∷ ms) (suc i) m inside is = listed_at ms i m (omega (arith, inside)) is
 
--- a place among those of so many groups is in one of them
+-- a place among those of this many groups is in one of them
 part_below : (groups k place q r : ℕ) → q * k + r ≡ place → place < groups * k → (b : Bool) → nat_lt q groups ≡ b → q < groups
 part_below groups k place q r is small true below = grind (arith, nat_tests)
 part_below groups k place q r is small false past =

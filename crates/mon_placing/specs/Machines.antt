@@ -27,7 +27,7 @@ pub record Entry : Type 0 where
 abbrev pub listed : Machine → Entry
 listed m = record { name = string_bytes m.name; octets = m.octets }
 
--- an octet may stand in a name: a letter, a digit, `-` or `.`
+-- an octet may appear in a name: a letter, a digit, `-` or `.`
 abbrev pub is_of_names : ℕ → Bool
 is_of_names c = is_ascii_alphanumeric c || ((c == 45) || (c == 46))
 
@@ -36,7 +36,7 @@ abbrev pub begins_well : List ℕ → Bool
 begins_well [] = false
 begins_well (c ∷ cs) = is_ascii_alphanumeric c
 
--- a name begins with a letter or a digit, and each of its octets may stand in one
+-- a name begins with a letter or a digit, and each of its octets may appear in one
 abbrev pub is_name : List ℕ → Bool
 is_name text = begins_well text && list_all is_of_names text
 
@@ -142,8 +142,8 @@ enough stations [] = Err NoMachine
 enough stations (m ∷ ms) = if nat_lt (length (m ∷ ms)) stations then Err (TooFew (length (m ∷ ms)))
     else Ok (m ∷ ms)
 
--- The machines that a text lists, enough for groups of so many stations; or the first line at
--- fault, or that they are too few.
+-- The machines that a text lists, enough for groups of this many stations; or the first line
+-- at fault, or that they are too few.
 unfoldable pub machines_in : List ℕ → ℕ → Result (List Entry) MachinesFault
 machines_in text stations = and_then (read_from 1 [] (lines text))
     (λ machines. enough stations machines)

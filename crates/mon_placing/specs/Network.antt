@@ -13,8 +13,8 @@ use Rattle.mon_placing.specs.declared.network.Seat.{Seat}
 abbrev pub nowhere : Entry
 nowhere = record { name = []; octets = [] }
 
--- The ports of so many groups can be written: those at which they listen, and those at which they
--- serve HTTP. There is a machine, and no group has more than 16 stations.
+-- The ports of this many groups can be written: those at which they listen, and those at which
+-- they serve HTTP. There is a machine, and no group has more than 16 stations.
 pub record ArePlaced (n : Network) (groups : ℕ) : Type 0 where
   pub machines : (1 ≤ length n.machines.now) × (length n.machines.now ≤ 1024)
   pub first : 1 ≤ n.first
@@ -27,7 +27,7 @@ pub record IsSeat (s : Seat) : Type 0 where
   pub placed : ArePlaced s.network (s.part + 1)
   pub inside : s.station < s.network.stations
 
--- the station of this place in the group that comes after so many
+-- the station of this place in the group that comes after this many groups
 abbrev pub seat : Network → (part station : ℕ) → Seat
 seat n part station = record { network = n; part = part; station = station }
 
@@ -67,7 +67,7 @@ abbrev pub seat_file : List ℕ → Seat → List ℕ
 seat_file file s = file ++ (codes "-" ++ (decimal (number_of s)
     ++ (codes "-" ++ decimal (s.station + 1))))
 
--- what stands between two, before one that is not the first
+-- the text between two items, put before one that is not the first
 abbrev pub separator : ℕ → List ℕ → List ℕ
 separator place between = if place == 0 then [] else between
 
@@ -75,7 +75,7 @@ separator place between = if place == 0 then [] else between
 abbrev pub host : Seat → List ℕ
 host s = separator s.station (codes ", ") ++ (codes "\"" ++ (addr_text (serves s) ++ codes "\""))
 
--- where the first stations of a group, so many of them, serve HTTP
+-- where the first N stations of a group serve HTTP
 abbrev pub hosts_of : Network → ℕ → ℕ → List ℕ
 hosts_of n part zero = []
 hosts_of n part (suc station) = hosts_of n part station ++ host (seat n part station)
@@ -86,7 +86,7 @@ entry n part = codes "  {\"targets\": [" ++ (hosts_of n part n.stations
     ++ (codes "], \"labels\": {\"group\": \"group-"
     ++ (decimal (n.first + part) ++ codes "\"}}")))
 
--- the entries of the first groups, so many of them, with commas between them
+-- the entries of the first N groups, with commas between them
 abbrev pub entries_of : Network → ℕ → List ℕ
 entries_of n zero = []
 entries_of n (suc part) = entries_of n part ++ (separator part (codes ",\n") ++ entry n part)
@@ -101,12 +101,12 @@ unit_line s = (machine_at s).name ++ (codes " group-" ++ (decimal (number_of s)
     ++ (codes "-station-"
     ++ (decimal (s.station + 1) ++ (codes " " ++ (addr_text (serves s) ++ codes "\n"))))))
 
--- the lines of the first stations of a group, so many of them
+-- the lines of the first N stations of a group
 abbrev pub units_of : Network → ℕ → ℕ → List ℕ
 units_of n part zero = []
 units_of n part (suc station) = units_of n part station ++ unit_line (seat n part station)
 
--- the lines of the first groups, so many of them
+-- the lines of the first N groups
 abbrev pub unit_lines : Network → ℕ → List ℕ
 unit_lines n zero = []
 unit_lines n (suc part) = unit_lines n part ++ units_of n part n.stations

@@ -12,14 +12,14 @@ abbrev pub tally : Bool → ℕ
 tally true = 1
 tally false = 0
 
--- how many of the first stations of a group, so many of them, run on a machine
+-- how many of the first N stations of a group run on a machine
 abbrev pub on_machine : (stations machines machine group : ℕ) → ℕ → ℕ
 on_machine stations machines machine group zero = 0
 on_machine stations machines machine group (suc station) =
     on_machine stations machines machine group station + tally
     (machine_of stations machines group station == machine)
 
--- how many stations of the first groups, so many of them, run on a machine
+-- how many stations of the first N groups run on a machine
 abbrev pub stations_on : (stations machines machine : ℕ) → ℕ → ℕ
 stations_on stations machines machine zero = 0
 stations_on stations machines machine (suc group) =

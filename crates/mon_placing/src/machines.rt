@@ -15,15 +15,16 @@ const MAX_MACHINES: usize = 1_024;
 /// A machine that stations run on.
 #[derive(Drop)]
 pub struct Machine {
-    /// Its name: letters, digits, `-` and `.`, of which the first is a letter or a digit.
+    /// The machine's name: letters, digits, `-` and `.`; the first is a letter or a digit.
     pub name: String,
     /// Its IPv4 address.
     pub octets: [u8; 4],
 }
 
 /// Returns the machines that a text lists, one a line: `NAME ADDRESS`, with one space or more
-/// between them. Lines that are empty or begin with `#` are passed over. At least as many are
-/// wanted as a group has stations, and at most 1,024; all names differ, and all addresses.
+/// between them. Lines that are empty or begin with `#` are passed over. There must be at least
+/// as many machines as a group has stations, and at most 1,024. All names differ, and all
+/// addresses.
 ///
 /// # Errors
 /// The first line that is at fault, or too few lines.
@@ -100,7 +101,8 @@ fn add_machine(
     Ok(machines.push(Machine { name, octets })?)
 }
 
-/// Requires that a machine may be added: no other has its name or its address, and there is room.
+/// Requires that a machine may be added: no other has its name or its address, and the list
+/// is not full.
 fn require_new(
     machines: &[Machine],
     number: usize,
@@ -209,14 +211,14 @@ fn begins_well(octets: &[u8]) -> bool
     }
 }
 
-/// Returns `true` if each octet may stand in a name.
+/// Returns `true` if each octet may appear in a name.
 fn are_of_names(octets: &[u8]) -> bool
     ensures { result ≡ list_all is_of_names octets.now }
 {
     octets.iter().all(|octet| is_of_names(*octet))
 }
 
-/// Returns `true` if an octet may stand in a name.
+/// Returns `true` if an octet may appear in a name.
 fn is_of_names(octet: u8) -> bool
     ensures { result ≡ is_of_names octet }
 {

@@ -7,7 +7,7 @@ ghost use Rattle.mon_placing.specs.Network.{ArePlaced, IsSeat, entries_of, entry
 use crate::network::{Network, Seat};
 use std::alloc::{AllocError, Global};
 
-/// Returns the targets of a network's groups, so many of them, as Prometheus reads them from a file
+/// Returns the targets of a network's first `groups` groups, as Prometheus reads them from a file
 /// (`file_sd_configs`): an entry for each group, with the addresses at which its stations serve
 /// HTTP, and the group's name as the label `group`.
 ///
@@ -49,7 +49,7 @@ fn put_entry(text: &mut String, network: Network<'_>, part: u32) -> Result<(), A
     write!(text, "], \"labels\": {{\"group\": \"group-{group}\"}}}}")
 }
 
-/// Appends what stands between two, before one that is not the first.
+/// Appends the text between two items, before one that is not the first.
 fn put_separator(text: &mut String, place: u32, between: &str) -> Result<(), AllocError>
     ensures { OnOk result (string_bytes text.new ≡ string_bytes text.old
         ++ separator place between.now) }
@@ -89,7 +89,7 @@ fn put_host(text: &mut String, seat: Seat<'_>) -> Result<(), AllocError>
     write!(text, "\"{address}\"")
 }
 
-/// Returns the units of a network's groups, so many of them: for each station a line with the
+/// Returns the units of a network's first `groups` groups: for each station a line with the
 /// machine that it runs on, what it is called, and where it serves HTTP.
 ///
 /// # Errors

@@ -42,7 +42,7 @@ pub record IsRead (names : List (List ℕ)) (list : List ℕ) (v : Value) (other
       → (text : List ℕ) × IsBinding text (record { name = name; value = v }) × (list ≡ text ++ rest)
       × SpellNames others more
 
--- the value of a discontinuity is read; where there is none it is 0, and nothing is read
+-- the value of a discontinuity is read; without an object for it it is 0, and nothing is read
 abbrev pub IsMarked : Option (List ℕ) → List (List ℕ) → List ℕ → Option ℕ → List (List ℕ) → List ℕ
     → Type 0
 IsMarked None names list mark others rest = (mark ≡ Some 0) × (others ≡ names) × (rest ≡ list)

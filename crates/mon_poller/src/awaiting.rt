@@ -40,7 +40,7 @@ pub(crate) fn find_awaited<'m>(
     message: &'m Message,
 ) -> Result<(usize, OpenPoll, &'m Pdu), ResponseFault>
     requires { AreSlots targets.now polls.now }
-    ensures told { Gives (λ r. (poll_in r.1, r.2.now)) result
+    ensures verdict { Gives (λ r. (poll_in r.1, r.2.now)) result
         (awaited targets.now (open_of polls.now.slots) from (Some message.now)) }
     ensures response { IfOk result (λ r. response_pdu message.now.body ≡ Some r.2.now) }
     ensures slot { IfOk result (λ r. get polls.now r.0 ≡ Some r.1) }

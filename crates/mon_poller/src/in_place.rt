@@ -1,5 +1,5 @@
 //! Reading a response in place: one that has all the names that its poll asked for, each spelled as
-//! it was asked. No name and no list of variable bindings is made of it. Any other datagram gives
+//! it was asked. It makes no name and no list of variable bindings of it. Any other datagram gives
 //! None here and is read as a message, which says what is wrong with it.
 
 ghost use Rattle.std.specs.Prelude.{◌≡◌, ◌++◌, ◌<◌, ◌^◌, pos, List, Ok, Some, IfSome, OnSome, length, true};
@@ -148,7 +148,7 @@ fn offers<'a>(
     })
 }
 
-/// The value of the next name, and what is left. None where there is none, or where its name has
+/// The value of the next name, and what is left. Returns `None` if there is none, or its name has
 /// another spelling.
 fn next_value<'a>(alloc: Global, unread: &Unread<'a>) -> Option<(Value, Unread<'a>)>
     ensures { IfSome result (λ r. IsRead unread.now.names.now unread.now.list.now r.0 r.1.names.now

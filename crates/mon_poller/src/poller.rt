@@ -181,7 +181,7 @@ impl Poller {
     /// target again, or, if that was tried as often as it may be, the poll is closed. Only a
     /// datagram is allocated, so `GivenUp` and `NotOpen` allocate nothing.
     pub fn time_out(&mut self, alloc: Global, id: u32) -> Result<TimedOut, AllocError>
-        ensures told { IfOk result (λ t. t ≡ timeout_verdict self.old.targets self.old.polls id) }
+        ensures verdict { IfOk result (λ t. t ≡ timeout_verdict self.old.targets self.old.polls id) }
         ensures polls { OnOk result (self.new ≡ record self.old
             { polls = timed (tries_of self.old.targets) id self.old.polls }) }
         // Memory is taken for a datagram that is sent again, and for nothing else.
@@ -237,7 +237,7 @@ impl Poller {
     ) -> Result<Offered, ResponseFault>
         // The datagram reads as a message or as none, and that decides all that follows.
         ensures read { (read : Option AnyMessage) × ReadsAs octets.now read }
-        ensures told { (read : Option AnyMessage) → ReadsAs octets.now read
+        ensures verdict { (read : Option AnyMessage) → ReadsAs octets.now read
             → Gives (λ o. o) result (response_verdict self.old.targets self.old.polls.open_polls
             from read) }
         ensures polls { (read : Option AnyMessage) → ReadsAs octets.now read
@@ -274,7 +274,7 @@ impl Poller {
         from: Addr,
         message: &Message,
     ) -> Result<Offered, ResponseFault>
-        ensures told { Gives (λ o. o) result (response_verdict self.old.targets
+        ensures verdict { Gives (λ o. o) result (response_verdict self.old.targets
             self.old.polls.open_polls from (Some message.now)) }
         ensures polls { self.new ≡ record self.old {
           polls = after_response (ends result)

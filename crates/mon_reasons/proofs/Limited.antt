@@ -1,4 +1,4 @@
--- What is kept of datagrams of which one address may have only so many.
+-- What is kept of datagrams of which one address may have only a number.
 use Rattle.std.proofs.Common.{◌≡◌, ℕ, zero, suc, ◌-◌, Bool, true, false, List, [], ◌∷◌, take, refl, sym, ap, ◌∙◌, arith}
 use Rattle.std.specs.Prelude.{if◌then◌else◌, not}
 use Rattle.mon_udp.specs.Addr.{same_addr}

@@ -39,7 +39,7 @@ abbrev pub discontinuity_reason : Option (List ℕ) → List Binding → Option 
 discontinuity_reason None bindings = None
 discontinuity_reason (Some name) bindings = indicator_reason (value_under name bindings)
 
--- ---- a clock that went back or stands still
+-- ---- a clock that went back or stopped
 -- the stamp in these bindings: an engine id, its boots and the seconds since the last one
 abbrev pub stamp_in : List Binding → Option Stamp
 stamp_in bindings = option_and_then (λ engine. option_and_then

@@ -1,4 +1,4 @@
--- The words for why an instance has no new sample.
+-- What is printed for why an instance has no new sample.
 use Rattle.std.specs.Prelude.{ℕ, List, ◌++◌, codes, decimal}
 use Rattle.mon_ber.specs.declared.tag.Tag.{Tag}
 use Rattle.mon_ber.specs.declared.tag.Tag.TheVariants.{

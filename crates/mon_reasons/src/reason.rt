@@ -32,7 +32,7 @@ pub enum Reason {
     Clock(u32, u32),
 }
 
-/// Returns why a message, if there is one, gives the instance no sample newer than this one.
+/// Returns why a message, if there is one, has for the instance no sample newer than this one.
 pub(crate) fn reason_of(
     message: &Option<Message>,
     watched: &Watched,
@@ -46,7 +46,7 @@ pub(crate) fn reason_of(
     }
 }
 
-/// Returns why bindings give the instance no sample newer than this one.
+/// Returns why bindings have for the instance no sample newer than this one.
 fn reason_in(bindings: &[Binding], watched: &Watched, newest: Option<Sample>) -> Option<Reason>
     ensures { result ≡ reason_in watched.now newest bindings.now }
 {

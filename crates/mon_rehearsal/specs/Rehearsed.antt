@@ -76,7 +76,7 @@ pub record HaveBeenMade {G : Ghosts MemoryDisk} (core : Core)
   pub text : new ≡ old ++ step_lines 1 answers
   pub leads : LeadsTo core stations sent (λ now. AreMade settings count steps answers past now)
 
--- The text of a rehearsal of these steps over this many stations: in a world whose stations began
+-- The text of a rehearsal of these steps over this many stations: in a world whose stations started
 -- their first lives on empty disks the steps are made one after another, and a line says the answer
 -- of each; then follow the stations as that left them. Where no step forges a claim, none was
 -- forged, and then what the stations say of their debts is true.

@@ -3,5 +3,6 @@ pub mod Loops
 pub mod Entries
 pub mod Ends
 mod Changing
+mod Ranges
 mod Seen
 mod States

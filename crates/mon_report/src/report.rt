@@ -1,10 +1,12 @@
 //! A board's report.
 
-ghost use Rattle.std.specs.Prelude.{◌≡◌, ◌≤◌, ◌<◌, ◌*◌, ◌^◌, true, length, slice_get, [], IfOk};
-ghost use Rattle.std.specs.List.{flat_map};
+ghost use Rattle.std.specs.Prelude.{◌≡◌, ◌≤◌, ◌<◌, ◌*◌, ◌^◌, true, drop, length, slice_get, [], IfOk};
+ghost use Rattle.std.specs.List.{AllWithin, flat_map};
+ghost use Rattle.std.specs.List.Sorted.{IsStrictlySortedBy};
 ghost use Rattle.mon_board.specs.Board.{window_of};
+ghost use Rattle.mon_board.specs.RuleOrder.{rule_cmp};
 ghost use Rattle.mon_rates.specs.Totals as sums;
-ghost use Rattle.mon_report.specs.Report.{Entry as AnyEntry, alarm_of, alarms_from, announced_entry, announced_from, entry_line, entry_rest, entry_of, entries_from, samples_in, report, rules_on};
+ghost use Rattle.mon_report.specs.Report.{Entry as AnyEntry, alarm_of, announced_entry, announced_from, entry_line, entry_rest, entry_of, entries_from, samples_in, report};
 ghost use Rattle.mon_report.specs.Written.{AppendsIf, AppendsResult};
 
 use crate::alarms::Alarm;
@@ -27,8 +29,9 @@ pub struct Entry<'a> {
     name: &'a Oid,
     samples: &'a [Sample],
     totals: Totals,
+    // The watch's rules on it, which are next to each other.
     rules: &'a [Rule],
-    // Of each rule the state that was announced, in the rules' order, as far as they are known.
+    // Of each of these the state that was announced, in their order, as far as they are known.
     states: &'a [AlarmState],
     instance: u16,
 }
@@ -53,25 +56,16 @@ impl<'a> Model for Entry<'a> {
 }
 
 impl<'a> Entry<'a> {
-    /// An instance with its samples, the oldest first, their totals, and the rules on it: of these
-    /// rules those that are on the instance of this number. The state of each alarm is that over
-    /// the samples.
-    pub fn new(
-        engine: &'a [u8],
-        name: &'a Oid,
-        samples: &'a [Sample],
-        totals: Totals,
-        rules: &'a [Rule],
-        instance: u16,
-    ) -> Self
+    /// An instance with its samples, the oldest first, and their totals. No rule is on it.
+    pub fn new(engine: &'a [u8], name: &'a Oid, samples: &'a [Sample], totals: Totals) -> Self
         requires totals { totals ≡ sums.totals samples.now }
         requires rated { 1000 * totals.delta < 2 ^ 128 }
         ensures { let entry : AnyEntry = record {
           engine = engine.now;
           name = name.now;
           items = samples.now;
-          rules = rules_on instance rules.now;
-          alarms = alarms_from [] instance samples.now 0 rules.now;
+          rules = [];
+          alarms = [];
         } in
             result ≡ entry }
     {
@@ -80,9 +74,9 @@ impl<'a> Entry<'a> {
             name,
             samples,
             totals,
-            rules,
+            rules: &[],
             states: &[],
-            instance,
+            instance: 0,
         }
     }
 
@@ -245,15 +239,46 @@ fn entry_of<'a>(
         watched.now }
 {
     let instance = &watched.instance;
+    let rules = board.watch().rules();
+    let (first, end) = range_of(rules, i);
     Entry {
         engine: instance.engine.as_slice(),
         name: &instance.name,
         samples: board.items(i),
         totals: board.totals(i),
-        rules: board.watch().rules(),
-        states,
+        rules: &rules[first..end],
+        states: states_from(states, first),
         instance: i,
     }
+}
+
+/// Returns the states from this place on.
+fn states_from(states: &[AlarmState], first: usize) -> &[AlarmState]
+    ensures { result.now ≡ drop first states.now }
+{
+    &states[first.min(states.len())..]
+}
+
+/// Returns where the rules on the instance of this number begin and end.
+fn range_of(rules: &[Rule], i: u16) -> (usize, usize)
+    requires { IsStrictlySortedBy rule_cmp rules.now }
+    ensures ordered { result.0 ≤ result.1 }
+    ensures bound { result.1 ≤ length rules.now }
+    ensures before { AllWithin (λ r. r.instance < i) rules.now 0 result.0 }
+    ensures after { AllWithin (λ r. i < r.instance) rules.now result.1 (length rules.now) }
+{
+    let number = usize::from(i);
+    (first_rule(rules, number), first_rule(rules, number + 1))
+}
+
+/// Returns where the rules on the instances from this number on begin.
+fn first_rule(rules: &[Rule], number: usize) -> usize
+    requires { IsStrictlySortedBy rule_cmp rules.now }
+    ensures bound { result ≤ length rules.now }
+    ensures before { AllWithin (λ r. r.instance < number) rules.now 0 result }
+    ensures after { AllWithin (λ r. number ≤ r.instance) rules.now result (length rules.now) }
+{
+    rules.partition_point(|rule| usize::from(rule.instance()) < number)
 }
 
 /// What a report says of each instance of a board, in their order. The state of each alarm is that

@@ -66,7 +66,7 @@ rising_on : (after last id : ℕ) (ids : List ℕ) → AreRising after last ids 
 rising_on after last id [] rise lt = (subst (λ a. a < id) (sym rise) lt, refl)
 rising_on after last id (x ∷ ids) rise lt = (rise.0, rising_on x last id ids rise.1 lt)
 
--- the first timeout after a quiet wait
+-- the first timeout after an idle wait
 pub timed_first : (n m more id : ℕ) (events es : List RoundEvent) → HasPolled n m events → m < more → 0 < id → es ≡ events ++ Timeout id ∷ [] → HasTimedOut n more id es
 timed_first n m more id events es polled lt some is = record {
   quiet = polled.quiet;
@@ -105,7 +105,7 @@ timed_all n m last events timed = record {
   are = timed.are;
 }
 
--- ---- more quiet waits than there were
+-- ---- more idle waits than there were
 polled_within : (n a b : ℕ) (events : List RoundEvent) → a ≤ b → HasPolled n a events → HasPolled n b events
 polled_within n a b events le polled = record {
   quiet = polled.quiet;
@@ -242,7 +242,7 @@ timing_left r Over at = elim at [ ]
 timing_left r BetweenRounds at = elim at [ ]
 timing_left r Rested at = elim at [ ]
 
--- a quiet wait is used up, and there was one
+-- an idle wait is used up, and there was one
 timed_so_far : (r : RoundState) (phase : Phase) (id : ℕ) (es : List RoundEvent) → IsTiming phase → timed_out phase < id → may_time_out phase r ≡ true → r.quiets ≤ r.tries
     → AreSoFar (length r.targets) (r.tries - r.quiets) r.peers r.saving phase r.events → es ≡ r.events ++ Timeout id ∷ []
     → HasTimedOut (length r.targets) (r.tries - quiets_left phase r.quiets) id es × (quiets_left phase r.quiets ≤ r.tries)

@@ -199,7 +199,7 @@ settled_left r BetweenRounds more = omega arith
 settled_left r Rested more = omega arith
 
 -- ---- how long each wait is
--- a wait that begins lasts so long, or none begins any more
+-- a wait that begins lasts this many milliseconds, or none begins any more
 abbrev pub Keeps : ℕ → RoundState → Type 0
 Keeps m r = (r.phase ≡ Rested) ⊎ (Lasts m r.wait × ((r.wait_ms ≡ m) ⊎ (r.phase ≡ BetweenRounds)))
 

@@ -30,8 +30,8 @@ IsArrival room len from (Datagram address octets) = (addr_in from ≡ Some addre
     × (octets ≡ take len room)
 IsArrival room len from Quiet = ⊥
 
--- What is received in a wait: a datagram that the system put into this room while the wait was on,
--- or nothing if the wait is over.
+-- What is received in a wait: a datagram that the system put into this buffer while the wait was
+-- on, or nothing if the wait is over.
 abbrev pub IsGot : (Told : Instant → Type 0) (Silent : ℕ → Type 0)
     (Received : List ℕ → ℕ → SocketAddr → Type 0) → List ℕ → Timer → Arrival → Type 0
 IsGot Told Silent Received room t (Datagram address octets) =

@@ -200,7 +200,7 @@ abbrev pub target_after : Span → RoundReport → ℕ → TargetAge → TargetA
 target_after span report now t = target_with span (has_answered t.number report.answered.items)
     report.answered.items report.notices.items now t
 
--- how many seconds before this time a target answered, or the station began
+-- how many seconds before this time a target answered, or the station started
 abbrev pub seconds_since : ℕ → TargetAge → ℕ
 seconds_since now t = (now - t.answered) / 1000
 
@@ -223,7 +223,7 @@ count_on count true = min (count + 1) (2 ^ 32 - 1)
 count_on count false = count
 
 -- how many times between two rounds, one after another, a peer sent more often than once, after one
--- in which it sent in this many spells: one that has fewer than two begins the row anew
+-- in which it sent in this many spells: one that has fewer than two starts the row again
 abbrev pub row_after : ℕ → ℕ → ℕ
 row_after offers row = if nat_lt offers 2 then 0 else min (row + 1) (2 ^ 32 - 1)
 

@@ -137,13 +137,13 @@ abbrev pub timed_out : Phase → ℕ
 timed_out (TimingOut last) = last
 timed_out phase = 0
 
--- whether there may be a timeout: after a quiet wait only if it may still have any, and then of
+-- whether there may be a timeout: after an idle wait only if it may still have any, and then of
 -- each open poll
 abbrev pub may_time_out : Phase → RoundState → Bool
 may_time_out (TimingOut last) r = nat_lt 0 r.timeouts
 may_time_out phase r = nat_lt 0 r.timeouts && nat_lt 0 r.quiets
 
--- the phase, if a further poll is to be timed out; else the next wait follows
+-- the phase, if a further poll must be timed out; else the next wait follows
 abbrev pub settled_phase : Phase → Bool → Phase
 settled_phase (TimingOut last) more = cond more (TimingOut last) AwaitResponses
 settled_phase phase more = phase
@@ -196,13 +196,13 @@ abbrev pub timeouts_after : ℕ → RoundEvent → ℕ
 timeouts_after n (Timeout id) = n - 1
 timeouts_after n e = n
 
--- how many quiet waits with timeouts there may be after an event: the first timeout after one uses
+-- how many idle waits with timeouts there may be after an event: the first timeout after one uses
 -- it up
 abbrev pub quiets_left : Phase → ℕ → ℕ
 quiets_left (TimingOut last) n = n
 quiets_left phase n = n - 1
 
--- how many waits that are quiet with open polls may still come after an event
+-- how many waits that are idle with open polls may still come after an event
 abbrev pub quiets_after : RoundState → RoundEvent → ℕ
 quiets_after r (Timeout id) = quiets_left r.phase r.quiets
 quiets_after r e = r.quiets
@@ -261,7 +261,7 @@ Receives r oldest last (one ∷ []) result new = (next_wait r last ≡ Some one.
 Receives r oldest last (one ∷ two ∷ more) result new = ⊥
 
 -- A call for the next event, where these polls are open and the last event had this answer: if no
--- further poll is to be timed out, the next wait follows in it.
+-- further poll must be timed out, the next wait follows in it.
 pub record GivesNext (r : RoundState) (open_polls : Open) (last : Option Answer)
     (log : List Reception) (result : Result (Option OwnedEvent) SourceFault) (new : RoundState) :
     Type 0 where

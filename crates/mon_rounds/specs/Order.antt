@@ -53,7 +53,7 @@ AreRising after last (id ∷ ids) = (after < id) × AreRising id last ids
 abbrev pub timeouts_of : List ℕ → List RoundEvent
 timeouts_of ids = map Timeout ids
 
--- After a quiet wait polls are timed out, up to this one: each once, by rising request-id.
+-- After an idle wait polls are timed out, up to this one: each once, by rising request-id.
 pub record AreTimedOut (Earlier : List RoundEvent → Type 0) (last : ℕ) (events : List RoundEvent) :
     Type 0 where
   pub before : List RoundEvent
@@ -72,14 +72,14 @@ pub record AreHeardAfter (Earlier : List RoundEvent → Type 0) (events : List R
     pub each : All IsDatagram heard
     pub are : events ≡ before ++ heard
 
--- What comes while polls are open, in waits of which this many were quiet: datagrams in each wait,
+-- What comes while polls are open, in waits of which this many were idle: datagrams in each wait,
 -- and between two of them timeouts.
 abbrev pub AreHeardIn : ℕ → List RoundEvent → Type 0
 AreHeardIn zero events = All IsDatagram events
 AreHeardIn (suc quiet) events = AreHeardAfter (AreHeardIn quiet) events
 
 -- ---- a round
--- all targets are polled; then datagrams came, and timeouts after at most so many quiet waits
+-- all targets are polled; then datagrams came, and timeouts after at most this many idle waits
 pub record HasPolled (targets most : ℕ) (events : List RoundEvent) : Type 0 where
   pub quiet : ℕ
   pub few_quiet : quiet ≤ most
@@ -87,7 +87,7 @@ pub record HasPolled (targets most : ℕ) (events : List RoundEvent) : Type 0 wh
   pub each : AreHeardIn quiet heard
   pub are : events ≡ polls_of targets ++ heard
 
--- all targets are polled; then datagrams came, and timeouts after some quiet waits, after the last
+-- all targets are polled; then datagrams came, and timeouts after some idle waits, after the last
 -- of which polls up to this one are timed out so far
 pub record HasTimedOut (targets most last : ℕ) (events : List RoundEvent) : Type 0 where
   pub quiet : ℕ

@@ -41,7 +41,7 @@ abbrev pub first_wait : Span → ℕ → ℕ
 first_wait Round wait_ms = wait_ms
 first_wait (Between milliseconds) wait_ms = milliseconds
 
--- a round that begins, or the time between two: of 4096 datagrams, as many quiet waits with
+-- a round that begins, or the time between two: of 4096 datagrams, as many idle waits with
 -- timeouts as polls are tried, 512 timeouts and 16 failures at most; it saves if it was said of the
 -- next round
 abbrev pub begun : Span → RoundState → RoundState
@@ -57,7 +57,7 @@ begun span r = record r {
   events = [];
 }
 
--- how many waits begin at most: in a round one, one after each quiet wait with timeouts, and one
+-- how many waits begin at most: in a round one, one after each idle wait with timeouts, and one
 -- after the shares with peers; between two rounds one
 abbrev pub most_waits : Span → RoundState → ℕ
 most_waits Round r = 1 + (r.tries + listens_to r.peers)

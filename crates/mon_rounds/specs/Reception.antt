@@ -20,7 +20,8 @@ reception w (Ok arrival) = record { wait = w; arrival = Some arrival } ∷ []
 reception w (Err fault) = record { wait = w; arrival = None } ∷ []
 
 -- ---- at a clock
--- a reception in this wait leaves the clock's timer so, by a time that was told in its call
+-- a reception in this wait leaves the clock's timer so, by a time that the clock returned in its
+-- call
 abbrev pub IsTimed : (Told : Instant → Type 0) → Wait → (old new : Timer) → Type 0
 IsTimed Told (Begin milliseconds) old new = Begins Told milliseconds new
 IsTimed Told Renew old new = Renews Told old new
@@ -47,7 +48,7 @@ Lasts wait_ms Rest = Unit {0}
 abbrev pub EachLasts : ℕ → List Reception → Type 0
 EachLasts wait_ms log = All (λ r. Lasts wait_ms r.wait) log
 
--- at most so many waits begin in these receptions, each of this many milliseconds
+-- at most this many waits begin in these receptions, each of this many milliseconds
 pub record HasWaits (most wait_ms : ℕ) (log : List Reception) : Type 0 where
   pub few : begins_in log ≤ most
   pub each : EachLasts wait_ms log
@@ -58,8 +59,8 @@ pub record Timed : Type 0 where
   pub from : ℕ
   pub to : ℕ
 
--- at what time a wait is over at the latest: four times its length after it began, where it began
--- at this time, or else as before
+-- the time at which a wait is over at the latest: four times its length after this time if it
+-- begins then, or else as before
 abbrev pub end_of : Wait → (from end : ℕ) → ℕ
 end_of (Begin milliseconds) from end = from + 4 * (milliseconds * 1_000_000)
 end_of Renew from end = end

@@ -69,11 +69,10 @@ impl Addresses {
     pub fn peer(&self, station: u32) -> Option<Addr>
         ensures { result ≡ peer_address self.now.peers.items self.now.peer_addresses.items station }
     {
-        peer_address(
-            self.peers.as_slice(),
-            self.peer_addresses.as_slice(),
-            station,
-        )
+        match place_of(self.peers.as_slice(), station) {
+            Some(place) => self.peer_addresses.as_slice().get(place).copied(),
+            None => None,
+        }
     }
 
     /// Returns `true` if a target has this address.
@@ -111,16 +110,6 @@ fn target_addresses(alloc: Global, targets: &[Target]) -> Result<Vec<Addr>, Allo
         addresses.push(target.address)?;
     }
     Ok(addresses)
-}
-
-/// Returns the address at the place of a number.
-fn peer_address(numbers: &[u32], addresses: &[Addr], station: u32) -> Option<Addr>
-    ensures { result ≡ peer_address numbers.now addresses.now station }
-{
-    match place_of(numbers, station) {
-        Some(place) => addresses.get(place).copied(),
-        None => None,
-    }
 }
 
 /// The first place of a number.

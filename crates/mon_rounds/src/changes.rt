@@ -2,7 +2,7 @@
 //! once.
 
 ghost use Rattle.std.specs.Prelude.{◌≡◌, ◌++◌, IfOk, None, OnErr, OnOk, [], false, get_or, length, map, option_map};
-ghost use Rattle.mon_rounds.specs.Changes.{answers, change_at, changes_between, changes_from, engine_change, engine_changes, is_lost, is_other, is_silent, is_stale, no_troubles, offers_often, other_at, other_if, others_of, told_by, troubles_after};
+ghost use Rattle.mon_rounds.specs.Changes.{change_at, changes_between, changes_from, engine_change, engine_changes, is_lost, is_silent, is_stale, no_troubles, offers_often, other_at, others_of, told_by, troubles_after};
 ghost use Rattle.mon_rounds.specs.Freshness.{is_late};
 
 use crate::freshness::{Freshness, InstanceAge, PeerAge, TargetAge};
@@ -101,7 +101,7 @@ impl Troubles {
     ) -> Result<Vec<Change>, AllocError>
         ensures changes { IfOk result (λ v. v.items ≡ changes_between (told_by self.old)
             (troubles_after limit (told_by self.old) others.items freshness.now)) }
-        ensures told { OnOk result (told_by self.new ≡ troubles_after limit (told_by self.old)
+        ensures troubles { OnOk result (told_by self.new ≡ troubles_after limit (told_by self.old)
             others.items freshness.now) }
         ensures kept { OnErr result (told_by self.new ≡ told_by self.old) }
     {
@@ -295,7 +295,7 @@ pub fn other_engines(
     Ok(others)
 }
 
-/// Returns the engine that answers in place of a target's, if one does.
+/// Returns the engine that answers in place of a target's, if its last response was of another.
 fn other_at(
     alloc: Global,
     latest: &NewestDatagrams,
@@ -305,36 +305,14 @@ fn other_at(
     ensures { IfOk result (λ other. other ≡ other_at latest.now.datagrams.items
         (option_map (λ t. t.now) target.entry) (option_map (λ e. e.now) engine.entry)) }
 {
-    match (target, engine) {
-        (Some(target), Some(engine)) => other_if(alloc, latest, target, engine.as_slice()),
-        _ => Ok(None),
-    }
-}
-
-/// Returns the engine that answers in place of this one, if the target's last response was of
-/// another.
-fn other_if(
-    alloc: Global,
-    latest: &NewestDatagrams,
-    target: &TargetAge,
-    engine: &[u8],
-) -> Result<Option<Octets>, AllocError>
-    ensures { IfOk result (λ other. other ≡ other_if latest.now.datagrams.items target.now
-        engine.now) }
-{
-    if is_other(target) {
-        return latest.other_engine(alloc, target.address, engine);
-    }
-    Ok(None)
-}
-
-/// Returns `true` if a target's last response was of another engine.
-fn is_other(target: &TargetAge) -> bool
-    ensures { result ≡ is_other target.now }
-{
+    let (Some(target), Some(engine)) = (target, engine) else {
+        return Ok(None);
+    };
     match target.refusal {
-        Some(StationFault::Response(ResponseFault::OtherEngine)) => true,
-        _ => false,
+        Some(StationFault::Response(ResponseFault::OtherEngine)) => {
+            latest.other_engine(alloc, target.address, engine.as_slice())
+        }
+        _ => Ok(None),
     }
 }
 
@@ -389,21 +367,18 @@ fn stale_instances(
     Ok(stale)
 }
 
-/// Returns `true` if an instance is stale, where this was said of instances before.
+/// Returns `true` if an instance is stale, where this was said of instances before: else it is from
+/// when its target answers.
 fn is_stale(instance: &InstanceAge, targets: &[TargetAge], said: &[bool], limit: u32) -> bool
     ensures { result ≡ is_stale limit said.now targets.now instance.now }
 {
     if instance.rounds < limit {
         return false;
     }
-    is_said(said, usize::from(instance.number)) || answers(targets, instance.target)
-}
-
-/// Returns `true` if the target of this number, if there is one, answered in the last round.
-fn answers(targets: &[TargetAge], number: Option<u16>) -> bool
-    ensures { result ≡ answers targets.now number }
-{
-    let Some(number) = number else {
+    if is_said(said, usize::from(instance.number)) {
+        return true;
+    }
+    let Some(number) = instance.target else {
         return false;
     };
     match targets.get(usize::from(number)) {

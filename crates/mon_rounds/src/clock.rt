@@ -1,7 +1,7 @@
 //! When agents restarted, by the stamps of their responses.
 
-ghost use Rattle.std.specs.Prelude.{◌≡◌, ◌==◌, ◌&&◌, nat_lt};
-ghost use Rattle.mon_rounds.specs.Clock.{clock_after, clock_by, clock_with, greatest_after, no_clock, restart_after, restart_between};
+ghost use Rattle.std.specs.Prelude.{◌≡◌};
+ghost use Rattle.mon_rounds.specs.Clock.{clock_after, clock_by, greatest_after, no_clock, restart_after};
 
 use mon_station::TargetStamp;
 
@@ -62,17 +62,9 @@ pub(crate) fn clock_after(clock: Clock, number: u16, answered: &[TargetStamp]) -
 fn clock_by(clock: Clock, number: u16, stamp: TargetStamp) -> Clock
     ensures { result ≡ clock_by number clock stamp }
 {
-    if stamp.target == number {
-        clock_with(clock, stamp)
-    } else {
-        clock
+    if stamp.target != number {
+        return clock;
     }
-}
-
-/// Returns a target's clock after a response of it of this stamp.
-fn clock_with(clock: Clock, stamp: TargetStamp) -> Clock
-    ensures { result ≡ clock_with clock stamp }
-{
     Clock {
         last: Some(stamp),
         greatest: greatest_after(clock.last, clock.greatest, stamp),
@@ -91,23 +83,14 @@ fn greatest_after(last: Option<TargetStamp>, greatest: u32, stamp: TargetStamp) 
     }
 }
 
-/// Returns the last restart after a response of this stamp.
+/// Returns the last restart after a response of this stamp: the one between it and the response
+/// before, if the boots rose, or stayed and the time fell.
 fn restart_after(clock: Clock, stamp: TargetStamp) -> Option<Restart>
     ensures { result ≡ restart_after clock.last clock.greatest stamp clock.restart }
 {
     let Some(last) = clock.last else {
         return clock.restart;
     };
-    match restart_between(last, clock.greatest, stamp) {
-        Some(restart) => Some(restart),
-        None => clock.restart,
-    }
-}
-
-/// Returns the restart between two responses, the second of this stamp, if there was one.
-fn restart_between(last: TargetStamp, greatest: u32, stamp: TargetStamp) -> Option<Restart>
-    ensures { result ≡ restart_between last greatest stamp }
-{
     let (boots, time) = (stamp.boots, stamp.time);
     if last.boots < boots {
         return Some(Restart {
@@ -116,19 +99,12 @@ fn restart_between(last: TargetStamp, greatest: u32, stamp: TargetStamp) -> Opti
             until: None,
         });
     }
-    if has_fallen(last, stamp) {
+    if last.boots == boots && time < last.time {
         return Some(Restart {
             boots,
             time,
-            until: Some(greatest),
+            until: Some(clock.greatest),
         });
     }
-    None
-}
-
-/// Returns `true` if the boots stayed and the time fell.
-fn has_fallen(last: TargetStamp, stamp: TargetStamp) -> bool
-    ensures { result ≡ (last.boots == stamp.boots && nat_lt stamp.time last.time) }
-{
-    last.boots == stamp.boots && stamp.time < last.time
+    clock.restart
 }

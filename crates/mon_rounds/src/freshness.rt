@@ -1,8 +1,8 @@
 //! How long ago targets answered, peers sent something and instances had a new sample.
 
-ghost use Rattle.std.specs.Prelude.{◌≡◌, ◌≤◌, IfOk, None, get_or, false, length, map};
+ghost use Rattle.std.specs.Prelude.{◌≡◌, ◌≤◌, IfOk, None, false, get_or, length, map};
 ghost use Rattle.mon_rounds.specs.Totals.{counted_on};
-ghost use Rattle.mon_rounds.specs.Freshness.{age_after, count_on, fields_of, gave_up_by, has_answered, have_same, instance_after, instance_with, is_given_up_by, is_late, is_overrun, is_same, last_refusal, length_after, new_instance, new_instances, new_peer, new_target, newest_on, numbered, older, overruns_after, peer_after, refusal_after, refusal_with, row_after, seconds_since, target_after, target_with, up_after};
+ghost use Rattle.mon_rounds.specs.Freshness.{age_after, gave_up_by, has_answered, instance_after, instance_with, is_late, is_same, last_refusal, length_after, new_instance, new_instances, new_peer, new_target, newest_on, numbered, older, overruns_after, peer_after, refusal_after, seconds_since, target_after, target_with, up_after};
 
 use crate::addresses::Addresses;
 use crate::clock::{Clock, clock_after};
@@ -10,7 +10,6 @@ use crate::late::{LateRow, count_late, late_after};
 use crate::reporting::{Notice, RoundReport};
 use crate::round::Span;
 use mon_board::Board;
-use mon_sample::Sample;
 use mon_station::{StationFault, TargetStamp};
 use mon_udp::Addr;
 use std::alloc::{AllocError, Global};
@@ -256,8 +255,12 @@ impl Freshness {
         add_to_instances(&mut self.instances, spell.span, board);
         self.failed_saves = self.failed_saves.saturating_add(report.failed_saves);
         self.strangers = self.strangers.saturating_add(u64::from(report.strangers));
-        self.round_ms = length_after(spell, self.round_ms);
-        self.overruns = overruns_after(spell, self.overruns);
+        if let Span::Round = spell.span {
+            self.round_ms = spell.took;
+            if 0 < spell.interval && spell.interval < spell.took {
+                self.overruns = self.overruns.saturating_add(1);
+            }
+        }
     }
 }
 
@@ -363,21 +366,14 @@ fn newest_on(board: &Board, number: u16) -> Option<SampleFields>
         return None;
     }
     match board.items(number).last() {
-        Some(sample) => Some(fields_of(sample)),
+        Some(sample) => Some(SampleFields {
+            value: sample.value(),
+            time: sample.time(),
+            boots: sample.boots(),
+            discontinuity: sample.discontinuity(),
+            tag: sample.kind().tag(),
+        }),
         None => None,
-    }
-}
-
-/// Returns the fields of a sample.
-fn fields_of(sample: &Sample) -> SampleFields
-    ensures { result ≡ fields_of sample.now }
-{
-    SampleFields {
-        value: sample.value(),
-        time: sample.time(),
-        boots: sample.boots(),
-        discontinuity: sample.discontinuity(),
-        tag: sample.kind().tag(),
     }
 }
 
@@ -395,7 +391,8 @@ fn add_to_targets(targets: &mut [TargetAge], spell: Spell, report: &RoundReport)
 fn target_after(target: TargetAge, spell: Spell, report: &RoundReport) -> TargetAge
     ensures { result ≡ target_after spell.span report.now spell.ended target }
 {
-    let answered = has_answered(report.answered.as_slice(), target.number);
+    let responses = report.answered.as_slice();
+    let answered = has_answered(responses, target.number);
     let notices = report.notices.as_slice();
     let given_up = count_given_up(notices, target.number);
     TargetAge {
@@ -413,7 +410,7 @@ fn target_after(target: TargetAge, spell: Spell, report: &RoundReport) -> Target
             target.refusal,
         ),
         late: late_after(target.late, spell.span, count_late(notices, target.address)),
-        clock: clock_after(target.clock, target.number, report.answered.as_slice()),
+        clock: clock_after(target.clock, target.number, responses),
         ..target
     }
 }
@@ -448,67 +445,18 @@ fn age_after(span: Span, is_new: bool, age: u32) -> u32
     }
 }
 
-/// How long the last round took.
-fn length_after(spell: Spell, before: u64) -> u64
-    ensures { result ≡ length_after spell.span spell.took before }
-{
-    match spell.span {
-        Span::Round => spell.took,
-        Span::Between(_) => before,
-    }
-}
-
-/// Returns `true` if a round that took this long took longer than its interval, both in
-/// milliseconds.
-fn is_overrun(took: u64, interval: u64) -> bool
-    ensures { result ≡ is_overrun took interval }
-{
-    0 < interval && interval < took
-}
-
-/// How many rounds took longer than their interval.
-fn overruns_after(spell: Spell, before: u64) -> u64
-    ensures { result ≡ overruns_after spell.span spell.took spell.interval before }
-{
-    match spell.span {
-        Span::Round => {
-            if is_overrun(spell.took, spell.interval) {
-                before.saturating_add(1)
-            } else {
-                before
-            }
-        }
-        Span::Between(_) => before,
-    }
-}
-
 /// How many polls of the target of this number were given up.
 fn count_given_up(notices: &[Notice], number: u16) -> u64
     ensures { result ≡ gave_up_by number notices.now }
 {
     let mut count = 0;
     for notice in notices {
-        if is_given_up_by(*notice, number) {
-            count += 1;
+        match notice {
+            Notice::GaveUp(target) if *target == number => count += 1,
+            _ => {}
         }
     }
     count
-}
-
-/// Returns `true` if a notice is that of a poll of this target that was given up.
-fn is_given_up_by(notice: Notice, number: u16) -> bool
-    ensures { result ≡ is_given_up_by number notice }
-{
-    match notice {
-        Notice::GaveUp(target) => target == number,
-        Notice::NotPolled(..)
-        | Notice::BadResponse(..)
-        | Notice::Astray(_)
-        | Notice::BadClaim(..)
-        | Notice::NotShared(..)
-        | Notice::NotSaved(_)
-        | Notice::NoMemory(_) => false,
-    }
 }
 
 /// Returns why the last refused response from this address was refused.
@@ -517,19 +465,12 @@ fn last_refusal(notices: &[Notice], address: Addr) -> Option<StationFault>
 {
     let mut last = None;
     for notice in notices {
-        last = refusal_with(address, last, *notice);
+        match notice {
+            Notice::BadResponse(from, fault) if *from == address => last = Some(*fault),
+            _ => {}
+        }
     }
     last
-}
-
-/// Returns why a response from this address was refused, by one notice more.
-fn refusal_with(address: Addr, before: Option<StationFault>, notice: Notice) -> Option<StationFault>
-    ensures { result ≡ refusal_with address before notice }
-{
-    match notice {
-        Notice::BadResponse(from, fault) if from == address => Some(fault),
-        _ => before,
-    }
 }
 
 /// Returns why a target's last response was refused: an answer clears it.
@@ -561,56 +502,36 @@ fn add_to_peers(peers: &mut [PeerAge], span: Span, report: &RoundReport)
 fn peer_after(peer: PeerAge, span: Span, report: &RoundReport) -> PeerAge
     ensures { result ≡ peer_after span report.now peer }
 {
-    let heard = is_heard(report, peer.slot);
+    let heard = match report.heard.as_slice().get(usize::from(peer.slot)) {
+        Some(heard) => *heard,
+        None => false,
+    };
     let rounds = age_after(span, heard, peer.rounds);
     match span {
         Span::Round => PeerAge {
             rounds,
             offers: 0,
             counted: false,
-            often: row_after(peer.offers, peer.often),
+            often: if peer.offers < OFTEN {
+                0
+            } else {
+                peer.often.saturating_add(1)
+            },
             ..peer
         },
         Span::Between(_) => {
             let counted = heard && !peer.counted;
             PeerAge {
                 rounds,
-                offers: count_on(peer.offers, counted),
+                offers: if counted {
+                    peer.offers.saturating_add(1)
+                } else {
+                    peer.offers
+                },
                 counted,
                 ..peer
             }
         }
-    }
-}
-
-/// Returns how many times between two rounds, one after another, a peer sent more often than once,
-/// after one in which it sent in this many spells.
-fn row_after(offers: u32, row: u32) -> u32
-    ensures { result ≡ row_after offers row }
-{
-    if offers < OFTEN {
-        return 0;
-    }
-    row.saturating_add(1)
-}
-
-/// Returns a count, of one more if that is counted.
-fn count_on(count: u32, counted: bool) -> u32
-    ensures { result ≡ count_on count counted }
-{
-    if counted {
-        return count.saturating_add(1);
-    }
-    count
-}
-
-/// Returns `true` if a datagram came from the peer of this slot.
-fn is_heard(report: &RoundReport, slot: u16) -> bool
-    ensures { result ≡ get_or report.now.heard.items slot false }
-{
-    match report.heard.as_slice().get(usize::from(slot)) {
-        Some(heard) => *heard,
-        None => false,
     }
 }
 
@@ -643,18 +564,13 @@ fn is_same(one: Option<SampleFields>, other: Option<SampleFields>) -> bool
 {
     match (one, other) {
         (None, None) => true,
-        (Some(one), Some(other)) => have_same(one, other),
+        (Some(one), Some(other)) => {
+            one.value == other.value
+                && one.time == other.time
+                && one.boots == other.boots
+                && one.discontinuity == other.discontinuity
+                && one.tag == other.tag
+        }
         _ => false,
     }
-}
-
-/// Returns `true` if the fields of two samples are equal.
-fn have_same(one: SampleFields, other: SampleFields) -> bool
-    ensures { result ≡ have_same one other }
-{
-    one.value == other.value
-        && one.time == other.time
-        && one.boots == other.boots
-        && one.discontinuity == other.discontinuity
-        && one.tag == other.tag
 }

@@ -11,7 +11,7 @@ use std::time::Duration;
 const LONGEST: u128 = 1 << 60;
 
 /// Returns the first time after `now` at which a round begins: the phase, or whole intervals after
-/// it. All are counted in one unit from one moment; a time beyond 2^64 - 1 is that.
+/// it. All are counted in one unit from one point in time; a time beyond 2^64 - 1 is that.
 pub fn next_start(now: u64, interval: u64, phase: u64) -> u64
     requires interval { 1 ≤ interval }
     ensures { now + interval + phase < 2 ^ 64 → IsNextStart now interval phase result }

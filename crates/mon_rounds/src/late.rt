@@ -1,7 +1,7 @@
 //! Datagrams of agents that answer too late, and in how many rounds one after another they came.
 
 ghost use Rattle.std.specs.Prelude.{◌≡◌};
-ghost use Rattle.mon_rounds.specs.Freshness.{begun_row, is_late_from, is_stray, late_after, late_from, no_row, with_late};
+ghost use Rattle.mon_rounds.specs.Freshness.{is_late_from, late_after, late_from, no_row, with_late};
 
 use crate::reporting::Notice;
 use crate::round::Span;
@@ -34,28 +34,21 @@ impl LateRow {
     }
 }
 
-/// Returns a row after a round, or the time after it, in which this many late datagrams came.
+/// Returns a row after a round, or the time after it, in which this many late datagrams came. At
+/// the beginning of a round it ends if none came in the round before, or in the time after it.
 pub(crate) fn late_after(row: LateRow, span: Span, datagrams: u64) -> LateRow
     ensures { result ≡ late_after span datagrams row }
 {
     match span {
-        Span::Round => add_late(begin_round(row), datagrams),
-        Span::Between(_) => add_late(row, datagrams),
-    }
-}
-
-/// Returns a row at the beginning of a round: it ends if no late datagram came in the round before,
-/// and none in the time after it.
-fn begin_round(row: LateRow) -> LateRow
-    ensures { result ≡ begun_row row }
-{
-    if row.counted {
-        LateRow {
-            counted: false,
-            ..row
+        Span::Round if row.counted => {
+            let begun = LateRow {
+                counted: false,
+                ..row
+            };
+            add_late(begun, datagrams)
         }
-    } else {
-        LateRow::new()
+        Span::Round => add_late(LateRow::new(), datagrams),
+        Span::Between(_) => add_late(row, datagrams),
     }
 }
 
@@ -90,28 +83,13 @@ pub(crate) fn count_late(notices: &[Notice], address: Addr) -> u64
     count
 }
 
-/// Returns `true` if a notice is that of a late datagram from this address.
+/// Returns `true` if a notice is that of a late datagram from this address: one that responds to no
+/// open poll.
 fn is_late_from(notice: Notice, address: Addr) -> bool
     ensures { result ≡ is_late_from address notice }
 {
     match notice {
-        Notice::BadResponse(from, fault) => is_stray(fault) && from == address,
-        Notice::GaveUp(_)
-        | Notice::NotPolled(..)
-        | Notice::Astray(_)
-        | Notice::BadClaim(..)
-        | Notice::NotShared(..)
-        | Notice::NotSaved(_)
-        | Notice::NoMemory(_) => false,
-    }
-}
-
-/// Returns `true` if a datagram was refused since it responds to no open poll.
-fn is_stray(fault: StationFault) -> bool
-    ensures { result ≡ is_stray fault }
-{
-    match fault {
-        StationFault::Response(ResponseFault::Stray) => true,
+        Notice::BadResponse(from, StationFault::Response(ResponseFault::Stray)) => from == address,
         _ => false,
     }
 }

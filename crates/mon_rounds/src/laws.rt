@@ -14,8 +14,9 @@ ghost use Rattle.mon_rounds.specs.declared.late.LateRow.{LateRow};
 ghost use Rattle.mon_rounds.specs.declared.round.Span.{Span};
 ghost use Rattle.mon_rounds.specs.declared.round.Span.TheVariants.{Round};
 
-/// If each reception is over when its wait is, then receptions in which at most so many waits begin
-/// take at most four times the length of a wait for each of them, whatever comes and whenever.
+/// If each reception is over when its wait is, then receptions in which at most this many waits
+/// begin take at most four times the length of a wait for each of them, whatever comes and
+/// whenever.
 pub fn waiting_ends()
     ensures { (most wait_ms now end : ℕ) (all : List Timed) → end ≤ now → AreTimely now end all
         → HasWaits most wait_ms (map (λ t. t.reception) all)

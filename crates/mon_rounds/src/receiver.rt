@@ -4,13 +4,13 @@ use mon_ber::Octets;
 use mon_udp::Addr;
 use thiserror::Error;
 
-/// Which wait a reception is part of. A wait is over when it was quiet for its length, and at the
-/// latest four times its length after it began.
+/// Which wait a reception is part of. A wait is over when it was idle for its length, and at the
+/// latest four times its length after it started.
 #[derive(Clone, Copy)]
 pub enum Wait {
     /// One that begins now and lasts this many milliseconds.
     Begin(u32),
-    /// The last one, quiet since now.
+    /// The last one, idle since now.
     Renew,
     /// The rest of the last one.
     Rest,
@@ -38,13 +38,13 @@ pub trait Receiver {
     ghost use Rattle.mon_rounds.specs.Reception.{Reception, reception};
 
     // All receptions in order, if it states them.
-    ghost heard: { Self → Option (List Reception) };
+    ghost log: { Self → Option (List Reception) };
 
     // How often it failed, at most 2^64 - 1.
     ghost failures: { Self → ℕ };
 
     /// Waits for a datagram.
     fn receive(&mut self, wait: Wait) -> Result<Arrival, ReceiverFault>
-        ensures heard { heard self.new ≡ extended (heard self.old) (reception wait result) }
+        ensures log { log self.new ≡ extended (log self.old) (reception wait result) }
         ensures failures { failures self.new ≡ failed_after result (failures self.old) };
 }

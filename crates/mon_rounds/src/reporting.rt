@@ -1,7 +1,7 @@
 //! What is reported of a round to an operator.
 
 ghost use Rattle.std.specs.Prelude.{◌≡◌, ◌++◌, IfOk, OnOk, map};
-ghost use Rattle.mon_rounds.specs.Noted.{answered_of, gave_up, heard_from, heard_of, is_from_peer, is_stranger, is_unsaved, listed, unsaved, notice_of, notices_of, refusal_of, response_notice, samples_taken, stamp_in, stranger_notice, strangers_in, told_of};
+ghost use Rattle.mon_rounds.specs.Noted.{answered_of, gave_up, heard_from, heard_of, unsaved, notice_of, notices_of, refusal_of, samples_taken, strangers_in, told_of};
 ghost use Rattle.mon_rounds.specs.Order.{datagrams_in};
 
 use crate::round::{Round, RoundEvent};
@@ -80,32 +80,16 @@ fn refused(round: &Round, event: RoundEvent, fault: StationFault) -> Option<Noti
 {
     match event {
         RoundEvent::StartPoll(target) => Some(Notice::NotPolled(target, fault)),
-        RoundEvent::FromAgent(from, ()) => bad_response(round, from, fault),
+        RoundEvent::FromAgent(from, ()) if round.is_target(from) => {
+            Some(Notice::BadResponse(from, fault))
+        }
+        RoundEvent::FromAgent(from, ()) => match fault {
+            StationFault::Response(ResponseFault::WrongSource) => Some(Notice::Astray(from)),
+            _ => None,
+        },
         RoundEvent::FromPeer(from) => Some(Notice::BadClaim(from, fault)),
         RoundEvent::Share(peer) => Some(Notice::NotShared(peer, fault)),
         RoundEvent::Timeout(_) | RoundEvent::Save => None,
-    }
-}
-
-/// Returns the notice of a refused datagram from this address, if it is a target's or responds to
-/// an open poll.
-fn bad_response(round: &Round, from: Addr, fault: StationFault) -> Option<Notice>
-    ensures { result ≡ response_notice round.now.targets from fault }
-{
-    if round.is_target(from) {
-        Some(Notice::BadResponse(from, fault))
-    } else {
-        astray(from, fault)
-    }
-}
-
-/// Returns the notice of a refused stranger's datagram, if it responds to an open poll.
-fn astray(from: Addr, fault: StationFault) -> Option<Notice>
-    ensures { result ≡ stranger_notice from fault }
-{
-    match fault {
-        StationFault::Response(ResponseFault::WrongSource) => Some(Notice::Astray(from)),
-        _ => None,
     }
 }
 
@@ -115,25 +99,14 @@ fn count_strangers(round: &Round, events: &[RoundEvent]) -> u32
 {
     let mut count: u32 = 0;
     for event in events {
-        if is_stranger(round, *event) {
-            count = count.saturating_add(1);
+        match event {
+            RoundEvent::FromAgent(from, ()) if !round.is_target(*from) => {
+                count = count.saturating_add(1);
+            }
+            _ => {}
         }
     }
     count
-}
-
-/// Returns `true` if an event is a datagram from an address that is no target's and no peer's.
-fn is_stranger(round: &Round, event: RoundEvent) -> bool
-    ensures { result ≡ is_stranger round.now.targets event }
-{
-    match event {
-        RoundEvent::FromAgent(from, ()) => !round.is_target(from),
-        RoundEvent::FromPeer(_)
-        | RoundEvent::StartPoll(_)
-        | RoundEvent::Timeout(_)
-        | RoundEvent::Share(_)
-        | RoundEvent::Save => false,
-    }
 }
 
 impl RoundReport {
@@ -155,7 +128,7 @@ impl RoundReport {
         ensures given_up { IfOk result (λ r. r.given_up ≡ gave_up r.notices.items) }
         ensures failed_saves { IfOk result (λ r. r.failed_saves ≡ unsaved r.notices.items) }
         ensures answered { IfOk result (λ r. r.answered.items ≡ answered_of run.now.answers.items) }
-        ensures heard { IfOk result (λ r. r.heard.items ≡ heard_of round.now.peer_addresses
+        ensures peers { IfOk result (λ r. r.heard.items ≡ heard_of round.now.peer_addresses
             round.now.events) }
     {
         let events = round.events();
@@ -210,27 +183,11 @@ fn count_failed_saves(notices: &[Notice]) -> u64
 {
     let mut count = 0;
     for notice in notices {
-        if is_unsaved(*notice) {
+        if let Notice::NotSaved(_) | Notice::NoMemory(RoundEvent::Save) = notice {
             count += 1;
         }
     }
     count
-}
-
-/// Returns `true` if a notice says that a save failed.
-fn is_unsaved(notice: Notice) -> bool
-    ensures { result ≡ is_unsaved notice }
-{
-    match notice {
-        Notice::NotSaved(_) | Notice::NoMemory(RoundEvent::Save) => true,
-        Notice::NoMemory(_)
-        | Notice::GaveUp(_)
-        | Notice::NotPolled(..)
-        | Notice::BadResponse(..)
-        | Notice::Astray(_)
-        | Notice::BadClaim(..)
-        | Notice::NotShared(..) => false,
-    }
 }
 
 /// Returns of each response that was taken the target whose poll it answered, and its stamp.
@@ -239,29 +196,15 @@ fn answered_of(alloc: Global, answers: &[Answer]) -> Result<Vec<TargetStamp>, Al
 {
     let mut answered = Vec::new(alloc);
     for answer in answers {
-        put_stamp(&mut answered, *answer)?;
+        if let Answer::Handled {
+            answered: Some(stamp),
+            ..
+        } = answer
+        {
+            answered.push(*stamp)?;
+        }
     }
     Ok(answered)
-}
-
-/// Adds the target whose poll an event with this answer answered, and the stamp.
-fn put_stamp(answered: &mut Vec<TargetStamp>, answer: Answer) -> Result<(), AllocError>
-    ensures { OnOk result (answered.new.items ≡ answered.old.items ++ listed (stamp_in answer)) }
-{
-    if let Some(stamp) = stamp_in(answer) {
-        answered.push(stamp)?;
-    }
-    Ok(())
-}
-
-/// Returns the target whose poll an event with this answer answered, and the stamp.
-fn stamp_in(answer: Answer) -> Option<TargetStamp>
-    ensures { result ≡ stamp_in answer }
-{
-    match answer {
-        Answer::Handled { answered, .. } => answered,
-        Answer::GaveUp(_) | Answer::Memory | Answer::Refused(_) | Answer::Keeper(_) => None,
-    }
 }
 
 /// Of each of these addresses of peers, whether a datagram came from it.
@@ -280,25 +223,12 @@ fn heard_from(address: Addr, events: &[RoundEvent]) -> bool
     ensures { result ≡ heard_from address events.now }
 {
     for event in events {
-        if is_from_peer(address, *event) {
-            return true;
+        match event {
+            RoundEvent::FromPeer(from) if *from == address => return true,
+            _ => {}
         }
     }
     false
-}
-
-/// Returns `true` if an event is a datagram from this address, a peer's.
-fn is_from_peer(address: Addr, event: RoundEvent) -> bool
-    ensures { result ≡ is_from_peer address event }
-{
-    match event {
-        RoundEvent::FromPeer(from) => from == address,
-        RoundEvent::FromAgent(..)
-        | RoundEvent::StartPoll(_)
-        | RoundEvent::Timeout(_)
-        | RoundEvent::Share(_)
-        | RoundEvent::Save => false,
-    }
 }
 
 /// Returns the notices of the events of a round with these answers.

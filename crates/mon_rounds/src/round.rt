@@ -4,7 +4,7 @@ ghost use Rattle.std.specs.Prelude.{◌≡◌, ◌≤◌, ◌<◌, ◌+◌, ◌-
 ghost use Rattle.mon_rounds.specs.Given.{with_octets};
 ghost use Rattle.mon_rounds.specs.Kept.{most_kept};
 ghost use Rattle.mon_rounds.specs.Orderly.{IsSaving, IsSharing, IsTiming, begun, unbegun};
-ghost use Rattle.mon_rounds.specs.Next.{after_datagram, after_event, after_failure, after_polls, event_from, is_hearing, is_taken, may_time_out, must_receive, next_event, next_wait, phase_ended, quiets_left, save_if, settled, settled_phase, share_at, slot_after, stands_in, timed_out, turns_left, wait_due, wait_in};
+ghost use Rattle.mon_rounds.specs.Next.{after_datagram, after_event, after_failure, after_polls, event_from, is_hearing, is_taken, may_time_out, must_receive, next_event, next_wait, save_if, settled, share_at, slot_after, stands_in, timed_out, turns_left};
 ghost use Rattle.mon_rounds.specs.Order.{AreSoFar, datagrams_in};
 
 use crate::addresses::Addresses;
@@ -45,7 +45,7 @@ pub enum Span {
 pub enum Phase {
     /// The target of this number is polled next.
     Polling(u16),
-    /// Datagrams are received; after a quiet wait the open polls are timed out.
+    /// Datagrams are received; after an idle wait the open polls are timed out.
     AwaitResponses,
     /// Open polls are timed out, the next of them after this request-id; then a wait begins.
     TimingOut(u32),
@@ -146,8 +146,8 @@ impl Model for Round {
 }
 
 impl Round {
-    /// Between two rounds. A wait is over when it was quiet for this many milliseconds, and a poll
-    /// is tried at most so often. Rounds save until `set_saves` says otherwise.
+    /// Between two rounds. A wait is over when it was idle for this many milliseconds, and a poll
+    /// is tried at most `tries` times. Rounds save until `set_saves` says otherwise.
     pub(crate) fn new(
         alloc: Global,
         addresses: Addresses,
@@ -261,32 +261,30 @@ impl Round {
         }
     }
 
-    /// Ends the timeouts after a quiet wait if no further poll is open. It is given the request-id
+    /// Ends the timeouts after an idle wait if no further poll is open. It is given the request-id
     /// of the next open poll.
     pub(crate) fn settle(&mut self, more: Option<u32>)
         ensures state { self.new ≡ settled self.old more }
         ensures turns { turns_left self.new ≡ turns_left self.old }
     {
         let goes_on = more.is_some() && self.timeouts > 0;
-        self.phase = settled_phase(self.phase, goes_on);
-    }
-
-    /// Returns `true` if a datagram must be received next.
-    fn must_receive(&self) -> bool
-        ensures { result ≡ must_receive self.now }
-    {
-        is_hearing(self.phase) && self.datagrams > 0 && self.failures > 0
+        self.phase = match self.phase {
+            Phase::TimingOut(_) if !goes_on => Phase::AwaitResponses,
+            phase => phase,
+        };
     }
 
     /// Returns the wait in which a datagram must be received next, if one must be. It is given what
-    /// became of the last event.
+    /// became of the last event: only a datagram that was taken renews a wait.
     pub(crate) fn next_wait(&self, last: Option<Answer>) -> Option<Wait>
         ensures { result ≡ next_wait self.now last }
     {
-        if self.must_receive() {
-            Some(wait_due(self.wait, last))
-        } else {
-            None
+        if !is_hearing(self.phase) || self.datagrams == 0 || self.failures == 0 {
+            return None;
+        }
+        match self.wait {
+            Wait::Renew if !is_taken(last) => Some(Wait::Rest),
+            wait => Some(wait),
         }
     }
 
@@ -297,7 +295,11 @@ impl Round {
         ensures event { result ≡ with_octets (event_from self.old from) octets }
         ensures turns { turns_left self.new < turns_left self.old }
     {
-        self.wait = wait_in(self.phase);
+        // Between two rounds no wait is renewed.
+        self.wait = match self.phase {
+            Phase::BetweenRounds => Wait::Rest,
+            _ => Wait::Renew,
+        };
         self.datagrams -= 1;
         if self.addresses.is_peer(from) {
             self.events.push_reserved(RoundEvent::FromPeer(from));
@@ -344,7 +346,10 @@ impl Round {
         ensures state { self.new ≡ after_event self.old None }
     {
         self.wait = Wait::Begin(self.wait_ms);
-        self.phase = phase_ended(self.phase);
+        self.phase = match self.phase {
+            Phase::BetweenRounds | Phase::Rested => Phase::Rested,
+            _ => Phase::Over,
+        };
     }
 
     /// Polls this target.
@@ -364,17 +369,8 @@ impl Round {
         OwnedEvent::StartPoll(target)
     }
 
-    /// Returns `true` if there may be a timeout.
-    fn may_time_out(&self) -> bool
-        ensures { result ≡ may_time_out self.now.phase self.now }
-    {
-        match self.phase {
-            Phase::TimingOut(_) => self.timeouts > 0,
-            _ => self.timeouts > 0 && self.quiets > 0,
-        }
-    }
-
-    /// Times out the next open poll. Where none is open, sharing begins.
+    /// Times out the next open poll. Where none is open, or there may be no more timeout, sharing
+    /// begins.
     fn time_out(&mut self, oldest: Option<u32>) -> Option<OwnedEvent>
         requires phase { IsTiming self.old.phase }
         requires later { IfSome oldest (λ id. timed_out self.old.phase < id) }
@@ -382,8 +378,12 @@ impl Round {
         ensures event { result ≡ option_map (λ e. with_octets e []) (after_polls self.old oldest) }
         ensures turns { OnSome result (turns_left self.new < turns_left self.old) }
     {
+        let may_time_out = match self.phase {
+            Phase::TimingOut(_) => self.timeouts > 0,
+            _ => self.timeouts > 0 && self.quiets > 0,
+        };
         match oldest {
-            Some(id) if self.may_time_out() => Some(self.time_out_one(id)),
+            Some(id) if may_time_out => Some(self.time_out_one(id)),
             _ => self.share(0),
         }
     }
@@ -398,7 +398,11 @@ impl Round {
         ensures turns { turns_left self.new < turns_left self.old }
     {
         self.wait = Wait::Begin(self.wait_ms);
-        self.quiets = quiets_left(self.phase, self.quiets);
+        // The first timeout after an idle wait uses it up.
+        self.quiets = match self.phase {
+            Phase::TimingOut(_) => self.quiets,
+            _ => self.quiets.saturating_sub(1),
+        };
         self.phase = Phase::TimingOut(id);
         self.timeouts -= 1;
         self.events.push_reserved(RoundEvent::Timeout(id));
@@ -446,25 +450,14 @@ impl Round {
         ensures event { result ≡ option_map (λ e. with_octets e []) (save_if self.old.saving) }
         ensures turns { OnSome result (turns_left self.new < turns_left self.old) }
     {
-        if self.saving {
-            return Some(self.save());
+        if !self.saving {
+            self.end();
+            return None;
         }
-        self.end();
-        None
-    }
-
-    /// Saves all.
-    fn save(&mut self) -> OwnedEvent
-        requires phase { IsSaving self.old.phase self.old.peers }
-        requires saves { self.old.saving ≡ true }
-        ensures state { self.new ≡ after_event self.old (Some Event.Save) }
-        ensures event { result ≡ Event.Save }
-        ensures turns { turns_left self.new < turns_left self.old }
-    {
         self.wait = Wait::Begin(self.wait_ms);
         self.phase = Phase::Over;
         self.events.push_reserved(RoundEvent::Save);
-        OwnedEvent::Save
+        Some(OwnedEvent::Save)
     }
 }
 
@@ -476,57 +469,6 @@ fn is_hearing(phase: Phase) -> bool
         Phase::AwaitResponses | Phase::AwaitConfirmations | Phase::BetweenRounds => true,
         Phase::Polling(_) | Phase::TimingOut(_) | Phase::Sharing(_) | Phase::Over | Phase::Rested =>
             false,
-    }
-}
-
-/// Returns the phase, by whether a further poll is to be timed out; if none is, the next wait
-/// follows.
-fn settled_phase(phase: Phase, more: bool) -> Phase
-    ensures { result ≡ settled_phase phase more }
-{
-    match phase {
-        Phase::TimingOut(_) if !more => Phase::AwaitResponses,
-        phase => phase,
-    }
-}
-
-/// Returns the phase after one that gives no event: the round, or the time between two, is over.
-fn phase_ended(phase: Phase) -> Phase
-    ensures { result ≡ phase_ended phase }
-{
-    match phase {
-        Phase::BetweenRounds | Phase::Rested => Phase::Rested,
-        _ => Phase::Over,
-    }
-}
-
-/// Returns the wait after a datagram: between two rounds none is renewed.
-fn wait_in(phase: Phase) -> Wait
-    ensures { result ≡ wait_in phase }
-{
-    match phase {
-        Phase::BetweenRounds => Wait::Rest,
-        _ => Wait::Renew,
-    }
-}
-
-/// Returns how many quiet waits with timeouts there may be after a timeout in this phase.
-fn quiets_left(phase: Phase, quiets: u32) -> u32
-    ensures { result ≡ quiets_left phase quiets }
-{
-    match phase {
-        Phase::TimingOut(_) => quiets,
-        _ => quiets.saturating_sub(1),
-    }
-}
-
-/// Returns the wait after a last event with this answer: only a datagram that was taken renews it.
-fn wait_due(wait: Wait, last: Option<Answer>) -> Wait
-    ensures { result ≡ wait_due wait last }
-{
-    match wait {
-        Wait::Renew if !is_taken(last) => Wait::Rest,
-        wait => wait,
     }
 }
 

@@ -38,13 +38,13 @@ impl<R: Receiver + Drop> Rounds<R> {
         // The station was given the events of a whole round, which saves if that was said, or what
         // came between two, and answered them so.
         ensures ran { OnOk result (HasRun (IsWhole span self.old.round self.new.round)
-            (seen station.old (view_of (begun span self.old.round) (R.heard self.old.receiver)
-            (kept_in self.old.latest)) (O.handed outbox.old))
-            (seen station.new (view_of self.new.round (R.heard self.new.receiver) (kept_in self.new.latest)) (O.handed outbox.new)) run.new) }
-        // At most so many waits begin, each as long as a wait is, whatever comes.
+            (seen station.old (view_of (begun span self.old.round) (R.log self.old.receiver)
+            (kept_in self.old.latest)) (O.log outbox.old))
+            (seen station.new (view_of self.new.round (R.log self.new.receiver) (kept_in self.new.latest)) (O.log outbox.new)) run.new) }
+        // At most `most_waits` waits begin, each as long as a wait is, whatever comes.
         ensures waits { OnOk result (GoesOnBy (HasWaits (most_waits span self.old.round)
-            (first_wait span self.old.round.wait_ms)) (R.heard self.old.receiver)
-            (R.heard self.new.receiver)) }
+            (first_wait span self.old.round.wait_ms)) (R.log self.old.receiver)
+            (R.log self.new.receiver)) }
         ensures refused { OnOk result (run.new.refused ≡ faults_in run.new.answers.items) }
         ensures source { OnOk result (R.failures self.new.receiver
             ≡ failures_after run.new.source_faults (R.failures self.old.receiver)) }
@@ -54,7 +54,7 @@ impl<R: Receiver + Drop> Rounds<R> {
         ensures nothing { OnErr result (IsEmpty run.new) }
         // A run that had the capacity once keeps it, and is not refused then.
         ensures spared { 5000 ≤ vec_capacity run.old.answers → IsOk result }
-        ensures room { OnOk result (5000 ≤ vec_capacity run.new.answers) }
+        ensures capacity { OnOk result (5000 ≤ vec_capacity run.new.answers) }
         ensures same { OnErr result (station.new ≡ station.old) }
     {
         self.begin(span);

@@ -31,7 +31,7 @@ impl<'a, R: Ticks, S: Receives> SocketReceiver<'a, R, S> {
     pub fn new(rt: &'a R, alloc: Global, socket: &'a S) -> io::Result<Self>
         ensures failures { IfOk result (λ r. r.failures ≡ 0) }
         ensures over { IfOk result (λ r. r.waiting.timer.milliseconds ≡ 0) }
-        ensures room { IfOk result (λ r. length r.buffer.items ≡ 65507) }
+        ensures buffer { IfOk result (λ r. length r.buffer.items ≡ 65507) }
     {
         Ok(SocketReceiver {
             alloc,
@@ -44,36 +44,18 @@ impl<'a, R: Ticks, S: Receives> SocketReceiver<'a, R, S> {
 }
 
 impl<R: Ticks, S: Receives> SocketReceiver<'_, R, S> {
-    /// Begins a wait, begins its quiet anew, or goes on with it.
+    /// Begins a wait, renews it, or goes on with it.
     fn begin(&mut self, wait: Wait) -> io::Result<()>
         ensures wait { OnOk result (IsTimed (R.told self.old.waiting.rt.now
             self.old.waiting.timer.quiet) wait self.old.waiting.timer self.new.waiting.timer) }
         ensures rt { self.new.waiting.rt ≡ self.old.waiting.rt }
         ensures socket { self.new.socket ≡ self.old.socket }
-        ensures room { self.new.buffer ≡ self.old.buffer }
+        ensures buffer { self.new.buffer ≡ self.old.buffer }
     {
         match wait {
             Wait::Begin(milliseconds) => self.waiting.begin(milliseconds),
             Wait::Renew => self.waiting.renew(),
             Wait::Rest => Ok(()),
-        }
-    }
-
-    /// Receives something in the rest of the wait.
-    fn receive_rest(&mut self) -> Result<Arrival, ReceiverFault>
-        ensures got { IfOk result (IsGot (R.told self.old.waiting.rt.now
-            self.old.waiting.timer.quiet) (S.quiet self.old.socket.now)
-            (S.received self.old.socket.now) self.new.buffer.items self.old.waiting.timer) }
-        ensures waiting { self.new.waiting ≡ self.old.waiting }
-        ensures room { length self.new.buffer.items ≡ length self.old.buffer.items }
-    {
-        match self
-            .waiting
-            .receive(self.socket, self.buffer.as_mut_slice())
-        {
-            Ok(Some((len, from))) => arrival_of(self.alloc, self.buffer.as_slice(), len, from),
-            Ok(None) => Ok(Arrival::Quiet),
-            Err(_) => Err(ReceiverFault),
         }
     }
 
@@ -84,10 +66,17 @@ impl<R: Ticks, S: Receives> SocketReceiver<'_, R, S> {
         ensures got { IfOk result (IsGot (R.told self.old.waiting.rt.now
             self.new.waiting.timer.quiet) (S.quiet self.old.socket.now)
             (S.received self.old.socket.now) self.new.buffer.items self.new.waiting.timer) }
-        ensures room { length self.new.buffer.items ≡ length self.old.buffer.items }
+        ensures buffer { length self.new.buffer.items ≡ length self.old.buffer.items }
     {
-        match self.begin(wait) {
-            Ok(()) => self.receive_rest(),
+        if self.begin(wait).is_err() {
+            return Err(ReceiverFault);
+        }
+        match self
+            .waiting
+            .receive(self.socket, self.buffer.as_mut_slice())
+        {
+            Ok(Some((len, from))) => arrival_of(self.alloc, self.buffer.as_slice(), len, from),
+            Ok(None) => Ok(Arrival::Quiet),
             Err(_) => Err(ReceiverFault),
         }
     }
@@ -117,20 +106,20 @@ impl<R: Ticks, S: Receives> Receiver for SocketReceiver<'_, R, S> {
     ghost use Rattle.mon_udp.specs.Counts.{failed_after};
 
     // What happens at a socket is not known.
-    ghost heard = { λ _. None };
+    ghost log = { λ _. None };
 
     ghost failures = { λ r. r.failures };
 
     fn receive(&mut self, wait: Wait) -> Result<Arrival, ReceiverFault>
         ensures failures { self.new.failures ≡ failed_after result self.old.failures }
-        // The wait begins, or is quiet since, the time that the clock tells in this call.
+        // The wait begins at the time that the clock returns in this call, or is idle since then.
         ensures wait { OnOk result (IsTimed (R.told self.old.waiting.rt.now
             self.old.waiting.timer.quiet) wait self.old.waiting.timer self.new.waiting.timer) }
         // A datagram is the system's; there is none only if the wait is over.
         ensures got { IfOk result (IsGot (R.told self.old.waiting.rt.now
             self.new.waiting.timer.quiet) (S.quiet self.old.socket.now)
             (S.received self.old.socket.now) self.new.buffer.items self.new.waiting.timer) }
-        ensures room { length self.new.buffer.items ≡ length self.old.buffer.items }
+        ensures buffer { length self.new.buffer.items ≡ length self.old.buffer.items }
     {
         let failures = self.failures;
         let received = self.receive_in(wait);
@@ -144,8 +133,8 @@ pub trait Sends {
     ghost use Rattle.std.specs.Prelude.{List, ℕ, OnOk};
     ghost use Rattle.mon_udp.specs.declared.addr.Addr.{Addr as AnyAddr};
 
-    // These octets were sent to this address. Code that is generic over what sends has this from a
-    // call of `send` alone.
+    // These octets were sent to this address. Code that is generic over what sends has this only
+    // from a call of `send`.
     ghost sent: { Self → List ℕ → AnyAddr → Type 0 };
 
     /// Sends a datagram to this address.
@@ -223,7 +212,7 @@ impl<S: Sends> Outbox for SocketOutbox<'_, S> {
     ghost use Rattle.mon_udp.specs.Counts.{failed_after};
 
     // What happens at a socket is not known.
-    ghost handed = { λ _. None };
+    ghost log = { λ _. None };
 
     ghost failures = { λ o. o.failures };
 

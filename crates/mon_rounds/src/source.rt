@@ -45,7 +45,7 @@ impl<R: Receiver + Drop> Drop for Rounds<R> {
 impl<R: Receiver + Drop> Rounds<R> {
     ghost use Rattle.mon_rounds.specs.contracts.source.Rounds.{the_row};
 
-    /// Between two rounds: there is no event until one begins. A wait is over when it was quiet for
+    /// Between two rounds: there is no event until one begins. A wait is over when it was idle for
     /// this many milliseconds; `tries` is how often a poll is sent at most, over all targets.
     pub fn new(
         alloc: Global,
@@ -138,7 +138,7 @@ impl<R: Receiver + Drop> Rounds<R> {
         last: Option<Answer>,
     ) -> Result<Option<OwnedEvent>, SourceFault>
         ensures step { GoesOnBy (λ log. GivesNext self.old.round polls.now.polls.open_polls last log
-            result self.new.round) (R.heard self.old.receiver) (R.heard self.new.receiver) }
+            result self.new.round) (R.log self.old.receiver) (R.log self.new.receiver) }
         ensures failures { R.failures self.new.receiver ≡ failed_after result
             (R.failures self.old.receiver) }
         ensures latest { KeepsGiven self.old.round result (kept_in self.old.latest)
@@ -160,7 +160,7 @@ impl<R: Receiver + Drop> Rounds<R> {
     ) -> Result<Option<OwnedEvent>, SourceFault>
         requires later { IfSome oldest (λ id. timed_out self.old.round.phase < id) }
         ensures step { GoesOnBy (λ log. Receives self.old.round oldest last log result
-            self.new.round) (R.heard self.old.receiver) (R.heard self.new.receiver) }
+            self.new.round) (R.log self.old.receiver) (R.log self.new.receiver) }
         ensures failures { R.failures self.new.receiver ≡ failed_after result
             (R.failures self.old.receiver) }
         ensures latest { KeepsGiven self.old.round result (kept_in self.old.latest)
@@ -185,7 +185,7 @@ impl<R: Receiver + Drop> Rounds<R> {
         requires must { must_receive self.old.round ≡ true }
         requires later { IfSome oldest (λ id. timed_out self.old.round.phase < id) }
         ensures step { GoesOnBy (λ log. Receives self.old.round oldest last log result
-            self.new.round) (R.heard self.old.receiver) (R.heard self.new.receiver) }
+            self.new.round) (R.log self.old.receiver) (R.log self.new.receiver) }
         ensures failures { R.failures self.new.receiver ≡ failed_after result
             (R.failures self.old.receiver) }
         ensures latest { KeepsGiven self.old.round result (kept_in self.old.latest)
@@ -230,7 +230,7 @@ impl<R: Receiver + Drop> Source for Rounds<R> {
     // The round, what its receiver got, if it states that, and the newest datagrams of targets.
     ghost View = { RoundsView };
 
-    ghost view = { λ s. view_of s.round (R.heard s.receiver) (kept_in s.latest) };
+    ghost view = { λ s. view_of s.round (R.log s.receiver) (kept_in s.latest) };
 
     ghost gives = { GivesOn };
 

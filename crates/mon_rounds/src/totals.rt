@@ -110,7 +110,7 @@ impl Totals {
         ensures announcer { OnOk result (self.new.announcer ≡ after_announcing looks
             (changes_since board.now (map (λ w. w.items) self.old.windows.items))
             self.old.announcer) }
-        ensures told { OnOk result (map (λ w. w.items) self.new.windows.items
+        ensures windows { OnOk result (map (λ w. w.items) self.new.windows.items
             ≡ windows_of board.now) }
         ensures kept { OnErr result (IsUnannounced board.now self.old self.new) }
         ensures taken { self.new.taken ≡ self.old.taken }

@@ -43,29 +43,17 @@ fn main(rt: HostRuntime) -> ExitCode {
     }
 }
 
+/// Does what the arguments, of which the first is the program, ask for; without more of them,
+/// prints the answer to each line.
 fn run(rt: &HostRuntime) -> Option<()> {
-    let words: Vec<String> = env::args(rt).ok()?.collect(rt.alloc()).ok()?;
-    do_asked(rt, words.as_slice())
-}
-
-/// Does what the arguments, of which the first is the program, ask for.
-fn do_asked(rt: &HostRuntime, words: &[String]) -> Option<()> {
-    match words.get(1) {
-        Some(word) => job(rt, word, words.get(2..)?),
-        None => rows(rt),
-    }
-}
-
-/// Prints the answer to each line.
-fn rows(rt: &HostRuntime) -> Option<()> {
-    let mut subjects = Subjects::new(rt.alloc())?;
-    subjects.answer_all(rt)
-}
-
-/// Does what the first argument says with those after it.
-fn job(rt: &HostRuntime, word: &str, words: &[String]) -> Option<()> {
     let alloc = rt.alloc();
-    match word {
+    let words: Vec<String> = env::args(rt).ok()?.collect(alloc).ok()?;
+    let Some(word) = words.get(1) else {
+        let mut subjects = Subjects::new(alloc)?;
+        return subjects.answer_all(rt);
+    };
+    let words = words.get(2..)?;
+    match word.as_str() {
         "image-times" => time_images(rt, alloc, words.first()?.parse().ok()?),
         "message-times" => time_messages(rt, alloc, words.first()?.parse().ok()?),
         "track-times" => time_track(rt, alloc, words),

@@ -5,7 +5,7 @@ use mon_codec_rows::Exchange;
 use mon_poller::Poller;
 use mon_station_rows::{Stage, answer_keeper, world};
 use std::alloc::Global;
-use std::io::{BufRead, BufReader, Result as IoResult};
+use std::io::{BufRead, BufReader};
 use std::mem;
 
 /// What lines change: a station's peers and windows, a station over its disk, and a poller.
@@ -44,35 +44,27 @@ impl Subjects {
     pub fn answer_all(&mut self, rt: &HostRuntime) -> Option<()> {
         let alloc = rt.alloc();
         for line in BufReader::new(alloc, rt.reader()).ok()?.lines(alloc) {
-            self.answer_read(rt, line)?;
+            let line = line.ok()?;
+            self.answer(rt, line.as_str())?;
         }
         Some(())
-    }
-
-    fn answer_read(&mut self, rt: &HostRuntime, line: IoResult<String>) -> Option<()> {
-        let line = line.ok()?;
-        self.answer(rt, line.as_str())
     }
 
     /// Does what a line says, and prints what is answered. To `new` nothing is.
     fn answer(&mut self, rt: &HostRuntime, line: &str) -> Option<()> {
         match line {
             "station new" => self.stage.renew(rt.alloc()),
-            "poller new" => self.renew_polls(rt.alloc()),
+            "poller new" => {
+                drop(mem::replace(&mut self.polls, poller(rt.alloc())?));
+                Some(())
+            }
             _ if line.is_empty() || line.starts_with('#') => Some(()),
-            _ => self.print_answer(rt, line),
+            _ => {
+                let mut text = String::new(rt.alloc());
+                self.put_answer(rt, &mut text, line)?;
+                println!(rt; "{text}").ok()
+            }
         }
-    }
-
-    fn renew_polls(&mut self, alloc: Global) -> Option<()> {
-        drop(mem::replace(&mut self.polls, poller(alloc)?));
-        Some(())
-    }
-
-    fn print_answer(&mut self, rt: &HostRuntime, line: &str) -> Option<()> {
-        let mut text = String::new(rt.alloc());
-        self.put_answer(rt, &mut text, line)?;
-        println!(rt; "{text}").ok()
     }
 
     /// Appends what is answered to a line, by its first word.

@@ -1,5 +1,5 @@
 //! An image that is kept from save to save. Where the newest sample came into a full window and the
-//! oldest went, its records are moved by one; so a save writes nothing of such a window anew.
+//! oldest went, its records are moved by one; so a save writes nothing of such a window again.
 
 ghost use Rattle.std.specs.Prelude.{◌≡◌, ◌≤◌, ◌<◌, ◌+◌, ◌*◌, ◌++◌, ◌∷◌, [], ℕ, List, All, IfOk};
 ghost use Rattle.std.specs.Prelude.{IsOk, IsTrue, OnOk, Some, drop, get_or, length, vec_capacity};

@@ -389,7 +389,7 @@ policy_to t p h =
 -- what is outside of the lists
 record IsSystem (t : Members) (s : System) : Type 0 where
   pub listen : Holds key.Listen addr_in t s.listen
-  pub limit : Holds key.Limit (int_in 484 8192) t s.settings.limit
+  pub limit : Holds key.Limit (int_in 484 8192) t s.settings.max_message_size
   pub engine : Holds key.Engine (hex_in 5 32) t s.settings.engine
   pub boots : HoldsOr key.Boots (pos 1) (int_in 1 2147483647) t s.settings.boots
   pub descr : Holds key.Descr (text_in 0 255) t s.settings.descr
@@ -439,7 +439,7 @@ system_of-from t x h =
     let (v7, p7, h8) = bind_from (needed_at key.Services (int_in 0 127) t) _ x h7 in
     let made : System = record {
       listen = v0;
-      settings = record { descr = v4; object_id = v5; services = v7; engine = v2; boots = v3; limit = v1 };
+      settings = record { descr = v4; object_id = v5; services = v7; engine = v2; boots = v3; max_message_size = v1 };
       texts = v6;
     } in
     let is : made ≡ x = ok_same made x h8 in
@@ -461,7 +461,7 @@ system_of-to : (t : Members) (x : System) → IsSystem t x → system_of t ≡ O
 unfolding system_of
 system_of-to t x h =
     bind_to (needed_at key.Listen addr_in t) _ x.listen x (needed_to key.Listen addr_in t _ h.listen)
-    (bind_to (needed_at key.Limit (int_in 484 8192) t) _ x.settings.limit x (needed_to key.Limit (int_in 484 8192) t _ h.limit)
+    (bind_to (needed_at key.Limit (int_in 484 8192) t) _ x.settings.max_message_size x (needed_to key.Limit (int_in 484 8192) t _ h.limit)
     (bind_to (needed_at key.Engine (hex_in 5 32) t) _ x.settings.engine x (needed_to key.Engine (hex_in 5 32) t _ h.engine)
     (bind_to (default_at key.Boots (pos 1) (int_in 1 2147483647) t) _ x.settings.boots x (default_to key.Boots (int_in 1 2147483647) t _ (pos 1) h.boots)
     (bind_to (needed_at key.Descr (text_in 0 255) t) _ x.settings.descr x (needed_to key.Descr (text_in 0 255) t _ h.descr)

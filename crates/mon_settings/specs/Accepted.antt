@@ -128,7 +128,7 @@ pub record IsInterface (t : Members) (p : Interface) : Type 0 where
 pub record IsAgent (t : Members) (a : Agent) : Type 0 where
   pub known : KnowsOnly agent_keys t
   pub listen : Holds key.Listen addr_in t a.listen
-  pub limit : Holds key.Limit (int_in 484 8192) t a.settings.limit
+  pub limit : Holds key.Limit (int_in 484 8192) t a.settings.max_message_size
   pub engine : Holds key.Engine (hex_in 5 32) t a.settings.engine
   pub boots : HoldsOr key.Boots (pos 1) (int_in 1 2147483647) t a.settings.boots
   pub descr : Holds key.Descr (text_in 0 255) t a.settings.descr

@@ -26,7 +26,7 @@ set_texts_of t = do
 unfoldable pub system_of : Members → Result System SettingsFault
 system_of t = do
   listen ← needed_at key.Listen addr_in t
-  limit ← needed_at key.Limit (int_in 484 8192) t
+  max_message_size ← needed_at key.Limit (int_in 484 8192) t
   engine ← needed_at key.Engine (hex_in 5 32) t
   boots ← default_at key.Boots (pos 1) (int_in 1 2147483647) t
   descr ← needed_at key.Descr (text_in 0 255) t
@@ -41,7 +41,7 @@ system_of t = do
       services = services;
       engine = engine;
       boots = boots;
-      limit = limit;
+      max_message_size = max_message_size;
     };
     texts = texts;
   })

@@ -63,7 +63,7 @@ fn read_system(reader: &Reader<'_>) -> Read<System>
     ensures { Reads (λ s. s) (system_of (table_view reader.now.table.now)) result }
 {
     let listen = given!(reader.addr(Key::Listen));
-    let limit = given!(reader.int(Key::Limit, 484, 8192));
+    let max_message_size = given!(reader.int(Key::Limit, 484, 8192));
     let engine = given!(reader.hex(Key::Engine, 5, 32));
     let boots = given!(reader.int_or(Key::Boots, 1, 1, 2147483647));
     let descr = given!(reader.octets(Key::Descr, 0, 255));
@@ -78,7 +78,7 @@ fn read_system(reader: &Reader<'_>) -> Read<System>
             services,
             engine,
             boots,
-            limit,
+            max_message_size,
         },
         texts,
     })

@@ -32,8 +32,8 @@ pub fn refused()
     ensures { (t : Members) (e : SettingsFault) → agent_of t ≡ Err e → IsOfTree e }
 {}
 
-/// Under definitions with no name twice, a text resolves to the identifier that it means, and to
-/// none where it means no identifier.
+/// Under definitions with no name twice, a text resolves to the identifier that it means, and
+/// to `None` if it means no identifier.
 pub fn resolving()
     ensures { (defs : List Definition) → AreDistinct defs → Resolves defs (resolution defs) }
 {

@@ -26,13 +26,13 @@ pub of_9 : (a b c d e f g h i : List ℕ)
     → a ++ (b ++ (c ++ (d ++ (e ++ (f ++ (g ++ (h ++ i))))))) ≡ a ++ b ++ c ++ d ++ e ++ f ++ g ++ h ++ i
 of_9 a b c d e f g h i = of_5 a b c d (e ++ (f ++ (g ++ (h ++ i)))) ∙ of_6 (a ++ b ++ c ++ d) e f g h i
 
--- the same text in another form
+-- a text that was made is equal to any other form of it
 pub reads_as : (made : Result (String Global) AllocError) (text other : List ℕ) → IfOk made (λ t. string_bytes t ≡ text) → text ≡ other
     → IfOk made (λ t. string_bytes t ≡ other)
 reads_as (Ok t) text other is same = is ∙ same
 reads_as (Err e) text other is same = tt
 
--- the words for a file that is none of labels
+-- the text for a file that is no file of labels
 pub other_words : (fault : SurveyFault) → fault ≢ Misread → fault ≢ SameEngine → ((n : ℕ) → fault ≢ TooManyInterfaces n)
     → labels_words fault ≡ codes ": this is no file of labels: a TOML text with [[interface]] tables"
 other_words OutOfMemory misread same many = refl

@@ -74,31 +74,31 @@ AreLongerSettings agents words asked path = Then (Quietly (IsAlone words))
     IsLongerBy agents (source words asked existing.names survey) existing (string_bytes old)))))
 
 -- the folder of a network's settings and the file that lists its machines, if both are given
-abbrev pub site_in : Option (List ℕ) → Option (List ℕ) → Option (List ℕ × List ℕ)
-site_in None machines = None
-site_in (Some folder) None = None
-site_in (Some folder) (Some machines) = Some (folder, machines)
+abbrev pub split_paths_in : Option (List ℕ) → Option (List ℕ) → Option (List ℕ × List ℕ)
+split_paths_in None machines = None
+split_paths_in (Some folder) None = None
+split_paths_in (Some folder) (Some machines) = Some (folder, machines)
 
 -- The settings of a network: modules and machines are read, the agent is asked, and files are
 -- written.
 abbrev pub AreNetworkSettings : Agents → SettingsArgs → AgentOptions → List ℕ × List ℕ → List AtHost
     → Result Unit Failure → Type 0
-AreNetworkSettings agents words asked site = Then (AreNames (map (λ m. m.now) words.modules.now))
-    (λ names. Then (AreMachines site.1 words.stations) (λ machines.
+AreNetworkSettings agents words asked paths = Then (AreNames (map (λ m. m.now) words.modules.now))
+    (λ names. Then (AreMachines paths.1 words.stations) (λ machines.
     Then (IsAsking agents asked) (λ survey.
-    IsNetworkNoted agents (source words asked names survey) site.0 machines.items)))
+    IsNetworkNoted agents (source words asked names survey) paths.0 machines.items)))
 
 -- new settings: those of a network if a folder and machines are given
 abbrev pub AreFreshSettings : Agents → SettingsArgs → AgentOptions → Option (List ℕ × List ℕ)
     → List AtHost → Result Unit Failure → Type 0
 AreFreshSettings agents words asked None = AreNewSettings agents words asked
-AreFreshSettings agents words asked (Some site) = AreNetworkSettings agents words asked site
+AreFreshSettings agents words asked (Some paths) = AreNetworkSettings agents words asked paths
 
 -- new settings, or those in a file with more targets
 abbrev pub AreSettingsFor : Agents → SettingsArgs → AgentOptions → Option (List ℕ) → List AtHost
     → Result Unit Failure → Type 0
 AreSettingsFor agents words asked None = AreFreshSettings agents words asked
-    (site_in (option_copied words.split) (option_copied words.machines))
+    (split_paths_in (option_copied words.split) (option_copied words.machines))
 AreSettingsFor agents words asked (Some path) = AreLongerSettings agents words asked path
 
 -- settings that are there with the agent's interfaces as they are now, whose polls are tried before

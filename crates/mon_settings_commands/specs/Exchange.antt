@@ -48,7 +48,7 @@ pub record AsksBy (Holds : List Exchange → Type 0) (community : List ℕ) (id 
   pub holds : Holds exchanges
   pub explained : GoesOnBy (AreExplained community id exchanges last) before after
 
--- what is made of an answer: its variable bindings, or the failure of the agent that gave none
+-- the result of an answer: its variable bindings, or the failure of the agent that gave none
 abbrev pub IsMadeOf : List ℕ → Result (List Binding) AppFault → Result (Vec Binding) Failure
     → Type 0
 IsMadeOf agent (Ok bindings) (Ok given) = given.items ≡ bindings
@@ -66,7 +66,7 @@ IsExchange asking names log result = log ≡ (record {
   answer = result;
 }) ∷ []
 
--- one question, and what is made of its answer
+-- one question, and the result of its answer
 abbrev pub IsQuestion : List ℕ → Asking → List (List ℕ) → List Exchange
     → Result (Vec Binding) Failure → Type 0
 IsQuestion agent asking names log result = (answer : Result (List Binding) AppFault)

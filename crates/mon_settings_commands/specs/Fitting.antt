@@ -67,7 +67,8 @@ IsFitting agents asked Draft (size ∷ smaller) result = IsLastTried agents aske
     result
     ⊎ (IsTooBigAt agents asked Draft size × IsFitting agents asked Draft smaller result)
 
--- the same from the largest size on, which is 16 objects
+-- Settings are by targets of the largest size, of 16 objects at most, to whose polls the agent does
+-- not answer tooBig.
 abbrev pub AreFitting : Agents → AgentOptions → (TargetSize → Result Drafted Failure → Type 0)
     → Result Drafted Failure → Type 0
 AreFitting agents asked Draft = IsFitting agents asked Draft (sizes_from Sixteen)

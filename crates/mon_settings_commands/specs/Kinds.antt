@@ -24,11 +24,11 @@ with_kind Packets kinds = record kinds { packets = true }
 with_kind Errors kinds = record kinds { errors = true }
 with_kind Discards kinds = record kinds { discards = true }
 
--- the words of a text with commas between them; an empty text has one, which is empty
+-- the parts of a text between its commas; an empty text has one part, which is empty
 abbrev pub words_in : List ℕ → List (List ℕ)
 words_in text = slice_split (λ b. b == 44) text
 
--- the words of the option --only: `octets` and `errors` if it is left out
+-- the names in the option --only: `octets` and `errors` if it is left out
 abbrev pub kind_words : Option (List ℕ) → List (List ℕ)
 kind_words only = words_in (given_or (codes "octets,errors") only)
 

@@ -39,7 +39,7 @@ use Rattle.mon_settings_commands.specs.declared.network.Output.{Output}
 
 -- ---- machines
 
--- the words for why a file lists no machines, after its path; lines are counted from 1
+-- the text for why a file lists no machines, after its path; lines are counted from 1
 abbrev pub machines_words : MachinesFault → List ℕ
 machines_words OutOfMemory = codes ": out of memory"
 machines_words (Malformed n) = codes ": line " ++ (decimal n
@@ -59,8 +59,8 @@ abbrev pub IsOfMachines : List ℕ → MachinesFault → Failure → Type 0
 IsOfMachines path OutOfMemory failure = IsMemory failure
 IsOfMachines path fault failure = IsSaid (App BadText) (path ++ machines_words fault) failure
 
--- The machines that the text of a file lists, enough for groups of so many stations; or why there
--- are none: memory ran out, or the text is at fault.
+-- The machines that the text of a file lists, enough for groups of this many stations; or why
+-- there are none: memory ran out, or the text is at fault.
 abbrev pub AreMachinesIn : (path : List ℕ) (stations : ℕ) (text : List ℕ)
     → Result (Vec Machine) Failure → Type 0
 AreMachinesIn path stations text (Ok machines) =

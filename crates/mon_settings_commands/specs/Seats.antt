@@ -30,7 +30,7 @@ abbrev pub other_at : Seat → ℕ → List (ℕ × List ℕ)
 other_at s k = if k == s.station then []
     else ((k + 1, addr_text (listens (record s { station = k }))) ∷ [])
 
--- of the first stations of a station's group, so many of them, those that are its peers
+-- the peers of a station among the first stations of its group, of which this is the number
 abbrev pub others_of : Seat → ℕ → List (ℕ × List ℕ)
 others_of s zero = []
 others_of s (suc k) = others_of s k ++ other_at s k

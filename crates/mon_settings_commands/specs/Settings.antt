@@ -42,7 +42,7 @@ IsSettingsOf s group size (Err failure) = IsOfOptions failure
     × IsFault s.names (shown_by s.names (length o.modules.now)) choice o s.survey.engine.items
     s.survey.answers fault)
 
--- the words for what is wrong in a file of labels, after its path
+-- the text for what is wrong in a file of labels, after its path
 abbrev pub labels_words : SurveyFault → List ℕ
 labels_words (TooManyInterfaces n) = codes ": " ++ (decimal n
     ++ codes

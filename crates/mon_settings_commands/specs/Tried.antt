@@ -58,7 +58,7 @@ IsUnpolled agent t (AgentStatus status index) = IsSaid (App (AgentStatus status 
 IsUnpolled agent t Timeout = IsSaid (App Timeout) (silent_line agent t)
 IsUnpolled agent t fault = IsUnanswered agent fault
 
--- what is made of an answer to a poll: any without an error status is one
+-- the result of an answer to a poll: success for any answer without an error status
 abbrev pub IsTriedBy : List ℕ → Target → Result (List Binding) AppFault → Result Unit Failure
     → Type 0
 IsTriedBy agent t (Ok bindings) result = result ≡ Ok tt
@@ -66,7 +66,7 @@ IsTriedBy agent t (Err fault) (Ok done) = ⊥
 IsTriedBy agent t (Err fault) (Err failure) = (failure.fault ≡ App fault)
     × IsUnpolled agent t fault failure
 
--- one Get for exactly the names that a poll of the target asks for, and what is made of its answer
+-- one Get for exactly the names that a poll of the target asks for, and the result of its answer
 abbrev pub IsPolled : List ℕ → Target → List Exchange → Result Unit Failure → Type 0
 IsPolled agent t log result = (answer : Result (List Binding) AppFault)
     × (log ≡ (record { asking = Get; names = poll_names t; answer = answer }) ∷ [])

@@ -1,4 +1,4 @@
--- What is asked of a column of interfaces, turn by turn, and what is made of the answers.
+-- What is asked of a column of interfaces, turn by turn, and what the answers result in.
 use Rattle.std.specs.Prelude.{◌≡◌, ◌⊎◌, ◌<◌, ◌≤◌, ℕ, zero, suc, ◌+◌, pos, List, [], ◌∷◌, ◌++◌, Bool}
 use Rattle.std.specs.Prelude.{true, false, Result, Ok, Err, codes, decimal}
 use Rattle.mon_app.specs.Walk.{Exceeds, IsPast, IsUnderStart}
@@ -71,7 +71,7 @@ IsNotTaken agent s b failure = (¬ (Exceeds s.place.last b) × IsOf (App NotIncr
     × ((fault ≡ OutOfMemory) ⊎ (taken s.cells b.name b.value ≡ Err fault))
     × IsOfSurvey fault failure))
 
--- What is made of a variable: it is taken, or it is past the column; or why it is not taken.
+-- The result of a variable: it is taken, or it is past the column; or why it is not taken.
 abbrev pub IsPut : List ℕ → Stand → Binding → Result Turned Failure → Type 0
 IsPut agent s b (Ok (On next)) = IsTaken s b next
 IsPut agent s b (Ok (Over cells)) = IsPast s.place.start b × (cells ≡ s.cells)
@@ -83,7 +83,7 @@ IsLast (Ok (On next)) = ⊥
 IsLast (Ok (Over cells)) = Unit {0}
 IsLast (Err failure) = Unit {0}
 
--- What is made of variables, in their order: each is taken, up to one that ends the walk.
+-- The result of variables, in their order: each is taken, up to one that ends the walk.
 abbrev pub ArePut : List ℕ → Stand → List Binding → Result Turned Failure → Type 0
 ArePut agent s [] result = result ≡ Ok (On s)
 ArePut agent s (b ∷ bs) result = (IsLast result × IsPut agent s b result)
@@ -94,7 +94,7 @@ abbrev pub IsNotIncreasing : Result Turned Failure → Type 0
 IsNotIncreasing (Ok next) = ⊥
 IsNotIncreasing (Err failure) = IsOf (App NotIncreasing) failure
 
--- what is made of a reply: the same; one without a variable does not increase
+-- the result of a reply: that of its variables; a reply without a variable does not increase
 abbrev pub IsReplyPut : List ℕ → Stand → List Binding → Result Turned Failure → Type 0
 IsReplyPut agent s [] result = IsNotIncreasing result
 IsReplyPut agent s (b ∷ bs) result = ArePut agent s (b ∷ bs) result

@@ -71,7 +71,7 @@ pub(crate) fn ask_agent<N: Opens, H: Host>(
     asked: AgentOptions<'_>,
 ) -> Result<Survey, Failure>
     ensures { GoesOnBy (λ log. IsAsking (agents_by (N.has_opened net.now) (N.has_failed net.now)
-        N.Wire.told)
+        N.Wire.log)
         asked.entry log result) (H.log host.old) (H.log host.new) }
 {
     let survey = survey_at(alloc, net, asked)?;
@@ -105,7 +105,7 @@ fn note_count<H: Host>(host: &mut H, agent: &str, number: u32, count: usize)
 
 /// Asks the agent for its engine and its interfaces, by a wire of its own.
 fn survey_at<N: Opens>(alloc: Global, net: &N, asked: AgentOptions<'_>) -> Result<Survey, Failure>
-    ensures { IsSurveyed (agents_by (N.has_opened net.now) (N.has_failed net.now) N.Wire.told)
+    ensures { IsSurveyed (agents_by (N.has_opened net.now) (N.has_failed net.now) N.Wire.log)
         asked.entry result }
 {
     let mut asker = open(alloc, net, asked)?;
@@ -130,7 +130,7 @@ pub(crate) fn open<N: Opens>(
     ensures opened { IfOk result (λ asker. N.has_opened net.now asked.entry.agent.address
         asker.wire) }
     ensures refused { IfErr result (IsUnwired (agents_by (N.has_opened net.now)
-        (N.has_failed net.now) N.Wire.told) asked.entry.agent) }
+        (N.has_failed net.now) N.Wire.log) asked.entry.agent) }
 {
     match net.open(asked.agent.address) {
         Ok(wire) => Ok(Asker { wire, last_id: 0 }),
@@ -159,7 +159,7 @@ pub(crate) fn exchange<W: Wire>(
 ) -> Result<Bindings, AppFault>
     ensures { AsksBy (λ log. IsExchange asking.entry names.now log result)
         community.now asker.old.last_id asker.new.last_id
-        (W.told asker.old.wire) (W.told asker.new.wire) }
+        (W.log asker.old.wire) (W.log asker.new.wire) }
 {
     let id = next_id(asker.last_id);
     asker.last_id = id;
@@ -186,7 +186,7 @@ fn ask<W: Wire>(
     ensures { AsksBy (λ log. IsQuestion asked.entry.agent.word.now asking.entry names.now log
         result)
         asked.entry.community.now asker.old.last_id asker.new.last_id
-        (W.told asker.old.wire) (W.told asker.new.wire) }
+        (W.log asker.old.wire) (W.log asker.new.wire) }
 {
     match exchange(alloc, asker, asked.community, asking, names) {
         Ok(bindings) => Ok(bindings.into_vec()),
@@ -226,7 +226,7 @@ fn survey_by<W: Wire>(
 ) -> Result<Survey, Failure>
     ensures { AsksBy (λ log. IsSurvey asked.entry.agent.word.now asked.entry.kinds log result)
         asked.entry.community.now asker.old.last_id asker.new.last_id
-        (W.told asker.old.wire) (W.told asker.new.wire) }
+        (W.log asker.old.wire) (W.log asker.new.wire) }
 {
     let Head { engine, number } = first(alloc, asker, asked)?;
     let mut answers = Answers::new(alloc);
@@ -254,7 +254,7 @@ fn first<W: Wire>(
 ) -> Result<Head, Failure>
     ensures { AsksBy (λ log. IsHead asked.entry.agent.word.now log result)
         asked.entry.community.now asker.old.last_id asker.new.last_id
-        (W.told asker.old.wire) (W.told asker.new.wire) }
+        (W.log asker.old.wire) (W.log asker.new.wire) }
 {
     let bindings = ask_first(alloc, asker, asked)?;
     head_in(alloc, asked.agent.word, &bindings)
@@ -270,7 +270,7 @@ fn require_engine<W: Wire>(
 ) -> Result<(), Failure>
     ensures { AsksBy (λ log. IsSameEngine asked.entry.agent.word.now engine.now log result)
         asked.entry.community.now asker.old.last_id asker.new.last_id
-        (W.told asker.old.wire) (W.told asker.new.wire) }
+        (W.log asker.old.wire) (W.log asker.new.wire) }
 {
     let bindings = ask_first(alloc, asker, asked)?;
     still_engine(alloc, asked.agent.word, engine, &bindings)
@@ -284,7 +284,7 @@ fn ask_first<W: Wire>(
 ) -> Result<Vec<Binding>, Failure>
     ensures { AsksBy (λ log. IsFirstAsked asked.entry.agent.word.now log result)
         asked.entry.community.now asker.old.last_id asker.new.last_id
-        (W.told asker.old.wire) (W.told asker.new.wire) }
+        (W.log asker.old.wire) (W.log asker.new.wire) }
 {
     let names = first_names(alloc)?;
     ask(alloc, asker, asked, Asking::Get, &names)
@@ -329,7 +329,7 @@ fn walk_columns<W: Wire>(
     ensures { AsksBy (λ log. AreWalked asked.entry.agent.word.now asked.entry.kinds columns
         answers.old log (with_cells answers.new result))
         asked.entry.community.now asker.old.last_id asker.new.last_id
-        (W.told asker.old.wire) (W.told asker.new.wire) }
+        (W.log asker.old.wire) (W.log asker.new.wire) }
 {
     let columns = columns();
     for column in columns.as_slice() {
@@ -349,7 +349,7 @@ fn walk_if_needed<W: Wire>(
     ensures { AsksBy (λ log. IsWalkIf (needs asked.entry.kinds column) asked.entry.agent.word.now
         column answers.old log (with_cells answers.new result))
         asked.entry.community.now asker.old.last_id asker.new.last_id
-        (W.told asker.old.wire) (W.told asker.new.wire) }
+        (W.log asker.old.wire) (W.log asker.new.wire) }
 {
     if asked.kinds.needs(column) {
         walk(alloc, asker, asked, column, answers)
@@ -369,7 +369,7 @@ fn walk<W: Wire>(
     ensures { AsksBy (λ log. IsWalk asked.entry.agent.word.now column answers.old log
         (with_cells answers.new result))
         asked.entry.community.now asker.old.last_id asker.new.last_id
-        (W.told asker.old.wire) (W.told asker.new.wire) }
+        (W.log asker.old.wire) (W.log asker.new.wire) }
 {
     let mut place = Place::at(alloc, column)?;
     // Each step takes a variable at least, so there are no more steps than variables.
@@ -392,7 +392,7 @@ fn step<W: Wire>(
     ensures { AsksBy (λ log. IsTurn asked.entry.agent.word.now (stand place.old answers.old) log
         (turned (stand place.new answers.new) result))
         asked.entry.community.now asker.old.last_id asker.new.last_id
-        (W.told asker.old.wire) (W.told asker.new.wire) }
+        (W.log asker.old.wire) (W.log asker.new.wire) }
 {
     let asking = Asking::GetBulk(Repeats {
         non_repeaters: 0,

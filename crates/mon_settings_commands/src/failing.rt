@@ -111,7 +111,7 @@ fn machines_text(alloc: Global, path: &str, fault: MachinesFault) -> Result<Stri
     }
 }
 
-/// Why a network has no ports for so many groups from its first one on.
+/// Returns why a network has no ports for this many groups from its first one on.
 pub(crate) fn unported_failure(alloc: Global, first: u32, groups: u32) -> Failure
     ensures { IsSaid (App AppFault.BadText) (unported_line first groups) result }
 {

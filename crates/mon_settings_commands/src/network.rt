@@ -5,7 +5,7 @@ ghost use Rattle.mon_app.specs.Network.{agents_by};
 ghost use Rattle.mon_console.specs.Failure.{IsMemory};
 ghost use Rattle.mon_host.specs.Log.{GoesOnBy};
 ghost use Rattle.mon_placing.specs.Network.{ArePlaced, IsSeat, seat_at, targets_text, units_text};
-ghost use Rattle.mon_settings_commands.specs.Command.{AreNetworkSettings, site_in};
+ghost use Rattle.mon_settings_commands.specs.Command.{AreNetworkSettings, split_paths_in};
 ghost use Rattle.mon_settings_commands.specs.Fitting.{AreFitting};
 ghost use Rattle.mon_settings_commands.specs.Network.{AreFilesOf, AreNumbers, AreSeatFiles, Each, IsFileWritten, IsFree, IsList, IsNetwork, IsNetworkOf, IsNetworkPut, IsNoted, IsPathPrinted, IsSeatFile, IsUnported, list_path, targets_path, units_path};
 ghost use Rattle.mon_settings_commands.specs.Parts.{HasGroups, HasNoPlan};
@@ -37,21 +37,21 @@ const MAX_SUM: u64 = 65_537;
 
 /// Where the settings of a network go, and the file that lists its machines.
 #[derive(Clone, Copy)]
-pub(crate) struct Site<'a> {
+pub(crate) struct SplitPaths<'a> {
     folder: &'a str,
     machines: &'a str,
 }
 
 /// Returns where the settings of a network go, if a folder and machines are given.
-pub(crate) fn site_of<'a>(words: &SettingsArgs<'_, 'a>) -> Option<Site<'a>>
+pub(crate) fn split_paths_of<'a>(words: &SettingsArgs<'_, 'a>) -> Option<SplitPaths<'a>>
     ensures { option_map (λ s. (s.folder.now, s.machines.now)) result
-        ≡ site_in (option_copied words.now.split) (option_copied words.now.machines) }
+        ≡ split_paths_in (option_copied words.now.split) (option_copied words.now.machines) }
 {
     let Some(folder) = words.split else {
         return None;
     };
     match words.machines {
-        Some(machines) => Some(Site { folder, machines }),
+        Some(machines) => Some(SplitPaths { folder, machines }),
         None => None,
     }
 }
@@ -60,7 +60,7 @@ pub(crate) fn site_of<'a>(words: &SettingsArgs<'_, 'a>) -> Option<Site<'a>>
 #[derive(Clone, Copy)]
 pub(crate) struct Layout<'m, 'a> {
     pub(crate) words: &'m SettingsArgs<'m, 'a>,
-    pub(crate) site: Site<'a>,
+    pub(crate) paths: SplitPaths<'a>,
 }
 
 /// Writes the settings of a network: reads the machines, asks the agent, and places the stations of
@@ -74,13 +74,13 @@ pub(crate) fn print_network<N: Opens, H: Host>(
 ) -> Result<(), Failure>
     requires { AreNumbers layout.words.now }
     ensures { GoesOnBy (λ log. AreNetworkSettings (agents_by (N.has_opened net.now)
-        (N.has_failed net.now) N.Wire.told) layout.entry.words.now asked.entry
-        (layout.entry.site.folder.now, layout.entry.site.machines.now) log result)
+        (N.has_failed net.now) N.Wire.log) layout.entry.words.now asked.entry
+        (layout.entry.paths.folder.now, layout.entry.paths.machines.now) log result)
         (H.log host.old) (H.log host.new) }
 {
-    let Layout { words, site } = layout;
+    let Layout { words, paths } = layout;
     let names = names_of(alloc, host, words.modules)?;
-    let machines = machines_at(alloc, host, site.machines, words.stations)?;
+    let machines = machines_at(alloc, host, paths.machines, words.stations)?;
     let survey = ask_agent(alloc, host, net, asked)?;
     let input = Input {
         words,
@@ -88,7 +88,7 @@ pub(crate) fn print_network<N: Opens, H: Host>(
         names: &names,
         survey: &survey,
     };
-    let files = files_of(site.folder, words, machines.as_slice());
+    let files = files_of(paths.folder, words, machines.as_slice());
     write_noted(alloc, host, net, &input, files)
 }
 
@@ -127,7 +127,7 @@ fn write_noted<N: Opens, H: Host>(
 ) -> Result<(), Failure>
     requires { IsNetwork files.network }
     ensures { GoesOnBy (λ log. IsNoted (agents_by (N.has_opened net.now) (N.has_failed net.now)
-        N.Wire.told) (source_in input.now) files.entry.folder.now files.entry.network log result)
+        N.Wire.log) (source_in input.now) files.entry.folder.now files.entry.network log result)
         (H.log host.old) (H.log host.new) }
 {
     write_network(alloc, host, net, input, files)?;
@@ -147,7 +147,7 @@ fn write_network<N: Opens, H: Host>(
 ) -> Result<(), Failure>
     requires { IsNetwork files.network }
     ensures { GoesOnBy (λ log. IsNetworkPut (agents_by (N.has_opened net.now)
-        (N.has_failed net.now) N.Wire.told) (source_in input.now) files.entry.folder.now
+        (N.has_failed net.now) N.Wire.log) (source_in input.now) files.entry.folder.now
         files.entry.network log result)
         (H.log host.old) (H.log host.new) }
 {
@@ -256,7 +256,7 @@ fn outputs_of<N: Opens>(
     files: Files<'_>,
 ) -> Result<Vec<Output>, Failure>
     requires { IsNetwork files.network }
-    ensures { AreFilesOf (agents_by (N.has_opened net.now) (N.has_failed net.now) N.Wire.told)
+    ensures { AreFilesOf (agents_by (N.has_opened net.now) (N.has_failed net.now) N.Wire.log)
         (source_in input.now) files.entry.folder.now files.entry.network result }
 {
     let groups = placed_groups(alloc, input, files.network)?;
@@ -281,7 +281,7 @@ fn placed_groups(alloc: Global, input: &Input<'_, '_>, network: Network<'_>) -> 
     Ok(groups)
 }
 
-/// Returns `true` if so many groups of a network have ports to listen at.
+/// Returns `true` if this many groups of a network have ports to listen at.
 fn have_ports(network: Network<'_>, groups: u32) -> bool
     ensures { result ≡ nat_le (network.entry.port + network.entry.first + groups) 65537 }
 {
@@ -299,12 +299,12 @@ fn seats_of<N: Opens>(
     requires network { IsNetwork files.network }
     requires placed { ArePlaced files.network groups }
     ensures each { IfOk result (λ seats. AreSeatFiles (agents_by (N.has_opened net.now)
-        (N.has_failed net.now) N.Wire.told) (source_in input.now) files.entry.folder.now
+        (N.has_failed net.now) N.Wire.log) (source_in input.now) files.entry.folder.now
         files.entry.network 0 seats.items) }
     ensures all { IfOk result (λ seats. length seats.items
         ≡ groups * files.entry.network.stations) }
     ensures refused { IfErr result (λ failure. IsMemory failure ⊎ ((place : ℕ) × AreFitting
-        (agents_by (N.has_opened net.now) (N.has_failed net.now) N.Wire.told) input.now.asked
+        (agents_by (N.has_opened net.now) (N.has_failed net.now) N.Wire.log) input.now.asked
         (IsSeatSettings (source_in input.now) (seat_at files.entry.network place))
         (Err failure))) }
 {
@@ -330,10 +330,10 @@ fn seat_output<N: Opens>(
     requires small { place < 2 ^ 32 }
     requires some { 1 ≤ files.network.stations }
     ensures file { IfOk result (IsSeatFile (agents_by (N.has_opened net.now)
-        (N.has_failed net.now) N.Wire.told) (source_in input.now) files.entry.folder.now
+        (N.has_failed net.now) N.Wire.log) (source_in input.now) files.entry.folder.now
         files.entry.network place) }
     ensures refused { IfErr result (λ failure. IsMemory failure ⊎ AreFitting
-        (agents_by (N.has_opened net.now) (N.has_failed net.now) N.Wire.told) input.now.asked
+        (agents_by (N.has_opened net.now) (N.has_failed net.now) N.Wire.log) input.now.asked
         (IsSeatSettings (source_in input.now) (seat_at files.entry.network place))
         (Err failure)) }
 {

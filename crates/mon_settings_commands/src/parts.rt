@@ -35,7 +35,7 @@ pub(crate) fn write_parts<N: Opens, H: Host>(
     folder: &str,
 ) -> Result<(), Failure>
     ensures { GoesOnBy (λ log. AreParts (agents_by (N.has_opened net.now) (N.has_failed net.now)
-        N.Wire.told)
+        N.Wire.log)
         (source_in input.now) folder.now log result)
         (H.log host.old) (H.log host.new) }
 {
@@ -114,7 +114,7 @@ fn parts_of<N: Opens>(
     net: &N,
     input: &Input<'_, '_>,
 ) -> Result<Vec<Drafted>, Failure>
-    ensures { AreParted (agents_by (N.has_opened net.now) (N.has_failed net.now) N.Wire.told)
+    ensures { AreParted (agents_by (N.has_opened net.now) (N.has_failed net.now) N.Wire.log)
         (source_in input.now) result }
 {
     let groups = groups_of(alloc, input)?;
@@ -136,10 +136,10 @@ fn add_part<N: Opens>(
     requires { group < 65536 }
     ensures added { OnOk result ((part : AnyDrafted) × (parts.new.items
         ≡ parts.old.items ++ part ∷ []) × AreFitting (agents_by (N.has_opened net.now)
-        (N.has_failed net.now) N.Wire.told) input.now.asked
+        (N.has_failed net.now) N.Wire.log) input.now.asked
         (IsSettingsOf (source_in input.now) (Some group)) (Ok part)) }
     ensures refused { IfErr result (λ failure. IsMemory failure
-        ⊎ AreFitting (agents_by (N.has_opened net.now) (N.has_failed net.now) N.Wire.told)
+        ⊎ AreFitting (agents_by (N.has_opened net.now) (N.has_failed net.now) N.Wire.log)
         input.now.asked (IsSettingsOf (source_in input.now) (Some group)) (Err failure)) }
 {
     let part = fit(

@@ -6,7 +6,7 @@ ghost use Rattle.mon_app.specs.Network.{agents_by};
 ghost use Rattle.mon_host.specs.Log.{GoesOnBy};
 ghost use Rattle.mon_settings_commands.specs.Appended.{IsAlone, IsAppendedOf, IsLonger, IsPutLonger};
 ghost use Rattle.mon_settings_commands.specs.AgentOptions.{IsAsked};
-ghost use Rattle.mon_settings_commands.specs.Command.{AreFreshSettings, AreLongerSettings, AreNewSettings, AreNewTexts, ArePutTexts, AreSettings, AreSettingsFor, IsWhole, site_in};
+ghost use Rattle.mon_settings_commands.specs.Command.{AreFreshSettings, AreLongerSettings, AreNewSettings, AreNewTexts, ArePutTexts, AreSettings, AreSettingsFor, IsWhole, split_paths_in};
 ghost use Rattle.mon_settings_commands.specs.Network.{AreNumbers};
 ghost use Rattle.mon_settings_commands.specs.Settings.{IsDraftPrinted, IsSettingsOf, up_of};
 ghost use Rattle.mon_settings_commands.specs.Source.{source_in};
@@ -17,7 +17,7 @@ use crate::asking::{Survey, ask_agent};
 use crate::existing::{Existing, existing_in};
 use crate::failing::{survey_failure, together_failure};
 use crate::labelling::{old_labels, write_labels};
-use crate::network::{Layout, print_network, site_of};
+use crate::network::{Layout, print_network, split_paths_of};
 use crate::noting::{note_speeds, print_noted};
 use crate::parts::write_parts;
 use crate::trying::{Wish, fit};
@@ -55,7 +55,7 @@ pub fn print_settings<N: Opens, H: Host>(
 ) -> Result<(), Failure>
     requires { AreNumbers words }
     ensures { GoesOnBy (λ log. AreSettings (agents_by (N.has_opened net.now) (N.has_failed net.now)
-        N.Wire.told)
+        N.Wire.log)
         words.entry log result)
         (H.log host.old) (H.log host.new) }
 {
@@ -82,7 +82,7 @@ fn print_others<N: Opens, H: Host>(
 ) -> Result<(), Failure>
     requires { AreNumbers words.now }
     ensures { GoesOnBy (λ log. AreSettingsFor (agents_by (N.has_opened net.now)
-        (N.has_failed net.now) N.Wire.told)
+        (N.has_failed net.now) N.Wire.log)
         words.now asked.entry (option_copied words.now.append) log result)
         (H.log host.old) (H.log host.new) }
 {
@@ -105,13 +105,13 @@ fn print_fresh<N: Opens, H: Host>(
 ) -> Result<(), Failure>
     requires { AreNumbers words.now }
     ensures { GoesOnBy (λ log. AreFreshSettings (agents_by (N.has_opened net.now)
-        (N.has_failed net.now) N.Wire.told)
-        words.now asked.entry (site_in (option_copied words.now.split)
+        (N.has_failed net.now) N.Wire.log)
+        words.now asked.entry (split_paths_in (option_copied words.now.split)
         (option_copied words.now.machines)) log result)
         (H.log host.old) (H.log host.new) }
 {
-    match site_of(words) {
-        Some(site) => print_network(alloc, host, net, Layout { words, site }, asked),
+    match split_paths_of(words) {
+        Some(paths) => print_network(alloc, host, net, Layout { words, paths }, asked),
         None => print_new(alloc, host, net, words, asked),
     }
 }
@@ -161,7 +161,7 @@ fn print_new<N: Opens, H: Host>(
     asked: AgentOptions<'_>,
 ) -> Result<(), Failure>
     ensures { GoesOnBy (λ log. AreNewSettings (agents_by (N.has_opened net.now)
-        (N.has_failed net.now) N.Wire.told)
+        (N.has_failed net.now) N.Wire.log)
         words.now asked.entry log result)
         (H.log host.old) (H.log host.new) }
 {
@@ -184,7 +184,7 @@ fn write_new<N: Opens, H: Host>(
     input: &Input<'_, '_>,
 ) -> Result<(), Failure>
     ensures { GoesOnBy (λ log. AreNewTexts (agents_by (N.has_opened net.now) (N.has_failed net.now)
-        N.Wire.told)
+        N.Wire.log)
         (source_in input.now) log result)
         (H.log host.old) (H.log host.new) }
 {
@@ -201,7 +201,7 @@ fn put_texts<N: Opens, H: Host>(
     input: &Input<'_, '_>,
 ) -> Result<(), Failure>
     ensures { GoesOnBy (λ log. ArePutTexts (agents_by (N.has_opened net.now) (N.has_failed net.now)
-        N.Wire.told)
+        N.Wire.log)
         (source_in input.now) log result)
         (H.log host.old) (H.log host.new) }
 {
@@ -228,7 +228,7 @@ fn print_whole<N: Opens, H: Host>(
     input: &Input<'_, '_>,
 ) -> Result<(), Failure>
     ensures { GoesOnBy (λ log. IsWhole (agents_by (N.has_opened net.now) (N.has_failed net.now)
-        N.Wire.told)
+        N.Wire.log)
         (source_in input.now) log result)
         (H.log host.old) (H.log host.new) }
 {
@@ -266,7 +266,7 @@ fn print_appended<N: Opens, H: Host>(
     asked: AgentOptions<'_>,
 ) -> Result<(), Failure>
     ensures { GoesOnBy (λ log. AreLongerSettings (agents_by (N.has_opened net.now)
-        (N.has_failed net.now) N.Wire.told)
+        (N.has_failed net.now) N.Wire.log)
         addition.entry.words.now asked.entry addition.entry.path.now log result)
         (H.log host.old) (H.log host.new) }
 {

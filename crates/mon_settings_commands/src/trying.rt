@@ -49,7 +49,7 @@ pub(crate) fn fit<N: Opens>(
     size: TargetSize,
 ) -> Result<Drafted, Failure>
     requires { IsWish wish }
-    ensures { IsFitting (agents_by (N.has_opened net.now) (N.has_failed net.now) N.Wire.told)
+    ensures { IsFitting (agents_by (N.has_opened net.now) (N.has_failed net.now) N.Wire.log)
         input.now.asked (IsDraft (source_in input.now) wish.entry) (sizes_from size) result }
 {
     let drafted = draft(alloc, input, wish, size)?;
@@ -100,7 +100,7 @@ fn try_polls<N: Opens>(
     asked: AgentOptions<'_>,
     targets: &[Target],
 ) -> Result<(), Failure>
-    ensures { IsTrial (agents_by (N.has_opened net.now) (N.has_failed net.now) N.Wire.told)
+    ensures { IsTrial (agents_by (N.has_opened net.now) (N.has_failed net.now) N.Wire.log)
         asked.entry targets.now result }
 {
     let mut asker = open(alloc, net, asked)?;
@@ -116,7 +116,7 @@ fn try_targets<W: Wire>(
 ) -> Result<(), Failure>
     ensures { AsksBy (λ log. AreTried asked.entry.agent.word.now targets.now log result)
         asked.entry.community.now asker.old.last_id asker.new.last_id
-        (W.told asker.old.wire) (W.told asker.new.wire) }
+        (W.log asker.old.wire) (W.log asker.new.wire) }
 {
     let [first, rest @ ..] = targets else {
         return Ok(());
@@ -134,7 +134,7 @@ fn try_target<W: Wire>(
 ) -> Result<(), Failure>
     ensures { AsksBy (λ log. IsTried asked.entry.agent.word.now target.now log result)
         asked.entry.community.now asker.old.last_id asker.new.last_id
-        (W.told asker.old.wire) (W.told asker.new.wire) }
+        (W.log asker.old.wire) (W.log asker.new.wire) }
 {
     let names = poll_names(alloc, target)?;
     match exchange(alloc, asker, asked.community, Asking::Get, &names) {

@@ -50,7 +50,7 @@ pub(crate) fn print_updated<N: Opens, H: Host>(
     asked: AgentOptions<'_>,
 ) -> Result<(), Failure>
     ensures { GoesOnBy (λ log. AreUpdatedSettings (agents_by (N.has_opened net.now)
-        (N.has_failed net.now) N.Wire.told)
+        (N.has_failed net.now) N.Wire.log)
         addition.entry.words.now asked.entry addition.entry.path.now log result)
         (H.log host.old) (H.log host.new) }
 {
@@ -82,7 +82,7 @@ fn write_updated<N: Opens, H: Host>(
     old: Old<'_>,
 ) -> Result<(), Failure>
     ensures { GoesOnBy (λ log. IsUpdatedBy (agents_by (N.has_opened net.now) (N.has_failed net.now)
-        N.Wire.told)
+        N.Wire.log)
         (source_in input.now) old.entry.existing.now old.entry.labels.now log result)
         (H.log host.old) (H.log host.new) }
 {

@@ -1,5 +1,5 @@
 -- The labels of identifiers: how a map of them is filled, and how the longest is found.
-use Rattle.std.proofs.Common.{◌≡◌, ◌≢◌, ℕ, zero, suc, ◌+◌, ◌-◌, ◌<◌, ◌≤◌, ◌^◌, Bool, true, false, cond, List, [], ◌∷◌, ◌++◌, length, get_or, take, drop, Option, Some, None, sym, refl, ap, ◌∙◌, subst, arith, append-nil, append_assoc, length-drop, Bor}
+use Rattle.std.proofs.Common.{◌≡◌, ◌≢◌, ℕ, zero, suc, ◌+◌, ◌-◌, ◌<◌, ◌≤◌, ◌^◌, ◌⊎◌, inl, inr, ⊎_elim, Bool, true, false, cond, List, [], ◌∷◌, ◌++◌, length, get_or, take, drop, Option, Some, None, sym, refl, ap, ◌∙◌, subst, arith, append-nil, append_assoc, length-drop, Bor}
 use Rattle.std.specs.Prelude.{if◌then◌else◌, decimal}
 use Rattle.std.specs.Option.{option_map, option_map_or}
 use Rattle.std.specs.Ordering.{nat_cmp, is_eq}
@@ -9,6 +9,7 @@ use Rattle.std.specs.Cmp.Lexicographic.{slice_cmp, nat_list_cmp_total, nat_list_
 use Rattle.std.specs.BTreeMap.{BTreeMap, Updates, get_by}
 use Rattle.std.specs.Map.{lookup, IsKeyTest, AreApart, KeepsOthers}
 use Rattle.std.specs.Global.{Vec}
+use Rattle.std.proofs.lemmas.Bool.{cases_lt}
 use Rattle.std.proofs.lemmas.List.{length-take-le, get_or-take, take_all}
 use Rattle.std.proofs.lemmas.List.Elements.{All-take}
 use Rattle.std.proofs.lemmas.List.Sums.{fold-append}
@@ -21,7 +22,7 @@ use Rattle.mon_smi.specs.declared.fault.NamesFault.TheVariants.{OutOfMemory}
 use Rattle.mon_smi.specs.Names.{AreDistinct, StandsFor, IsFaultOfName}
 use Rattle.mon_smi.specs.Parents.{numbers_of}
 use Rattle.mon_smi.specs.Nearest.{dotted_after}
-use Rattle.mon_smi.specs.Labels.{is_name_for, is_known, lesser, label_among, label_of, longest, found_at, AreLabels, IsAdded, IsPut, is_meant, name_text, named_by}
+use Rattle.mon_smi.specs.Labels.{is_name_for, is_known, lesser, label_among, label_of, longest, found_at, AreLabels, AreWithin, IsAdded, IsPut, is_meant, name_text, named_by}
 use Rattle.mon_smi.proofs.Indexed.{more_is}
 use Rattle.mon_smi.proofs.Nearness.{no_cover}
 use Rattle.mon_smi.proofs.Standing.{numbers_are}
@@ -140,6 +141,38 @@ pub longest_none : (label : List ℕ → Option (List ℕ)) (oid : List ℕ) (n 
 longest_none label oid zero small = refl
 longest_none label oid (suc zero) small = refl
 longest_none label oid (suc (suc k)) small = absurd (omega arith)
+
+-- lengths of which no beginning has a label are passed over
+pub longest_within : (label : List ℕ → Option (List ℕ)) (oid : List ℕ) (k d n : ℕ) → n ≡ d + k → ((m : ℕ) → 2 ≤ m → k < m → m ≤ n → label (take m oid) ≡ None) → longest label oid n ≡ longest label oid k
+longest_within label oid k zero n is none =
+    let same : n ≡ k = omega (arith, is) in
+    ap (longest label oid) same
+longest_within label oid k (suc d) n is none =
+    step (cases_lt n 2) ∙ longest_within label oid k d (n - 1) (omega (arith, is)) (λ m two lt le. none m two lt (omega (arith, le)))
+  where
+    step : (n < 2) ⊎ (2 ≤ n) → longest label oid n ≡ longest label oid (n - 1)
+    step (inl small) = longest_none label oid n small ∙ sym (longest_none label oid (n - 1) (omega (arith, small)))
+    step (inr big) = longest_less label oid n big (none n big (omega (arith, is)) (omega arith))
+
+-- no beginning of an identifier that is longer than all with a label is looked for
+pub within_map : (defs : List Definition) (labels : BTreeMap (Vec ℕ) (Bor (List ℕ))) (oid : List ℕ) (bound k : ℕ) → AreLabels defs defs labels → AreWithin bound labels → IsOid oid → k ≤ length oid → (bound ≤ k) ⊎ (length oid ≤ k) → longest (label_of defs) oid (length oid) ≡ longest (label_of defs) oid k
+within_map defs labels oid bound k are within is le reach =
+    longest_within (label_of defs) oid k (length oid - k) (length oid) (omega (arith, le))
+    (λ m two lt fits. ⊎_elim
+    (λ bounded.
+    sym (are (take m oid) (begins oid m is two fits))
+    ∙ within (take m oid) (subst (λ (n : ℕ). bound < n) (sym (length-take-le m oid fits)) (omega (arith, bounded, lt))))
+    (λ all. absurd (omega (arith, all, lt, fits)))
+    reach)
+
+-- what holds of a map's labels holds with any greater bound
+pub widened : (labels : BTreeMap (Vec ℕ) (Bor (List ℕ))) (k n : ℕ) → k ≤ n → AreWithin k labels → AreWithin n labels
+widened labels k n le within q long = within q (omega (arith, le, long))
+
+-- a label that is put has as many numbers as it has, and no other label has more than before
+pub within_put : (p w : List ℕ) (m n : BTreeMap (Vec ℕ) (Bor (List ℕ))) (k : ℕ) → IsPut p w m n → length p ≤ k → AreWithin k m → AreWithin k n
+within_put p w m n k put le within q long =
+    put q ∙ ap (λ (t : Bool). if t then lesser (found_at m q) w else found_at m q) (not_same p q (λ same. absurd (omega (arith, le, long, ap length same)))) ∙ within q long
 
 -- ---- how numbers are written
 

@@ -23,3 +23,4 @@ pub mod Missing
 pub mod Standing
 pub mod Labelled
 pub mod Named
+pub mod Listings

@@ -1,5 +1,5 @@
 -- The name of an identifier, as a function: there is one text that `IsNameOf` allows.
-use Rattle.std.specs.Prelude.{◌≡◌, ℕ, zero, suc, List, ◌++◌, length, drop, take, Bool, false}
+use Rattle.std.specs.Prelude.{◌≡◌, ◌<◌, ℕ, zero, suc, List, ◌++◌, length, drop, take, Bool, false}
 use Rattle.std.specs.Prelude.{Option, Some, None, if◌then◌else◌}
 use Rattle.std.specs.Option.{option_map, option_map_or}
 use Rattle.std.specs.List.{fold}
@@ -64,6 +64,10 @@ found_at labels q = option_map (λ w. w.now) (get_by (λ k. slice_cmp nat_cmp q 
 -- the map has the labels among these definitions
 abbrev pub AreLabels : List Definition → List Definition → BTreeMap (Vec ℕ) (Bor (List ℕ)) → Type 0
 AreLabels defs seen labels = (q : List ℕ) → IsOid q → found_at labels q ≡ label_among defs seen q
+
+-- the map has no label of more than n numbers
+abbrev pub AreWithin : ℕ → BTreeMap (Vec ℕ) (Bor (List ℕ)) → Type 0
+AreWithin n labels = (q : List ℕ) → n < length q → found_at labels q ≡ None
 
 -- the map has the lesser of its label and the name for these numbers, and for others what it had
 abbrev pub IsPut : List ℕ → List ℕ → BTreeMap (Vec ℕ) (Bor (List ℕ))

@@ -14,3 +14,4 @@ pub mod Nearest
 pub mod Places
 pub mod Labels
 pub mod Positions
+pub mod Listing

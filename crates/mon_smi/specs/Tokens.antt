@@ -1,4 +1,4 @@
--- What a text is cut into: the words, numbers, strings and punctuation of ASN.1 (ITU-T X.208
+-- What a text is cut into: words, numbers, strings and punctuation of ASN.1 (ITU-T X.208
 -- section 8), as RFC 2578 section 3 uses them.
 use Rattle.std.specs.Prelude.{◌⊎◌, ◌≡◌, ◌≢◌, ℕ, suc, ◌+◌, ◌<◌, ◌≤◌, List, [], ◌∷◌, ◌++◌, length}
 use Rattle.std.specs.Prelude.{slice_index, take, drop, Bool, ◌||◌, ◌&&◌, ◌==◌, nat_le, nat_lt}

@@ -1,7 +1,6 @@
 //! Reading assignments.
 
-ghost use Rattle.std.specs.Prelude.{◌≡◌, IfOk};
-ghost use Rattle.std.specs.Option.{option_map};
+ghost use Rattle.std.specs.Prelude.{◌≡◌};
 ghost use Rattle.mon_smi.specs.Reading.{Gives, is_macro, one, up_to, identifier_at, object_at, macro_at, head_at, definition_at, is_convention, textual_at, type_body_at, assignment_of, assignment_at};
 
 use crate::definition::Definition;
@@ -12,9 +11,9 @@ use crate::read_fault::ReadFault;
 use crate::rules::{
     begins, begins_word, convention_at, object_type_at, punctuation_at, type_at, word_at,
 };
-use crate::values::{Value, name_at, value_at};
+use crate::values::value_at;
 use crate::word::Word;
-use std::alloc::{AllocError, Global};
+use std::alloc::Global;
 
 /// Returns `true` if the word is a macro whose clauses are passed over.
 fn is_macro(l: &Lexeme) -> bool
@@ -112,26 +111,18 @@ fn definition_at<'a, 's>(
     let rest = head_at(ls)?;
     let rest = punctuation_at(TokenKind::Assign, rest)?;
     let (value, rest) = value_at(alloc, rest)?;
-    Ok((define(alloc, name, value)?, rest))
-}
-
-/// The definition of a name as this value.
-fn define(alloc: Global, name: &str, value: Value) -> Result<Definition, AllocError>
-    ensures name { IfOk result (λ d. d.name ≡ name.now) }
-    ensures parent { IfOk result (λ d. d.parent ≡ option_map (λ w. w.now) value.entry.parent) }
-    ensures numbers { IfOk result (λ d. d.numbers ≡ value.entry.numbers.items) }
-{
     let name = Word::from_str(alloc, name)?;
     let parent = match value.parent {
         Some(parent) => Some(Word::from_str(alloc, parent)?),
         None => None,
     };
     let numbers = Numbers::new(value.numbers);
-    Ok(Definition {
+    let definition = Definition {
         name,
         parent,
         numbers,
-    })
+    };
+    Ok((definition, rest))
 }
 
 /// Returns `true` if the clauses of a textual convention come next.

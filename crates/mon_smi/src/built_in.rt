@@ -41,20 +41,13 @@ fn definitions(alloc: Global, rows: &[(&str, &[u32])]) -> Result<Vec<Definition>
 {
     let mut definitions = Vec::new(alloc);
     for row in rows {
-        definitions.push(rooted(alloc, row.0, row.1)?)?;
+        let name = Word::from_str(alloc, row.0)?;
+        let numbers = Numbers::from_slice(alloc, row.1)?;
+        definitions.push(Definition {
+            name,
+            parent: None,
+            numbers,
+        })?;
     }
     Ok(definitions)
-}
-
-/// A definition with no parent.
-fn rooted(alloc: Global, name: &str, numbers: &[u32]) -> Result<Definition, AllocError>
-    ensures { IfOk result (λ d. d ≡ rooted name.now numbers.now) }
-{
-    let name = Word::from_str(alloc, name)?;
-    let numbers = Numbers::from_slice(alloc, numbers)?;
-    Ok(Definition {
-        name,
-        parent: None,
-        numbers,
-    })
 }

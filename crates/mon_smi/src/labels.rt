@@ -7,7 +7,7 @@ ghost use Rattle.mon_smi.specs.Names.{AreDistinct};
 ghost use Rattle.mon_smi.specs.Parents.{numbers_of};
 ghost use Rattle.mon_smi.specs.Places.{AreFound};
 ghost use Rattle.mon_smi.specs.Nearest.{IsNameOf, dotted_after};
-ghost use Rattle.mon_smi.specs.Labels.{AreLabels, IsAdded, IsPut, is_known, label_of, longest, name_text};
+ghost use Rattle.mon_smi.specs.Labels.{AreLabels, AreWithin, IsAdded, IsPut, is_known, label_of, longest, name_text};
 
 use crate::chain::identifier_of;
 use crate::definition::Definition;
@@ -26,20 +26,22 @@ pub struct Labels<'a> {
     defs: &'a [Definition],
     // By an identifier the least, by bytes, of the names that mean it.
     by_identifier: BTreeMap<Vec<u32>, &'a str>,
+    // No identifier in the map has more numbers.
+    longest: usize,
 }
 
 impl<'a> Model for Labels<'a> {
     ghost use Rattle.std.specs.Prelude.{List};
     ghost use Rattle.mon_smi.specs.declared.definition.Definition.{Definition};
     ghost use Rattle.mon_smi.specs.Names.{AreDistinct};
-    ghost use Rattle.mon_smi.specs.Labels.{AreLabels};
+    ghost use Rattle.mon_smi.specs.Labels.{AreLabels, AreWithin};
 
     ghost Value = { List Definition };
 
     ghost view = { λ l. l.defs.now };
 
-    ghost invariant = { λ l. AreDistinct l.defs.now × AreLabels l.defs.now l.defs.now
-        l.by_identifier };
+    ghost invariant = { λ l. AreDistinct l.defs.now × AreLabels l.defs.now l.defs.now l.by_identifier
+        × AreWithin l.longest l.by_identifier };
 }
 
 impl<'a> Labels<'a> {
@@ -55,13 +57,18 @@ impl<'a> Labels<'a> {
         ensures { IfOk result (λ labels. labels ≡ defs.now) }
     {
         let mut by_identifier = BTreeMap::new(alloc);
+        let mut longest = 0;
         for definition in defs {
             let name = definition.name.as_str();
-            add_label(alloc, places, defs, &mut by_identifier, name)?;
+            let len = add_label(alloc, places, defs, &mut by_identifier, name)?;
+            if len > longest {
+                longest = len;
+            }
         }
         Ok(Labels {
             defs,
             by_identifier,
+            longest,
         })
     }
 
@@ -109,7 +116,7 @@ impl<'a> Labels<'a> {
         ensures within { IfSome result (λ b. b.1 ≤ length parts.now) }
         ensures distinct { AreDistinct self.now }
     {
-        let mut len = parts.len();
+        let mut len = parts.len().min(self.longest);
         while len >= 2 {
             if let Some(name) = self.by_identifier.get(&parts[..len]) {
                 return Some((*name, len));
@@ -143,21 +150,26 @@ fn identify(
     }
 }
 
-/// Puts a name into the map if it means an identifier.
+/// Puts a name into the map if it means an identifier. Returns how many numbers that has, or 0.
 fn add_label<'a>(
     alloc: Global,
     places: &BTreeMap<String, usize>,
     defs: &[Definition],
     by_identifier: &mut BTreeMap<Vec<u32>, &'a str>,
     name: &'a str,
-) -> Result<(), AllocError>
+) -> Result<usize, AllocError>
     requires distinct { AreDistinct defs.now }
     requires found { AreFound places.now defs.now }
-    ensures { OnOk result (IsAdded defs.now name.now by_identifier.old by_identifier.new) }
+    ensures added { OnOk result (IsAdded defs.now name.now by_identifier.old by_identifier.new) }
+    ensures within { IfOk result (λ len. (n : ℕ) → len ≤ n → AreWithin n by_identifier.old
+        → AreWithin n by_identifier.new) }
 {
     match identify(alloc, places, defs, name)? {
-        Some(oid) => put_label(alloc, by_identifier, &oid, name),
-        None => Ok(()),
+        Some(oid) => {
+            put_label(alloc, by_identifier, &oid, name)?;
+            Ok(oid.parts().len())
+        }
+        None => Ok(0),
     }
 }
 

@@ -1,7 +1,8 @@
 //! Names of managed objects, by RFC 2578 (SMIv2): `tokens` cuts a module's text, `read_module`
 //! reads its definitions, `Names::new` has the built-in ones, `add` adds those of a `Module`,
-//! `resolve` returns the identifier that a text means, and `name_of` the name of an identifier. To
-//! the layer above `Names` is the list of its definitions, all distinct.
+//! `resolve` returns the identifier that a text means, `name_of` the name of an identifier, and
+//! `list` the lines of a module's names. To the layer above `Names` is the list of its definitions,
+//! all distinct.
 #![tactic(auto)]
 
 mod assignments;
@@ -14,6 +15,7 @@ mod labels;
 pub mod laws;
 mod lexeme;
 mod lexer;
+mod listing;
 mod modules;
 mod names;
 mod numbers;
@@ -36,6 +38,7 @@ pub use fault::{Clash, FormFault, NamesFault};
 pub use kind::TokenKind;
 pub use labels::Labels;
 pub use lexer::tokens;
+pub use listing::{ListFault, list};
 pub use modules::read_module;
 pub use names::Names;
 pub use numbers::Numbers;

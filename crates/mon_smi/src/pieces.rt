@@ -1,8 +1,8 @@
 //! What is at the front of a text.
 
-ghost use Rattle.std.specs.Prelude.{◌≡◌, ◌<◌, ◌^◌};
+ghost use Rattle.std.specs.Prelude.{◌≡◌};
 ghost use Rattle.mon_smi.specs.Tokens.{is_space};
-ghost use Rattle.mon_smi.specs.Scan.{token, passed, signed, hyphen_at, quoted_at, closed_bits, quoted_bits_at, assign_at, dot_at, punctuation_at, behind_at, piece_at};
+ghost use Rattle.mon_smi.specs.Scan.{token, passed, signed, hyphen_at, quoted_bits_at, punctuation_at, behind_at, piece_at};
 
 use crate::kind::TokenKind;
 use crate::scan::{Run, behind, byte_at, closing_len, comment_len, run_len, word_len};
@@ -39,22 +39,13 @@ fn hyphen_at(text: &[u8]) -> Option<Piece>
     token(TokenKind::Number, digits + 1)
 }
 
-/// A string, after its opening quote.
-fn quoted_at(text: &[u8]) -> Option<Piece>
-    ensures { result ≡ quoted_at text.now }
+/// Hex or binary digits, after the first single quote.
+fn quoted_bits_at(text: &[u8]) -> Option<Piece>
+    ensures { result ≡ quoted_bits_at text.now }
 {
-    match closing_len(text) {
-        Some(len) => token(TokenKind::Quoted, len + 1),
-        None => None,
-    }
-}
-
-/// Reads hex or binary digits, by what follows them.
-fn closed_bits(digits: usize, bits: usize, text: &[u8]) -> Option<Piece>
-    requires { digits < 2 ^ 63 }
-    ensures { result ≡ closed_bits digits bits text.now }
-{
-    let [b'\'', letter, ..] = text else {
+    let digits = run_len(Run::HexDigits, text);
+    let bits = run_len(Run::Bits, text);
+    let [b'\'', letter, ..] = behind(text, digits) else {
         return None;
     };
     match *letter {
@@ -62,35 +53,6 @@ fn closed_bits(digits: usize, bits: usize, text: &[u8]) -> Option<Piece>
         b'b' | b'B' if bits == digits => token(TokenKind::Binary, digits + 3),
         _ => None,
     }
-}
-
-/// Hex or binary digits, after the first single quote.
-fn quoted_bits_at(text: &[u8]) -> Option<Piece>
-    ensures { result ≡ quoted_bits_at text.now }
-{
-    let digits = run_len(Run::HexDigits, text);
-    let bits = run_len(Run::Bits, text);
-    closed_bits(digits, bits, behind(text, digits))
-}
-
-/// The assignment punctuation, after its first colon.
-fn assign_at(text: &[u8]) -> Option<Piece>
-    ensures { result ≡ assign_at text.now }
-{
-    if byte_at(text, 0) == b':' && byte_at(text, 1) == b'=' {
-        return token(TokenKind::Assign, 3);
-    }
-    None
-}
-
-/// One dot or two, after the first.
-fn dot_at(text: &[u8]) -> Option<Piece>
-    ensures { result ≡ dot_at text.now }
-{
-    if byte_at(text, 0) == b'.' {
-        return token(TokenKind::Range, 2);
-    }
-    token(TokenKind::Dot, 1)
 }
 
 /// A punctuation of one byte.
@@ -117,10 +79,11 @@ fn behind_at(first: u8, rest: &[u8]) -> Option<Piece>
 {
     match first {
         b'-' => hyphen_at(rest),
-        b'"' => quoted_at(rest),
+        b'"' => token(TokenKind::Quoted, closing_len(rest)? + 1),
         b'\'' => quoted_bits_at(rest),
-        b':' => assign_at(rest),
-        b'.' => dot_at(rest),
+        b':' if byte_at(rest, 0) == b':' && byte_at(rest, 1) == b'=' => token(TokenKind::Assign, 3),
+        b'.' if byte_at(rest, 0) == b'.' => token(TokenKind::Range, 2),
+        b'.' => token(TokenKind::Dot, 1),
         _ => punctuation_at(first),
     }
 }

@@ -204,21 +204,14 @@ fn access_at<'a, 's>(ls: &'a [Lexeme<'s>]) -> Result<&'a [Lexeme<'s>], ReadFault
     Err(ReadFault::BrokenOff(ls))
 }
 
-/// Returns `true` if the word is one of the statuses.
-fn is_status(l: &Lexeme) -> bool
-    ensures { result ≡ is_status l.now }
-{
-    l.is_word("current") || l.is_word("deprecated") || l.is_word("obsolete")
-}
-
-/// Returns `true` if a definition is current.
+/// The status of a definition.
 fn status_at<'a, 's>(ls: &'a [Lexeme<'s>]) -> Result<&'a [Lexeme<'s>], ReadFault<'a, 's>>
     ensures { Gives (λ rest. rest.now) result (one is_status ls.now) }
 {
     let [first, rest @ ..] = ls else {
         return Err(ReadFault::BrokenOff(ls));
     };
-    if is_status(first) {
+    if first.is_word("current") || first.is_word("deprecated") || first.is_word("obsolete") {
         return Ok(rest);
     }
     Err(ReadFault::BrokenOff(ls))

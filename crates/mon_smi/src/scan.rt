@@ -3,7 +3,7 @@
 ghost use Rattle.std.specs.Prelude.{◌≡◌, ◌+◌, ◌<◌, ◌≤◌, ◌↔◌, ℕ, length, take, drop, slice_index, IsTrue, IfSome};
 ghost use Rattle.std.specs.Char.{is_ascii_alphabetic};
 ghost use Rattle.mon_smi.specs.Words.{is_part, GoesOn, IsWord};
-ghost use Rattle.mon_smi.specs.Scan.{is_of, run_at, word_at, closes_at, remark_at, ending_at, comment_at};
+ghost use Rattle.mon_smi.specs.Scan.{is_of, run_at, word_at, closes_at, remark_at, comment_at};
 
 /// Returns `true` if the byte is a letter, a digit or an underscore.
 fn is_part(byte: u8) -> bool
@@ -111,22 +111,16 @@ fn remark_len(text: &[u8]) -> usize
     len
 }
 
-/// The length of a comment after its opening hyphens.
-fn ending_len(text: &[u8]) -> usize
-    ensures within { result ≤ length text.now }
-    ensures exact { result ≡ ending_at text.now }
-{
-    let remark = remark_len(text);
-    remark + run_len(Run::Hyphens, behind(text, remark))
-}
-
 /// The length of a comment after its first hyphen.
 pub(crate) fn comment_len(text: &[u8]) -> usize
     ensures within { result ≤ length text.now }
     ensures exact { result ≡ comment_at text.now }
 {
     let opening = run_len(Run::Hyphens, text);
-    opening + ending_len(behind(text, opening))
+    let rest = behind(text, opening);
+    let remark = remark_len(rest);
+    let ending = remark + run_len(Run::Hyphens, behind(rest, remark));
+    opening + ending
 }
 
 /// The length of the longest string after its opening quote, with its closing one, or none where

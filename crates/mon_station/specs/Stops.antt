@@ -81,7 +81,7 @@ module _ {D : Type 0} (seen : D → List ℕ) (may_leave : D → List ℕ → Ty
   IsDiskAfterIn saved None e answer old new = ⊥
   IsDiskAfterIn saved (Some s) e answer old new = IsDiskAfter saved s e answer old new
 
-  -- The disk after a move is another one, of which nothing is said but that a crash leaves files in
+  -- The disk after a move is another one, of which it is only said that a crash leaves files in
   -- which the state of the running life is found.
   abbrev pub IsMovedTo : Option State → D → Type 0
   IsMovedTo running new = (s : State) × (running ≡ Some s) × Leaves (may_leave new) (FindsState s)
@@ -162,7 +162,7 @@ module _ {D : Type 0} (is_honest : D → Type 0) (seen : D → List ℕ) (may_le
 abbrev pub IsRunning : Option State → Option State → Type 0
 IsRunning running save = (s : State) × (running ≡ Some s) × (save ≡ Some s)
 
--- it is the life that an opening of this setting begins, or would have begun with, from this file
+-- it is the life that an opening of this setting begins, or would have started, from this file
 abbrev pub IsRaised : Setting → List ℕ → Option State → Type 0
 IsRaised w file save = (s : State) × (save ≡ Some s) × IsBegun w (found_body file) s
 

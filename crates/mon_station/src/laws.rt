@@ -98,7 +98,7 @@ pub fn headline()
 /// acknowledged. An opening finds the last save that was acknowledged, or one that was running
 /// since, and no older one later; none is damaged. A life that an opening answers goes on from such
 /// a save, with what its watch keeps of the windows. Its incarnation is greater than that of each
-/// earlier life that was handed out; no other life sent anything.
+/// earlier life over a file; no other life sent anything.
 pub fn stops<D: Disk>()
     ensures left { (first : D) (history : List (Happening × D)) → D.is_honest first
         → Leaves (D.may_leave first) (FindsBody None)

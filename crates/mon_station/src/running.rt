@@ -70,14 +70,14 @@ pub trait Outbox {
     ghost use Rattle.mon_station.specs.declared.event.Outgoing.{Outgoing as AnyOutgoing};
 
     // The datagrams that it was given, if it states them.
-    ghost handed: { Self → Option (List AnyOutgoing) };
+    ghost log: { Self → Option (List AnyOutgoing) };
 
     // How often it failed, at most 2^64 - 1.
     ghost failures: { Self → ℕ };
 
     /// Sends a datagram. One that could not be sent counts as given too.
     fn send(&mut self, out: &Outgoing) -> Result<(), OutboxFault>
-        ensures handed { handed self.new ≡ extended (handed self.old) (out.now ∷ []) }
+        ensures log { log self.new ≡ extended (log self.old) (out.now ∷ []) }
         ensures failures { failures self.new ≡ failed_after result (failures self.old) };
 }
 
@@ -133,7 +133,7 @@ impl Run {
     /// Forgets what was done, and allocates for this many answers if there is capacity for less.
     fn begin(&mut self, turns: u64) -> Result<(), AllocError>
         ensures empty { IsEmpty self.new }
-        ensures room { OnOk result (turns ≤ vec_capacity self.new.answers) }
+        ensures capacity { OnOk result (turns ≤ vec_capacity self.new.answers) }
         ensures spared { turns ≤ vec_capacity self.old.answers → IsOk result }
     {
         self.turns = 0;
@@ -164,7 +164,7 @@ impl<D: Disk + Drop> Station<D> {
         // The calls of the source, what became of each event, what was sent, what a crash leaves
         // and left, and that all lives go on so.
         ensures ran { OnOk result (Ran S.gives (seen self.old (S.view source.old)
-            (O.handed outbox.old)) (seen self.new (S.view source.new) (O.handed outbox.new)) turns
+            (O.log outbox.old)) (seen self.new (S.view source.new) (O.log outbox.new)) turns
             run.new) }
         ensures refused { OnOk result (run.new.refused ≡ faults_in run.new.answers.items) }
         ensures source { OnOk result (S.failures source.new ≡ failures_after run.new.source_faults
@@ -175,7 +175,7 @@ impl<D: Disk + Drop> Station<D> {
         ensures nothing { OnErr result (IsEmpty run.new) }
         // If the run has the capacity it is not refused, and it keeps it.
         ensures spared { turns ≤ vec_capacity run.old.answers → IsOk result }
-        ensures room { OnOk result (turns ≤ vec_capacity run.new.answers) }
+        ensures capacity { OnOk result (turns ≤ vec_capacity run.new.answers) }
         ensures same { OnErr result (self.new ≡ self.old) }
         ensures same_source { OnErr result (source.new ≡ source.old) }
         ensures same_outbox { OnErr result (outbox.new ≡ outbox.old) }
@@ -201,11 +201,11 @@ impl<D: Disk + Drop> Station<D> {
         run: &mut Run,
         last: &mut Option<Answer>,
     ) -> bool
-        requires room { length run.old.answers.items < vec_capacity run.old.answers }
+        requires capacity { length run.old.answers.items < vec_capacity run.old.answers }
         requires faults { run.old.source_faults < u64.MAX }
         requires refused { run.old.refused < u64.MAX }
         ensures called { Called (told_of last.old S.gives) (seen self.old (S.view source.old)
-            (O.handed outbox.old)) (seen self.new (S.view source.new) (O.handed outbox.new)) run.old
+            (O.log outbox.old)) (seen self.new (S.view source.new) (O.log outbox.new)) run.old
             run.new last.new result }
         ensures source { (first : ℕ) → S.failures source.old
             ≡ failures_after run.old.source_faults first → S.failures source.new
@@ -241,8 +241,8 @@ impl<D: Disk + Drop> Station<D> {
         event: OwnedEvent,
         send_faults: &mut u64,
     ) -> Answer
-        ensures turned { Turned (seen self.old (tt {0}) (O.handed outbox.old))
-            (seen self.new (tt {0}) (O.handed outbox.new)) event result }
+        ensures turned { Turned (seen self.old (tt {0}) (O.log outbox.old))
+            (seen self.new (tt {0}) (O.log outbox.new)) event result }
         ensures failed { (first : ℕ) → HasFailed first (O.failures outbox.old) send_faults.old
             → HasFailed first (O.failures outbox.new) send_faults.new }
     {
@@ -269,7 +269,7 @@ fn count_refused(refused: u64, answer: Answer) -> u64
 
 /// Hands datagrams to an outbox. One that could not be sent is lost.
 fn hand<O: Outbox>(outbox: &mut O, sends: &[Outgoing], send_faults: &mut u64)
-    ensures handed { O.handed outbox.new ≡ extended (O.handed outbox.old) sends.now }
+    ensures log { O.log outbox.new ≡ extended (O.log outbox.old) sends.now }
     ensures failed { (first : ℕ) → HasFailed first (O.failures outbox.old) send_faults.old
         → HasFailed first (O.failures outbox.new) send_faults.new }
 {

@@ -23,7 +23,7 @@ pub struct Station<D: Disk + Drop> {
     pub(crate) life: Life,
     pub(crate) keeper: Keeper<D>,
     /// The last image that was saved, behind the head that the keeper wrote. It moves with the
-    /// windows, so that a save writes little of it anew.
+    /// windows, so that a save writes little of it again.
     pub(crate) image: KeptImage,
     ghost kept: { IsKept image life.board },
 }

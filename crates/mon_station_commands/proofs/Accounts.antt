@@ -46,7 +46,7 @@ use Rattle.mon_station_commands.proofs.Quiets.{are_noted, are_quiet_as, are_quie
 use Rattle.mon_station_commands.proofs.Steps.{tried}
 use Rattle.mon_udp.specs.declared.addr.Addr.{Addr}
 
--- what is said of a span is quiet
+-- `AreQuiet` holds of what is said of a span
 are_alarms : (alarms : List (Level × List ℕ)) (log : List AtHost) (r : Result Unit Failure) → AreAlarms alarms log r → AreQuiet log
 are_alarms alarms log (Ok done) is = are_quiet_as (map noted alarms) log is (are_said alarms)
 are_alarms alarms log (Err failure) (memory, (many, is)) = are_quiet_as (map noted (take many alarms)) log is (are_said (take many alarms))
@@ -180,7 +180,7 @@ module _ (IsReport : RoundReport → Type 0) (alarms : Bool → List (Level × L
         on = goes_on timed.more whole.more t0 t1 t3 timed.on whole.on;
       }
 
--- the same span, of what a run was afterwards
+-- a span with its targets, events and run replaced by equal ones
 pub span_of : (IsReport : List Addr → List RoundEvent → Run → RoundReport → Type 0) (targets targets2 : List Addr) (events events2 : List RoundEvent) (run run2 : Run)
     (alarms : Bool → List (Level × List ℕ)) (round : ℕ) (whole : Bool) (b a : Kept)
     (t0 t1 : Option (List AtHost)) → targets2 ≡ targets → events2 ≡ events → run2 ≡ run
@@ -328,7 +328,7 @@ no_changes alarms round whole failure r t0 t1 is first =
     subst (λ (e : Result Unit Failure). GoesOnBy (λ log. AreChanges alarms round whole log e) t0 t1) (sym is)
     (then_fails (AreTroubles whole round) (λ (said : Unit {0}). AreAlarms (alarms whole)) failure t0 t1 first)
 
--- the same span with names alarms by what stayed
+-- a span with its alarms replaced by equal ones
 pub span_shown : (IsReport : RoundReport → Type 0) (alarms other : Bool → List (Level × List ℕ)) (round : ℕ) (whole : Bool) (b a : Kept) (t0 t1 : Option (List AtHost)) → alarms ≡ other
     → GoesOnBy (λ log. IsSpan IsReport alarms round whole b a log) t0 t1 → GoesOnBy (λ log. IsSpan IsReport other round whole b a log) t0 t1
 span_shown IsReport alarms other round whole b a t0 t1 same = subst (λ (f : Bool → List (Level × List ℕ)). GoesOnBy (λ log. IsSpan IsReport f round whole b a log) t0 t1) same

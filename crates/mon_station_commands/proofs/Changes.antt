@@ -69,7 +69,7 @@ one_on n = grind arith
 pub some_said : (lines : List Line) (before after : Option (List AtHost)) → GoesOnBy (AreNoted lines) before after → GoesOnBy AreSomeSaid before after
 some_said lines before after = weaker (AreNoted lines) AreSomeSaid before after (λ log is. (lines, is))
 
--- the lines of a text are those that are wanted
+-- the lines of a text are those that are expected
 as_wanted : (v : Level) (round : ℕ) (wanted : Option (List ℕ)) (text : List ℕ) (log : List AtHost) → IsText wanted text → AreNoted (text_lines v round text) log → AreNoted (lines_of v round wanted) log
 as_wanted v round (Some known) text log is noted = subst (λ (t : List ℕ). AreNoted (text_lines v round t) log) is noted
 as_wanted v round None [] log is noted = absurd (is refl)

@@ -50,7 +50,7 @@ pub unopened : {T : Type 0} → (path : List ℕ) (given : Result T OpenFault) (
 unopened path (Ok value) failure is = absurd (let never : ⊥ = cc in never)
 unopened path (Err fault) failure is = (fault, is)
 
--- the same of a result
+-- a result that failed by a call for a socket did so for an error
 pub unhad_of : {T S : Type 0} → (at : Addr) (given : Result T Error) (failure : Failure) (r : Result S Failure) → IsErrAnd r (λ f. f ≡ failure) → IsHad at given (Err failure)
     → SomeOr (IsNoSocket at) r
 unhad_of at given failure (Ok value) is why = tt

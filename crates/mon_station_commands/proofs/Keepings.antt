@@ -37,7 +37,7 @@ module _ (round : ℕ) (path : List ℕ) (known : Bool) where
   kept_quiet found.Nothing log after is = taken_quiet _ log after is
   kept_quiet found.Other log after is = taken_quiet _ log after is
 
-  -- a look at which file is there, and what is done about it, is quiet
+  -- `AreQuiet` holds of a look at which file is there, and of what is done about it
   pub look_quiet : (after : Bool) (t0 t1 : Option (List AtHost)) → GoesOnBy (λ log. IsFileKept round path known log after) t0 t1 → GoesOnBy AreQuiet t0 t1
   look_quiet after t0 t1 = weaker (λ log. IsFileKept round path known log after) AreQuiet t0 t1
       (λ log is. are_quiet_as (finding_node path is.at ∷ is.rest) log is.log_is (node_quiet path is.at is.rest (kept_quiet (found_by is.at is.own) is.rest after is.done)))

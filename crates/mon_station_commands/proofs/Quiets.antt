@@ -1,4 +1,4 @@
--- Quiet events, one after another.
+-- Events of which `AreQuiet` holds, one after another.
 use Rattle.std.proofs.Common.{◌≡◌, ◌∙◌, ◌++◌, ◌∷◌, ◌&&◌, Bool, List, ℕ, [], ap, append_assoc, false, inl, inr, map, refl, subst, sym, take, true}
 use Rattle.std.proofs.lemmas.List.Folds.{list_all-append}
 use Rattle.std.specs.List.{list_all}
@@ -26,7 +26,7 @@ are_quiet_as log other is quiet = ap (λ (l : List AtHost). list_all is_quiet l)
 pub still : (told : Option (List AtHost)) → GoesOnBy AreQuiet told told
 still told = record { more = []; holds = refl; on = stays told }
 
--- quiet events, and more of them
+-- `AreQuiet` holds of events and of more of them, so of all of them
 pub quiet_on : (before between after : Option (List AtHost)) → GoesOnBy AreQuiet before between → GoesOnBy AreQuiet between after → GoesOnBy AreQuiet before after
 quiet_on before between after one two = record {
   more = one.more ++ two.more;
@@ -79,11 +79,11 @@ module _ (before after : Option (List AtHost)) where
   pub date : (date : ℕ) → GoesOnBy (λ log. IsDate log (Ok date)) before after → GoesOnBy AreQuiet before after
   date d = weaker (λ log. IsDate log (Ok d)) AreQuiet before after (is_date d)
 
--- the same end by another name
+-- `AreQuiet` holds up to an end, so up to any equal end
 pub quiet_to : (before after other : Option (List AtHost)) → other ≡ after → GoesOnBy AreQuiet before after → GoesOnBy AreQuiet before other
 quiet_to before after other is = subst (λ (t : Option (List AtHost)). GoesOnBy AreQuiet before t) (sym is)
 
--- quiet events, and then a clock that failed
+-- events of which `AreQuiet` holds, and then a clock that failed
 pub are_stopped_on : (log rest : List AtHost) (failure : Failure) → AreQuiet log → IsStopped rest failure → IsStopped (log ++ rest) failure
 are_stopped_on log rest failure quiet stop = record {
   begin = log ++ stop.begin;

@@ -162,7 +162,7 @@ module _ (words : StationArgs) (p : Printing) (o : Paths) (start : Kept) where
   cut_on n number k kl failure t0 t1 t2 is look stop = subst (λ (m : ℕ). GoesOnBy (λ log. IsCut m words k log failure) t0 t2) is
       (cut_after number k kl false failure t0 t1 t2 look stop)
 
-  -- a clock failed after so many rounds
+  -- a clock failed after `n` rounds
   pub stopped : (n : ℕ) (k after : Kept) (failure : Failure) (r : Result Unit Failure) (t0 t1 t2 : Option (List AtHost)) → r ≡ Err failure → n ≤ words.timing.rounds
       → GoesOnBy (λ log. AreRounds words p o start n log k) t0 t1 → GoesOnBy (λ log. IsCut (suc n) words k log failure) t1 t2
       → GoesOnBy (λ log. AreRun words p o start log after r) t0 t2

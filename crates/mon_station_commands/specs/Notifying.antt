@@ -36,7 +36,7 @@ use Rattle.mon_udp.specs.declared.addr.Addr.{Addr}
 abbrev pub Courier : Type 0
 Courier = State TcpStream
 
--- what is wanted in place of a URL with this fault
+-- what is expected in place of a URL with this fault
 abbrev pub wanted_of : TargetFault → List ℕ
 wanted_of Https = codes "http://, and a proxy for HTTPS,"
 wanted_of other = codes "http://a.b.c.d:port/path"
@@ -118,7 +118,7 @@ IsPutIf true printing seen targets change before after =
     IsDevicePut printing seen change.begins (slice_get targets change.number) before after
 IsPutIf false printing seen targets change before after = after ≡ before
 
--- the same, by what the change is of
+-- a change is put or not, by whether its trouble is that a target gives no answer
 abbrev pub IsPut : Printing → Seen → List TargetAge → Change → (before after : Courier) → Type 0
 IsPut printing seen targets change before after =
     IsPutIf (is_silence change.trouble) printing seen targets change before after
@@ -140,7 +140,7 @@ abbrev pub turn_after : Option ℕ → ℕ
 turn_after None = 1000
 turn_after (Some rest) = max 1 (min rest 1000)
 
--- the same of what delivers, if there is a receiver
+-- after how many milliseconds what delivers needs a turn: 1,000 if there is no receiver
 abbrev pub until_turn : (now : ℕ) → Option Courier → ℕ
 until_turn now None = 1000
 until_turn now (Some c) = turn_after (rest_of now c)

@@ -47,7 +47,7 @@ abbrev pub IsHad : {T : Type 0} → Addr → Result T Error → Result T Failure
 IsHad at (Ok value) result = result ≡ Ok value
 IsHad at (Err error) result = IsErrAnd result (IsOfError at error)
 
--- It was asked whether something is at a path. If that can't be told, a file may be there.
+-- It was asked whether something is at a path. If that failed, a file may be there.
 abbrev pub MayBeThere : List ℕ → List AtHost → Bool → Type 0
 MayBeThere path log there = (log ≡ Found path there ∷ [])
     ⊎ ((why : Why) × (log ≡ Unfound path why ∷ []) × (there ≡ true))
@@ -103,7 +103,7 @@ abbrev pub IsPlaceAt : Result SocketAddr Error → StationSettings → List AtHo
 IsPlaceAt address s = Then (IsFile s) (λ (file : Unit {0}). Then (Quietly (IsHad s.listen address))
     (λ (at : SocketAddr). Then IsTime (λ origin. Quietly (λ result. result ≡ Ok at))))
 
--- the same, whatever the socket said
+-- after the socket, whatever address it said: the file, the address and the time
 abbrev pub IsPlace : StationSettings → List AtHost → Result SocketAddr Failure → Type 0
 IsPlace s log result = (address : Result SocketAddr Error) × IsPlaceAt address s log result
 

@@ -3,8 +3,8 @@ use Rattle.std.specs.Prelude.{◌≡◌, Bool, true, false, List}
 use Rattle.std.specs.List.{list_all}
 use Rattle.mon_host.specs.AtHost.{AtHost, Dated, NodeFound, NodeUnfound, Noted, Timed}
 
--- whether an event is quiet: a clock gave the time, a line was sent to standard error, or it was
--- asked which file is at a path
+-- whether an event is one of these: a clock gave the time, a line was sent to standard error, or it
+-- was asked which file is at a path
 abbrev pub is_quiet : AtHost → Bool
 is_quiet (Timed now) = true
 is_quiet (Dated now) = true

@@ -56,7 +56,7 @@ moment_of state course fresh peers engines now round_at reports = record {
   reports = reports;
 }
 
--- the same whose reports are printed in this way
+-- a station at a time, whose reports are printed in this way
 abbrev pub printed_by : Printing → Moment → Moment
 printed_by printing m = record m { reports = record m.reports { printing = printing } }
 
@@ -165,8 +165,8 @@ pub record IsBegun (words : StationArgs) (start : Kept) (log : List AtHost) (aft
     pub quiet : AreQuiet rest
     pub log_is : log ≡ begin ++ rest
 
--- So many rounds were run, each with what is between it and the next. `start` and `after` are what
--- is kept before and after them.
+-- This many rounds were run, each with what is between it and the next. `start` and `after` are
+-- what is kept before and after them.
 abbrev pub AreRounds : StationArgs → Printing → (paths : Paths) → (start : Kept) → ℕ
     → List AtHost → (after : Kept) → Type 0
 AreRounds words printing paths start zero log after = IsBegun words start log after
@@ -180,7 +180,7 @@ IsLast zero printing paths before after log = (log ≡ []) × (after ≡ before)
 IsLast (suc n) printing paths before after log = IsRound (suc n) true printing paths before after
     log
 
--- the last of so many rounds, in which a clock may fail
+-- the last of this many rounds, in which a clock may fail
 abbrev pub IsLastRun : (rounds : ℕ) → Printing → (paths : Paths) → (before after : Kept)
     → List AtHost → Result Unit Failure → Type 0
 IsLastRun rounds printing paths before after log (Ok done) = IsLast rounds printing paths before
@@ -259,10 +259,10 @@ abbrev pub IsFinish : Moment → Kept → List AtHost → Result Unit Failure �
 IsFinish moment after = Then (IsLastReport moment)
     (λ done. Quietly (IsEnded after.unsaved after.unprinted after.unwritten after.ends))
 
--- A station's run from its first round on: so many rounds, each with its report, and at the end one
--- report more. All is saved at the end of the last round, and of each one that is due. Before each
--- round but the last it is asked whether the settings changed. Nothing but these reports is printed
--- or written, and nothing is read but settings that changed.
+-- A station's run from its first round on: as many rounds as were asked for, each with its report,
+-- and at the end one report more. All is saved at the end of the last round, and of each one that
+-- is due. Before each round but the last it is asked whether the settings changed. Nothing but
+-- these reports is printed or written, and nothing is read but settings that changed.
 pub record IsRun (words : StationArgs) (printing : Printing) (paths : Paths) (start : Kept)
     (log : List AtHost) (result : Result Unit Failure) : Type 0 where
   pub after : Kept

@@ -41,7 +41,7 @@ abbrev pub is_round : Span → Bool
 is_round Round = true
 is_round (Between milliseconds) = false
 
--- The report of a run with these targets and events, as far as lines are made of it.
+-- The report of a run with these targets and events, as far as lines depend on it.
 pub record IsOfRun (targets : List Addr) (events : List RoundEvent) (run : Run)
     (report : RoundReport)
     : Type 0 where

@@ -50,7 +50,7 @@ abbrev pub IsWebSaid : Option SocketAddr → List AtHost → Result Unit Failure
 IsWebSaid None log result = (log ≡ []) × (result ≡ Ok tt)
 IsWebSaid (Some at) log result = (log ≡ Noted level.Info (http_line at) ∷ []) × (result ≡ Ok tt)
 
--- the rounds of a station that has begun
+-- the rounds of a station that has started
 abbrev pub IsRunOf : StationArgs → Reports → List AtHost → Result Unit Failure → Type 0
 IsRunOf words reports = IsRun words reports.printing
     reports.paths nothing_kept

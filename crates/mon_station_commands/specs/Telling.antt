@@ -231,7 +231,7 @@ short_lines path size = if size == 0 then []
     ++ codes " octets, so it is no station's file yet: it is laid out as one\n") ∷ [])
     else []
 
--- the same, if the size is known
+-- the line of a file that is shorter than a station's, and not empty, if its size is known
 abbrev pub short_lines_of : {E : Type 0} → (path : List ℕ) → Result ℕ E → List Line
 short_lines_of path (Ok size) = short_lines path size
 short_lines_of path (Err fault) = []

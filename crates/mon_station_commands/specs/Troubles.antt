@@ -250,7 +250,7 @@ stale_one facts key = said_if (λ (w : Watched). stale_text
     (instance_text (shown_by facts.printing.now.names) w.instance) key.change.begins key.words)
     (slice_get facts.board.now.watch.instances key.change.number)
 
--- so many instances of a target: the beginning of their line
+-- the beginning of the line of this many instances of a target
 abbrev pub many_start : TargetAge → (alike : ℕ) → List ℕ
 many_start t alike = target_text t ++ (codes ": " ++ decimal alike ++ codes " instances have ")
 
@@ -259,7 +259,7 @@ abbrev pub many_by : (start : List ℕ) → (begins : Bool) → (words : List �
 many_by start true words = start ++ codes "no new sample" ++ words
 many_by start false words = start ++ codes "new samples again"
 
--- what is said of so many stale instances of a target
+-- what is said of this many stale instances of a target
 abbrev pub many_text : TargetAge → KeyText → (alike : ℕ) → List ℕ
 many_text t key alike = many_by (many_start t alike) key.change.begins key.words
 
@@ -267,7 +267,7 @@ many_text t key alike = many_by (many_start t alike) key.change.begins key.words
 abbrev pub target_at : List TargetAge → Option ℕ → Option TargetAge
 target_at targets number = option_and_then (λ n. slice_get targets n) number
 
--- what is said of so many stale instances of a target, if it is there
+-- what is said of this many stale instances of a target, if it is there
 abbrev pub stale_many : Facts → KeyText → (alike : ℕ) → Option (List ℕ)
 stale_many facts key alike = said_if (λ (t : TargetAge). many_text t key alike)
     (target_at facts.freshness.now.targets.items key.target)

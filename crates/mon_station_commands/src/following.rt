@@ -147,7 +147,7 @@ fn say_news<H: Host>(
             }
         }
         Err(failure) => {
-            failure.tell(host, Level::Warning);
+            failure.report(host, Level::Warning);
             Look {
                 at: known_after(&failure, at),
                 ends: false,

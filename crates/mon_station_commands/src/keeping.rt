@@ -170,7 +170,7 @@ fn tell_moved<H: Host>(
         }
         Err(failure) => {
             if !known {
-                failure.tell(host, Level::Error);
+                failure.report(host, Level::Error);
             }
             true
         }

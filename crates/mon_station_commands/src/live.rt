@@ -65,7 +65,7 @@ pub(crate) struct Live<S: Receiver + Drop, O: Outbox + Drop> {
     pub(crate) origin: Instant,
     /// When the last round, or the time after it, ended, in milliseconds since then.
     pub(crate) ended: u64,
-    /// The same in seconds since 1970-01-01 00:00:00 UTC by the wall clock.
+    /// When that ended by the wall clock, in seconds since 1970-01-01 00:00:00 UTC.
     pub(crate) date: u64,
     pub(crate) kept: Kept,
 }
@@ -467,11 +467,11 @@ fn run_timed<H: Host, S: Receiver + Drop, O: Outbox + Drop>(
     ensures ran { IfOk result (λ ran. OnOk ran (HasRun
         (IsWhole span live.old.transport.rounds.round live.new.transport.rounds.round)
         (seen live.old.station (view_of (begun span live.old.transport.rounds.round)
-        (S.heard live.old.transport.rounds.receiver) (kept_in live.old.transport.rounds.latest))
-        (O.handed live.old.transport.outbox))
+        (S.log live.old.transport.rounds.receiver) (kept_in live.old.transport.rounds.latest))
+        (O.log live.old.transport.outbox))
         (seen live.new.station (view_of live.new.transport.rounds.round
-        (S.heard live.new.transport.rounds.receiver) (kept_in live.new.transport.rounds.latest))
-        (O.handed live.new.transport.outbox)) live.new.run)) }
+        (S.log live.new.transport.rounds.receiver) (kept_in live.new.transport.rounds.latest))
+        (O.log live.new.transport.outbox)) live.new.run)) }
     // When it ended is what the clocks gave.
     ensures at { IfOk result (λ ran. GoesOnBy (IsTimedAt live.old.origin live.new.ended
         live.new.date) (H.log host.old) (H.log host.new)) }

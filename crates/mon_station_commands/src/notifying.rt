@@ -47,7 +47,7 @@ fn courier_to(alloc: Global, url: &str) -> Result<Option<Courier>, Failure>
     }
 }
 
-/// Returns what is wanted in place of a URL that has this fault.
+/// Returns what is expected in place of a URL that has this fault.
 fn wanted_of<'a>(fault: TargetFault) -> &'a str
     ensures { result.now ≡ wanted_of fault }
 {
@@ -57,7 +57,7 @@ fn wanted_of<'a>(fault: TargetFault) -> &'a str
     }
 }
 
-/// What the notices of a look at a station are made of.
+/// What the notices of a look at a station are built from.
 #[derive(Clone, Copy)]
 pub(crate) struct Look<'a> {
     pub(crate) board: &'a Board,
@@ -317,7 +317,7 @@ fn news_level(news: News) -> Level
     }
 }
 
-/// Returns in how many milliseconds the courier wants its next turn, at least 1 and at most 1,000.
+/// Returns in how many milliseconds the courier needs its next turn, at least 1 and at most 1,000.
 pub(crate) fn until_turn<S: Receiver + Drop, O: Outbox + Drop>(live: &Live<S, O>) -> u32
     ensures { result ≡ until_turn live.now.ended live.now.courier }
 {

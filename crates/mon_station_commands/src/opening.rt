@@ -69,7 +69,7 @@ fn look_at_file<H: Host>(
     read_if(alloc, host, settings, there)
 }
 
-/// Returns `true` if a file is at this path, or if that can't be told.
+/// Returns `true` if a file is at this path, or if that is not known.
 fn may_be_there<H: Host>(host: &mut H, path: &str) -> bool
     ensures { GoesOnBy (λ log. MayBeThere path.now log result) (H.log host.old) (H.log host.new) }
 {

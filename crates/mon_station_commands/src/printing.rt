@@ -84,7 +84,7 @@ pub(crate) fn said<H: Host>(host: &mut H, done: Result<(), Failure>) -> Option<F
     match done {
         Ok(()) => None,
         Err(failure) => {
-            failure.tell(host, Level::Warning);
+            failure.report(host, Level::Warning);
             Some(failure)
         }
     }
@@ -263,7 +263,7 @@ fn tell_unwritten<H: Host>(host: &mut H, round: u32, path: &str, failure: &Failu
         Level::Warning,
         format_args!("snmpmon: round {round}: {path} is not written\n"),
     );
-    failure.tell(host, Level::Warning);
+    failure.report(host, Level::Warning);
 }
 
 /// Returns `true` if a failure was said before: memory was refused both times, or neither time.

@@ -57,9 +57,18 @@ impl Stage {
         if word == "stop" {
             return self.stop(alloc, text, rest);
         }
-        match &mut self.station {
-            Some(station) => put_stepped(alloc, text, station, word, rest),
-            None => None,
+        let Some(station) = &mut self.station else {
+            return None;
+        };
+        match word {
+            "run" => run(alloc, text, station, rest),
+            "owed" => put_owed(text, station, parsed(rest)?),
+            "report" => put_report(alloc, text, station.board()),
+            "interrupted" => put_interrupted(alloc, text, station.board()),
+            _ => {
+                let event = event(alloc, word, rest)?;
+                put_step(alloc, text, station, event.lend())
+            }
         }
     }
 
@@ -72,7 +81,11 @@ impl Stage {
         let disk = self.disk.take()?;
         let core = core(alloc, settings)?;
         match Station::open(alloc, core, FuseDisk::new(disk)) {
-            Ok(station) => self.put_opened(text, station),
+            Ok(station) => {
+                let incarnation = station.incarnation();
+                drop(self.station.replace(station));
+                write!(text, "incarnation {incarnation}").ok()
+            }
             Err((why, disk)) => {
                 self.close(disk.into_disk());
                 put_fault(text, why)
@@ -80,56 +93,17 @@ impl Stage {
         }
     }
 
-    fn put_opened(
-        &mut self,
-        text: &mut String,
-        station: Station<FuseDisk<MemoryDisk>>,
-    ) -> Option<()> {
-        let incarnation = station.incarnation();
-        drop(self.station.replace(station));
-        write!(text, "incarnation {incarnation}").ok()
-    }
-
     /// Saves while only N calls of a line `N KEEP` pass, and keeps what a crash leaves.
     fn stop(&mut self, alloc: Global, text: &mut String, line: &str) -> Option<()> {
         let (calls, keep) = two(line, ' ')?;
         let calls = parsed(calls)?;
         if let Some(station) = &mut self.station {
-            put_save(alloc, text, station, calls)?;
+            station.set(calls);
+            put_step(alloc, text, station, Event::Save)?;
         }
         let disk = self.station.take()?.into_disk().into_disk();
         self.close(disk.crash(keep == "keep").ok()?);
         Some(())
-    }
-}
-
-/// Saves while only this many calls pass.
-fn put_save(
-    alloc: Global,
-    text: &mut String,
-    station: &mut Station<FuseDisk<MemoryDisk>>,
-    calls: u64,
-) -> Option<()> {
-    station.set(calls);
-    put_step(alloc, text, station, Event::Save)
-}
-
-fn put_stepped(
-    alloc: Global,
-    text: &mut String,
-    station: &mut Station<FuseDisk<MemoryDisk>>,
-    word: &str,
-    rest: &str,
-) -> Option<()> {
-    match word {
-        "run" => run(alloc, text, station, rest),
-        "owed" => put_owed(text, station, parsed(rest)?),
-        "report" => put_report(alloc, text, station.board()),
-        "interrupted" => put_interrupted(alloc, text, station.board()),
-        _ => {
-            let event = event(alloc, word, rest)?;
-            put_step(alloc, text, station, event.lend())
-        }
     }
 }
 

@@ -33,23 +33,16 @@ pub(crate) fn put_sent(text: &mut String, out: &Outgoing) -> Option<()> {
     put_digits(text, out.octets.as_slice())
 }
 
-/// Appends the fault's number and name, and its cause's.
+/// Appends the fault's number and name, and its cause's, if it has one.
 pub(crate) fn put_fault(text: &mut String, fault: StationFault) -> Option<()> {
     put_refused(text, fault.number(), fault.name())?;
-    match cause_of(fault) {
-        Some((number, name)) => write!(text, " {number} {name}").ok(),
-        None => Some(()),
-    }
-}
-
-/// Returns the number and the name of the fault's cause, if it has one.
-fn cause_of(fault: StationFault) -> Option<(u8, &'static str)> {
-    match fault {
-        StationFault::Poll(cause) => Some((cause.number(), cause.name())),
-        StationFault::Response(cause) => Some((cause.number(), cause.name())),
-        StationFault::Exchange(cause) => Some((cause.number(), cause.name())),
-        StationFault::Keeper(cause) => Some((cause.number(), cause.name())),
-        StationFault::Image(cause) => Some((cause.number(), cause.name())),
-        StationFault::OutOfMemory | StationFault::NoMoreIncarnations => None,
-    }
+    let (number, name) = match fault {
+        StationFault::Poll(cause) => (cause.number(), cause.name()),
+        StationFault::Response(cause) => (cause.number(), cause.name()),
+        StationFault::Exchange(cause) => (cause.number(), cause.name()),
+        StationFault::Keeper(cause) => (cause.number(), cause.name()),
+        StationFault::Image(cause) => (cause.number(), cause.name()),
+        StationFault::OutOfMemory | StationFault::NoMoreIncarnations => return Some(()),
+    };
+    write!(text, " {number} {name}").ok()
 }

@@ -7,7 +7,7 @@ use crate::events::events_of;
 use crate::printing::{put_fault, put_sent};
 use mon_disk::{FuseDisk, MemoryDisk};
 use mon_poller::Poller;
-use mon_row_texts::{parsed, put, two};
+use mon_row_texts::{parsed, put, three};
 use mon_station::{
     Answer, Outbox, OutboxFault, Outgoing, OwnedEvent, Run, Source, SourceFault, Station,
 };
@@ -98,7 +98,7 @@ impl Noting {
 impl Outbox for Noting {
     ghost use Rattle.std.specs.Prelude.{None};
 
-    ghost handed = { λ _. None };
+    ghost log = { λ _. None };
 
     ghost failures = { λ o. o.failures };
 
@@ -109,27 +109,9 @@ impl Outbox for Noting {
     }
 }
 
-/// How many turns are taken at most, and which call of the source and which of the outbox fails; 0:
-/// none.
-#[derive(Clone, Copy)]
-struct Arguments {
-    turns: u64,
-    source_call: u32,
-    outbox_call: u32,
-}
-
-/// Reads the three numbers of a line.
-fn asked_of(numbers: &str) -> Option<Arguments> {
-    let (turns, calls) = two(numbers, ' ')?;
-    let (source_call, outbox_call) = two(calls, ' ')?;
-    Some(Arguments {
-        turns: parsed(turns)?,
-        source_call: parsed(source_call)?,
-        outbox_call: parsed(outbox_call)?,
-    })
-}
-
-/// Runs the station over the numbers and the events of a line.
+/// Runs the station over the events of a line `TURNS S O: EVENT; EVENT`, for at most TURNS turns,
+/// where call S of the source and call O of the outbox fail; 0: none. Appends the counts, the
+/// answers and what was sent.
 pub(crate) fn run(
     alloc: Global,
     text: &mut String,
@@ -137,9 +119,23 @@ pub(crate) fn run(
     line: &str,
 ) -> Option<()> {
     let (numbers, events) = line.split_once(": ")?;
-    let asked = asked_of(numbers)?;
-    let events = events_of(alloc, events)?;
-    put_run(alloc, text, station, asked, events)
+    let (turns, source_call, outbox_call) = three(numbers, ' ')?;
+    let (turns, source_call) = (parsed(turns)?, parsed(source_call)?);
+    let outbox_call = parsed(outbox_call)?;
+    let mut source = Listed {
+        events: events_of(alloc, events)?,
+        calls_to_the_failing_one: source_call,
+        failures: 0,
+    };
+    let mut outbox = Noting {
+        text: String::new(alloc),
+        calls_to_the_failing_one: outbox_call,
+        failures: 0,
+    };
+    let run = run_listed(alloc, station, &mut source, &mut outbox, turns)?;
+    put_counts(text, &run)?;
+    put(text, " sent")?;
+    put(text, outbox.text.as_str())
 }
 
 /// Makes what an earlier run might have left, of which nothing may be reported.
@@ -155,27 +151,6 @@ fn used(alloc: Global) -> Option<Run> {
     })
 }
 
-fn put_run(
-    alloc: Global,
-    text: &mut String,
-    station: &mut Station<FuseDisk<MemoryDisk>>,
-    asked: Arguments,
-    events: VecDeque<OwnedEvent>,
-) -> Option<()> {
-    let mut source = Listed {
-        events,
-        calls_to_the_failing_one: asked.source_call,
-        failures: 0,
-    };
-    let mut outbox = Noting {
-        text: String::new(alloc),
-        calls_to_the_failing_one: asked.outbox_call,
-        failures: 0,
-    };
-    let run = run_listed(alloc, station, &mut source, &mut outbox, asked.turns);
-    put_ran(text, &run, outbox.text.as_str())
-}
-
 /// Runs the station over the list of a source, after another run.
 fn run_listed<O: Outbox>(
     alloc: Global,
@@ -185,24 +160,12 @@ fn run_listed<O: Outbox>(
     turns: u64,
 ) -> Option<Run>
     ensures { IfSome result (λ run. RanOver source.old.events.items source.new.events.items
-        (O.handed outbox.old) (O.handed outbox.new) turns run) }
+        (O.log outbox.old) (O.log outbox.new) turns run) }
 {
     let mut run = used(alloc)?;
     match station.run(alloc, source, outbox, turns, &mut run) {
         Ok(()) => Some(run),
         Err(_) => None,
-    }
-}
-
-/// Appends the counts, the answers and what was sent, if there was a run.
-fn put_ran(text: &mut String, run: &Option<Run>, handed: &str) -> Option<()> {
-    match run {
-        Some(run) => {
-            put_counts(text, run)?;
-            put(text, " sent")?;
-            put(text, handed)
-        }
-        None => None,
     }
 }
 

@@ -49,40 +49,30 @@ const LONGEST: [&str; 2] = [
 /// How many numbers the longest name has.
 const MAX_PARTS: usize = 128;
 
+/// Where the target's datagrams come from.
+pub(crate) const AGENT: Addr = Addr {
+    octets: [127, 0, 0, 1],
+    port: 16100,
+};
+
 /// Makes the core of a station of one object: `1` and the like is the window's size, `long` has the
 /// longest engine id and name and a window of 64.
 pub(crate) fn core(alloc: Global, word: &str) -> Option<Core> {
     let mut text = String::new(alloc);
     if word == "long" {
-        put_longest(&mut text)?;
+        put_before(&mut text, "64", LONGEST[0])?;
+        put(&mut text, LONGEST[1])?;
+        // The name goes on with as many numbers as it may have.
+        for _ in LONGEST[1].split('.').count()..MAX_PARTS {
+            put(&mut text, ".4294967295")?;
+        }
     } else {
-        put_usual(&mut text, word)?;
+        put_before(&mut text, word, USUAL[0])?;
+        put(&mut text, USUAL[1])?;
     }
-    core_of(alloc, text.as_str())
-}
-
-/// Reads the core from the settings' text.
-fn core_of(alloc: Global, text: &str) -> Option<Core> {
+    put(&mut text, AFTER)?;
     let names = Names::new(alloc).ok()?;
-    Some(read_station(alloc, text, &names).ok()?.core)
-}
-
-/// Appends settings with a window of this size.
-fn put_usual(text: &mut String, size: &str) -> Option<()> {
-    put_before(text, size, USUAL[0])?;
-    put(text, USUAL[1])?;
-    put(text, AFTER)
-}
-
-/// Appends settings with the longest engine id and name. The name goes on with as many numbers as
-/// it may have, each 4294967295.
-fn put_longest(text: &mut String) -> Option<()> {
-    put_before(text, "64", LONGEST[0])?;
-    put(text, LONGEST[1])?;
-    for _ in LONGEST[1].split('.').count()..MAX_PARTS {
-        put(text, ".4294967295")?;
-    }
-    put(text, AFTER)
+    Some(read_station(alloc, text.as_str(), &names).ok()?.core)
 }
 
 /// Appends what comes before the object's name.
@@ -92,12 +82,4 @@ fn put_before(text: &mut String, size: &str, engine: &str) -> Option<()> {
     put(text, TARGET)?;
     put(text, engine)?;
     put(text, OBJECT)
-}
-
-/// Returns where the target's datagrams come from.
-pub(crate) fn target() -> Addr {
-    Addr {
-        octets: [127, 0, 0, 1],
-        port: 16100,
-    }
 }

@@ -13,14 +13,10 @@ pub fn world(alloc: Global, text: &mut String, line: &str) -> Option<()> {
     let (count, shares) = two(line, ' ')?;
     let (count, shares) = (parsed(count)?, parsed(shares)?);
     let core = core(alloc, "8")?;
-    match World::new(alloc, &core, count) {
-        Ok(mut world) => put_run(alloc, text, &mut world, shares),
-        Err(why) => put_refused(text, why.number(), why.name()),
-    }
-}
-
-/// Runs the steps of this many shares.
-fn put_run(alloc: Global, text: &mut String, world: &mut World, shares: u64) -> Option<()> {
+    let mut world = match World::new(alloc, &core, count) {
+        Ok(world) => world,
+        Err(why) => return put_refused(text, why.number(), why.name()),
+    };
     let steps = steps(alloc, shares)?;
     let results = world.run(steps.as_slice()).ok()?;
     let (mut made, mut sent) = (0, 0);

@@ -56,6 +56,6 @@ moved R {x} {x2} {y} {y2} e f r = subst (λ a. R a y2) e (subst (λ b. R x b) f 
 pub by_modules : (defs : List Definition) (n : ℕ) (b : Bool) → b ≡ (n == 0) → b ≡ false → (shown : List ℕ → List ℕ) → shown ≡ name_text defs → shown ≡ shown_by defs n
 by_modules defs n b is not_empty shown e = subst (λ t. shown ≡ (if t then dotted else name_text defs)) (sym not_empty ∙ is) e
 
--- where there is no module, names are shown in numbers
+-- without a module names are shown in numbers
 pub by_numbers : (defs : List Definition) (n : ℕ) (b : Bool) → b ≡ (n == 0) → b ≡ true → (shown : List ℕ → List ℕ) → shown ≡ dotted → shown ≡ shown_by defs n
 by_numbers defs n b is empty shown e = subst (λ t. shown ≡ (if t then dotted else name_text defs)) (sym empty ∙ is) e

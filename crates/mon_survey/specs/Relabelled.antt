@@ -71,11 +71,6 @@ listed (item d ds) = d ∷ listed ds
 abbrev pub AreRest : List ℕ → Items → Items → Type 0
 AreRest engine olds news = AllZip IsSameInterface (others engine olds) (listed news)
 
--- there are tables, which are those of the old ones that are of other engines
-abbrev pub AreRestIn : List ℕ → Items → Option Items → Type 0
-AreRestIn engine olds None = ⊥
-AreRestIn engine olds (Some ds) = AreRest engine olds ds
-
 -- a text is read as those of the old tables that are of other engines
 abbrev pub ReadsRest : List ℕ → Items → List ℕ → Type 0
 ReadsRest engine before text = (after : Items) × (interfaces_in text ≡ Some after)

@@ -162,7 +162,15 @@ impl Answers {
         ensures speed { result ≡ speed_in self.now index }
         ensures range { result ≤ 4_294_967_295_000_000 }
     {
-        speed_of(self.high_speed(index), self.gauge(Column::If(5), index))
+        let millions = self.high_speed(index);
+        let plain = self.gauge(Column::If(5), index);
+        if millions > 0 {
+            u64::from(millions) * 1_000_000
+        } else if plain < u32::MAX {
+            u64::from(plain)
+        } else {
+            0
+        }
     }
 
     /// Returns the number of a cell that holds a gauge; 0 if it holds none.
@@ -223,20 +231,6 @@ impl Answers {
     }
 }
 
-/// Returns the speed in bits a second that an ifHighSpeed and an ifSpeed say; 0 if they say none.
-fn speed_of(millions: u32, plain: u32) -> u64
-    ensures speed { result ≡ speed_of millions plain }
-    ensures range { result ≤ 4_294_967_295_000_000 }
-{
-    if millions > 0 {
-        u64::from(millions) * 1_000_000
-    } else if plain < u32::MAX {
-        u64::from(plain)
-    } else {
-        0
-    }
-}
-
 /// Returns `true` if a cell of this key may follow the others.
 fn is_after(cells: &[Cell], key: u128) -> bool
     ensures { result ≡ is_after cells.now key }
@@ -247,25 +241,13 @@ fn is_after(cells: &[Cell], key: u128) -> bool
     }
 }
 
-/// The place of the cell of this key.
-fn place_of(cells: &[Cell], key: u128) -> Option<usize>
-    requires { IsRising cells.now }
-    ensures found { IfSome result (IsPlaceOf cells.now key) }
-    ensures missing { IfNone result (¬ (Contains (keys_of cells.now) key)) }
-{
-    match cells.binary_search_by_key(&key, |cell| cell.key) {
-        Ok(place) => Some(place),
-        Err(_) => None,
-    }
-}
-
 /// The cell of this key.
 fn find(cells: &[Cell], key: u128) -> Option<&Cell>
     requires { IsRising cells.now }
     ensures { option_copied result ≡ cell_at cells.now key }
 {
-    let Some(place) = place_of(cells, key) else {
-        return None;
-    };
-    Some(&cells[place])
+    match cells.binary_search_by_key(&key, |cell| cell.key) {
+        Ok(place) => Some(&cells[place]),
+        Err(_) => None,
+    }
 }

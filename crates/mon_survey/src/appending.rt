@@ -41,17 +41,13 @@ pub struct Existing<'a> {
     pub names: &'a Names,
 }
 
-/// Returns `true` if a target is an agent of this engine id.
-fn polls(engine: &[u8], target: &Target) -> bool
-    ensures { result ≡ polls engine.now target.now }
-{
-    target.engine.as_slice() == engine
-}
-
+/// Returns `true` if one of the targets is an agent of this engine id.
 pub(crate) fn polls_any(engine: &[u8], targets: &[Target]) -> bool
     ensures { result ≡ list_any (polls engine.now) targets.now }
 {
-    targets.iter().any(|target| polls(engine, target))
+    targets
+        .iter()
+        .any(|target| target.engine.as_slice() == engine)
 }
 
 /// Requires that the settings have space for the counters, in targets of this size, and poll no

@@ -32,19 +32,6 @@ pub enum Change {
     Added(u32),
 }
 
-/// Adds an index, unless it is there.
-fn put_index(indexes: &mut Vec<u32>, spot: Spot) -> Result<(), AllocFailed<u32>>
-    ensures { OnOk result (indexes.new.items ≡ with_index indexes.old.items spot) }
-{
-    let Spot::Cell(_, index) = spot else {
-        return Ok(());
-    };
-    if has_index(indexes, index) {
-        return Ok(());
-    }
-    indexes.push(index)
-}
-
 /// Returns `true` if the index is one of these.
 fn has_index(indexes: &[u32], index: u32) -> bool
     ensures { result ≡ list_any (nat_eq index) indexes.now }
@@ -64,7 +51,13 @@ fn put_watched(
     if !is_own(engine, watched) {
         return Ok(());
     }
-    put_index(indexes, Spot::of(&watched.instance.name))
+    let Spot::Cell(_, index) = Spot::of(&watched.instance.name) else {
+        return Ok(());
+    };
+    if has_index(indexes, index) {
+        return Ok(());
+    }
+    indexes.push(index)
 }
 
 /// The indexes of the agent's interfaces that are watched, each once.
@@ -82,18 +75,6 @@ fn polled(alloc: Global, engine: &[u8], instances: &[Watched]) -> Result<Vec<u32
     }
 }
 
-/// The indexes that these interfaces have now.
-fn left_at(alloc: Global, places: &Places<'_>, indexes: &[u32]) -> Result<Vec<u32>, AllocError>
-    ensures { IfOk result (λ v. v.items ≡ flat_map (λ i. option_to_list
-        (index_now (at_of places.now) i)) indexes.now) }
-{
-    let mut left = Vec::new(alloc);
-    for index in indexes {
-        add(&mut left, places.index_now(*index))?;
-    }
-    Ok(left)
-}
-
 /// The indexes that the agent's interfaces have now which are watched.
 pub(crate) fn indexes_left(
     alloc: Global,
@@ -103,7 +84,11 @@ pub(crate) fn indexes_left(
     ensures { IfOk result (λ v. v.items ≡ indexes_left (at_of places.now) instances.now) }
 {
     let indexes = polled(alloc, places.engine, instances)?;
-    left_at(alloc, places, &indexes)
+    let mut left = Vec::new(alloc);
+    for index in &indexes {
+        add(&mut left, places.index_now(*index))?;
+    }
+    Ok(left)
 }
 
 /// Adds a counter, unless its interface is one of these.
@@ -121,17 +106,6 @@ fn add_unless_there(
     counters.push(one)
 }
 
-/// Those of the counters whose interfaces are none of these.
-fn others(alloc: Global, all: &[Planned], indexes: &[u32]) -> Result<Vec<Planned>, AllocError>
-    ensures { IfOk result (λ v. v.items ≡ flat_map (unless_there indexes.now) all.now) }
-{
-    let mut counters = Vec::new(alloc);
-    for one in all {
-        add_unless_there(&mut counters, indexes, *one)?;
-    }
-    Ok(counters)
-}
-
 /// The counters of interfaces that are chosen and not watched.
 pub(crate) fn new_counters(
     alloc: Global,
@@ -146,10 +120,14 @@ pub(crate) fn new_counters(
     let Ok(all) = counters_of(alloc, places.answers, choice) else {
         return Err(AllocError);
     };
-    others(alloc, &all, &left)
+    let mut counters = Vec::new(alloc);
+    for one in &all {
+        add_unless_there(&mut counters, &left, *one)?;
+    }
+    Ok(counters)
 }
 
-/// Adds what became of the interface of an index.
+/// Adds what became of the interface of an index, if it is gone or moved.
 fn add_change(
     changes: &mut Vec<Change>,
     places: &Places<'_>,
@@ -159,19 +137,10 @@ fn add_change(
         ++ change_of (at_of places.now) index) }
 {
     match places.index_now(index) {
-        Some(now) => add_move(changes, index, now),
+        Some(now) if index == now => Ok(()),
+        Some(now) => changes.push(Change::Moved(index, now)),
         None => changes.push(Change::Gone(index)),
     }
-}
-
-/// Adds that an interface moved, if it did.
-fn add_move(changes: &mut Vec<Change>, index: u32, now: u32) -> Result<(), AllocFailed<Change>>
-    ensures { OnOk result (changes.new.items ≡ changes.old.items ++ change_to index (Some now)) }
-{
-    if index == now {
-        return Ok(());
-    }
-    changes.push(Change::Moved(index, now))
 }
 
 /// Adds what became of the interfaces of some indexes.
@@ -245,63 +214,24 @@ fn old_name<'a>(places: &Places<'a>, index: u32) -> &'a [u8]
     }
 }
 
-/// The line of an interface that is new.
-fn added_line(alloc: Global, places: &Places<'_>, index: u32) -> Result<String, AllocError>
-    ensures { IfOk result (λ t. string_bytes t ≡ change_line (at_of places.now)
-        (Change.Added index)) }
-{
-    let name = called(alloc, places.answers.name(index), index)?;
-    format!(in alloc; "+ {name}\n")
-}
-
-/// The line of an interface that is gone.
-fn gone_line(alloc: Global, places: &Places<'_>, index: u32) -> Result<String, AllocError>
-    ensures { IfOk result (λ t. string_bytes t
-        ≡ change_line (at_of places.now) (Change.Gone index)) }
-{
-    let name = called(alloc, old_name(places, index), index)?;
-    format!(in alloc; "- {name}\n")
-}
-
-/// The line of an interface that has another index.
-fn moved_line(
-    alloc: Global,
-    places: &Places<'_>,
-    index: u32,
-    now: u32,
-) -> Result<String, AllocError>
-    ensures { IfOk result (λ t. string_bytes t ≡ change_line (at_of places.now)
-        (Change.Moved index now)) }
-{
-    let name = called(alloc, places.answers.name(now), index)?;
-    format!(in alloc; "{name}: index {index} is {now} now\n")
-}
-
 /// The line of a change.
 fn change_line(alloc: Global, places: &Places<'_>, change: Change) -> Result<String, AllocError>
     ensures { IfOk result (λ t. string_bytes t ≡ change_line (at_of places.now) change) }
 {
     match change {
-        Change::Added(index) => added_line(alloc, places, index),
-        Change::Gone(index) => gone_line(alloc, places, index),
-        Change::Moved(index, now) => moved_line(alloc, places, index, now),
+        Change::Added(index) => {
+            let name = called(alloc, places.answers.name(index), index)?;
+            format!(in alloc; "+ {name}\n")
+        }
+        Change::Gone(index) => {
+            let name = called(alloc, old_name(places, index), index)?;
+            format!(in alloc; "- {name}\n")
+        }
+        Change::Moved(index, now) => {
+            let name = called(alloc, places.answers.name(now), index)?;
+            format!(in alloc; "{name}: index {index} is {now} now\n")
+        }
     }
-}
-
-/// The lines of changes.
-fn lines_of(
-    alloc: Global,
-    places: &Places<'_>,
-    changes: &[Change],
-) -> Result<Vec<String>, AllocError>
-    ensures { IfOk result (λ v. map string_bytes v.items ≡ map (change_line (at_of places.now))
-        changes.now) }
-{
-    let mut lines = Vec::new(alloc);
-    for change in changes {
-        lines.push(change_line(alloc, places, *change)?)?;
-    }
-    Ok(lines)
 }
 
 /// Returns the lines that say what changes if settings that watch this poll the agent's interfaces
@@ -318,5 +248,10 @@ pub fn change_lines(
         (at_in renamed.now) instances.now) }
 {
     let changes = changes_between(alloc, renamed, choice, instances)?;
-    lines_of(alloc, &renamed.places(), &changes)
+    let places = renamed.places();
+    let mut lines = Vec::new(alloc);
+    for change in &changes {
+        lines.push(change_line(alloc, &places, *change)?)?;
+    }
+    Ok(lines)
 }

@@ -12,8 +12,9 @@ use crate::answers::Answers;
 use crate::column::{Column, Spot};
 use crate::counter::Planned;
 use crate::drafting::AgentPlan;
+use crate::moving::add;
 use crate::options::{Options, Peer};
-use crate::planning::{Thresholds, thresholds_at};
+use crate::planning::thresholds_at;
 use crate::size::{TargetSize, targets_for};
 use mon_alarms::Rule;
 use mon_board::Watched;
@@ -21,7 +22,7 @@ use mon_oid::Oid;
 use mon_poller::{Object, Target};
 use mon_settings::StationSettings;
 use mon_udp::Addr;
-use std::alloc::{AllocError, AllocFailed, Global};
+use std::alloc::{AllocError, Global};
 
 /// What settings are compared with.
 #[derive(Clone, Copy)]
@@ -79,22 +80,18 @@ fn is_cell(name: &Oid, column: Column, index: u32) -> bool
     }
 }
 
-/// Returns `true` if the object has the interface's mark, or none where it has none.
-fn has_mark(answers: &Answers, mark: &Option<Oid>, index: u32) -> bool
-    ensures { IsTrue result ↔ (mark.now ≡ mark_of answers.now index) }
-{
-    match mark {
-        Some(name) => answers.is_marked(index) && is_cell(name, Column::IfX(19), index),
-        None => !answers.is_marked(index),
-    }
-}
-
-/// Returns `true` if the object is the counter.
+/// Returns `true` if the object is the counter, with the interface's mark, or none where it has
+/// none.
 fn is_counter(answers: &Answers, object: &Object, one: Planned) -> bool
     ensures { IsTrue result ↔ IsCounter answers.now object.now one }
 {
-    is_cell(&object.name, one.column(), one.index)
-        && has_mark(answers, &object.discontinuity, one.index)
+    if !is_cell(&object.name, one.column(), one.index) {
+        return false;
+    }
+    match &object.discontinuity {
+        Some(mark) => answers.is_marked(one.index) && is_cell(mark, Column::IfX(19), one.index),
+        None => !answers.is_marked(one.index),
+    }
 }
 
 /// Returns `true` if the objects are the counters.
@@ -151,15 +148,6 @@ fn are_agents(wanted: &Wanted<'_>, targets: &[Target]) -> bool
     targets.iter().all(|target| is_agent(wanted, target))
 }
 
-/// Returns `true` if the targets' objects are the counters.
-fn are_polled(alloc: Global, wanted: &Wanted<'_>, targets: &[Target]) -> Result<bool, AllocError>
-    ensures { IfOk result (λ are. IsTrue are ↔ AllZip (IsCounter wanted.now.answers.now)
-        (flat_map (λ t. t.objects) targets.now) wanted.now.planned.now) }
-{
-    let objects = objects_of(alloc, targets)?;
-    Ok(are_counters(wanted.answers, &objects, wanted.planned))
-}
-
 /// Returns `true` if the target has no more objects than the size allows.
 fn is_small(size: TargetSize, target: &Target) -> bool
     ensures { IsTrue result ↔ IsSmall size target.now }
@@ -183,11 +171,11 @@ pub(crate) fn are_targets(
     ensures { IfOk result (λ are. IsTrue are ↔ AreTargets wanted.now.options.now
         wanted.now.engine.now wanted.now.answers.now wanted.now.planned.now targets.now) }
 {
-    let polled = are_polled(alloc, wanted, targets)?;
+    let objects = objects_of(alloc, targets)?;
     let size = wanted.options.size;
     Ok(
         are_agents(wanted, targets)
-            && polled
+            && are_counters(wanted.answers, &objects, wanted.planned)
             && are_small(size, targets)
             && targets.len() == targets_for(size, wanted.planned),
     )
@@ -210,70 +198,28 @@ pub(crate) fn is_own(engine: &[u8], watched: &Watched) -> bool
     watched.instance.engine.as_slice() == engine
 }
 
-/// The thresholds of a cell.
-fn at_cell(answers: &Answers, percent: u8, spot: Spot) -> Option<Thresholds>
-    requires { percent ≤ 100 }
-    ensures { result ≡ at_cell answers.now percent spot }
-{
-    let Spot::Cell(column, index) = spot else {
-        return None;
-    };
-    if is_octets(column) {
-        thresholds_at(answers, percent, index)
-    } else {
-        None
-    }
-}
-
-/// The thresholds of an instance, where it is the agent's.
-fn at_watched(wanted: &Wanted<'_>, watched: &Watched) -> Option<Thresholds>
-    requires { wanted.now.options.now.percent ≤ 100 }
-    ensures { result ≡ at_watched wanted.now.engine.now wanted.now.answers.now
-        wanted.now.options.now.percent watched.now }
-{
-    if is_own(wanted.engine, watched) {
-        at_cell(
-            wanted.answers,
-            wanted.options.percent,
-            Spot::of(&watched.instance.name),
-        )
-    } else {
-        None
-    }
-}
-
-/// The alarm on the instance of this number.
+/// The alarm on the instance of this number, if it is a counter of octets of the agent whose
+/// interface gives thresholds.
 fn alarm_on(wanted: &Wanted<'_>, number: usize, watched: &Watched) -> Option<Alarm>
     requires { wanted.now.options.now.percent ≤ 100 }
     ensures { result ≡ alarm_on number (at_watched wanted.now.engine.now wanted.now.answers.now
         wanted.now.options.now.percent watched.now) }
 {
-    match at_watched(wanted, watched) {
-        Some(at) => Some(Alarm {
-            instance: number,
-            rising: at.rising,
-            falling: at.falling,
-        }),
-        None => None,
+    if !is_own(wanted.engine, watched) {
+        return None;
     }
-}
-
-/// Adds the alarm on the instance of this number.
-fn add_alarm(
-    alarms: &mut Vec<Alarm>,
-    wanted: &Wanted<'_>,
-    number: usize,
-    watched: &Watched,
-) -> Result<(), AllocFailed<Alarm>>
-    requires { wanted.now.options.now.percent ≤ 100 }
-    ensures { OnOk result (alarms.new.items ≡ alarms.old.items
-        ++ option_to_list (alarm_on number (at_watched wanted.now.engine.now wanted.now.answers.now
-        wanted.now.options.now.percent watched.now))) }
-{
-    match alarm_on(wanted, number, watched) {
-        Some(alarm) => alarms.push(alarm),
-        None => Ok(()),
+    let Spot::Cell(column, index) = Spot::of(&watched.instance.name) else {
+        return None;
+    };
+    if !is_octets(column) {
+        return None;
     }
+    let at = thresholds_at(wanted.answers, wanted.options.percent, index)?;
+    Some(Alarm {
+        instance: number,
+        rising: at.rising,
+        falling: at.falling,
+    })
 }
 
 /// The alarms on all instances.
@@ -288,7 +234,7 @@ pub(crate) fn alarms_of(
 {
     let mut alarms = Vec::new(alloc);
     for (number, watched) in instances.iter().enumerate() {
-        add_alarm(&mut alarms, wanted, number, watched)?;
+        add(&mut alarms, alarm_on(wanted, number, watched))?;
     }
     Ok(alarms)
 }

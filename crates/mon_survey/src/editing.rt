@@ -263,47 +263,6 @@ fn reindexed(
     )
 }
 
-/// A line with another index, at the end of names in quotes and of the name in the comment.
-fn renumbered(alloc: Global, line: &[u8], index: u32, now: u32) -> Result<Vec<u8>, AllocError>
-    ensures { IfOk result (λ v. v.items ≡ renumbered index now line.now) }
-{
-    let named = reindexed(alloc, line, index, now, "\"")?;
-    reindexed(alloc, &named, index, now, ":")
-}
-
-/// Adds a line of an interface that is now at this index.
-fn put_moved(
-    alloc: Global,
-    out: &mut Vec<u8>,
-    line: &[u8],
-    index: u32,
-    now: u32,
-) -> Result<(), AllocError>
-    ensures { OnOk result (out.new.items ≡ out.old.items ++ line_at line.now index (Some now)) }
-{
-    if index == now {
-        return out.extend_from_slice(line);
-    }
-    let moved = renumbered(alloc, line, index, now)?;
-    out.extend_from_slice(&moved)
-}
-
-/// Adds a line of an interface that is now at this index, or is gone.
-fn put_line_at(
-    alloc: Global,
-    out: &mut Vec<u8>,
-    line: &[u8],
-    spelled: &Spelled,
-) -> Result<(), AllocError>
-    ensures { OnOk result (out.new.items ≡ out.old.items ++ line_at line.now spelled.now.index
-        spelled.now.place) }
-{
-    match spelled.place {
-        Some(now) => put_moved(alloc, out, line, spelled.index, now),
-        None => Ok(()),
-    }
-}
-
 /// The first of the names that is in a line.
 fn spelled_in<'a>(names: &'a [Spelled], line: &[u8]) -> Option<&'a Spelled>
     ensures { option_copied result ≡ find (λ s. has_part s.text line.now) names.now }
@@ -311,23 +270,9 @@ fn spelled_in<'a>(names: &'a [Spelled], line: &[u8]) -> Option<&'a Spelled>
     names.iter().find(|one| has_part(line, one.text.as_slice()))
 }
 
-/// Adds a line of one of the interfaces, or another.
-fn put_by(
-    alloc: Global,
-    out: &mut Vec<u8>,
-    line: &[u8],
-    found: Option<&Spelled>,
-) -> Result<(), AllocError>
-    ensures { OnOk result (out.new.items ≡ out.old.items ++ line_by line.now
-        (option_copied found.entry)) }
-{
-    match found {
-        Some(spelled) => put_line_at(alloc, out, line, spelled),
-        None => out.extend_from_slice(line),
-    }
-}
-
-/// Adds a line of the agent's blocks.
+/// Adds a line of the agent's blocks. A comment and a line of no interface stay as they are. One of
+/// an interface is left out if that is gone; else it gets the index of now, at the end of names in
+/// quotes and of the name in the comment.
 fn put_line(
     alloc: Global,
     out: &mut Vec<u8>,
@@ -337,10 +282,21 @@ fn put_line(
     ensures { OnOk result (out.new.items ≡ out.old.items ++ edited_line names.now line.now) }
 {
     if is_comment(line) {
-        out.extend_from_slice(line)
-    } else {
-        put_by(alloc, out, line, spelled_in(names, line))
+        return out.extend_from_slice(line);
     }
+    let Some(spelled) = spelled_in(names, line) else {
+        return out.extend_from_slice(line);
+    };
+    let index = spelled.index;
+    let Some(now) = spelled.place else {
+        return Ok(());
+    };
+    if index == now {
+        return out.extend_from_slice(line);
+    }
+    let named = reindexed(alloc, line, index, now, "\"")?;
+    let moved = reindexed(alloc, &named, index, now, ":")?;
+    out.extend_from_slice(&moved)
 }
 
 /// Adds the lines of a block of the agent.
@@ -387,32 +343,6 @@ fn put_comments(out: &mut Vec<u8>, block: &[u8]) -> Result<(), AllocError>
     Ok(())
 }
 
-/// Returns `true` if names were in a block, and none is left.
-fn is_emptied(old: &[u8], new: &[u8]) -> bool
-    ensures { result ≡ is_emptied old.now new.now }
-{
-    has_part(old, b"name = \"") && !has_part(new, b"name = \"")
-}
-
-/// Adds a block of the agent.
-fn put_own(
-    alloc: Global,
-    out: &mut Vec<u8>,
-    names: &[Spelled],
-    block: &[u8],
-) -> Result<(), AllocError>
-    ensures { OnOk result (out.new.items ≡ out.old.items ++ block_by block.now
-        (flat_map (edited_line names.now) (lines_of block.now))) }
-{
-    let mut lines = Vec::new(alloc);
-    put_lines(alloc, &mut lines, names, block)?;
-    if is_emptied(block, &lines) {
-        put_comments(out, block)
-    } else {
-        out.extend_from_slice(&lines)
-    }
-}
-
 /// Names of an agent's interfaces, and what is in its blocks only.
 #[derive(Clone, Copy)]
 pub(crate) struct Edits<'a> {
@@ -422,15 +352,20 @@ pub(crate) struct Edits<'a> {
 }
 
 impl Edits<'_> {
-    /// Adds a block.
+    /// Adds a block. Of one of the agent's in which no name is left only the comments stay.
     fn put_block(&self, out: &mut Vec<u8>, block: &[u8]) -> Result<(), AllocError>
         ensures { OnOk result (out.new.items ≡ out.old.items
             ++ edited_block self.now.names.now self.now.own.now block.now) }
     {
-        if has_part(block, self.own) {
-            put_own(self.alloc, out, self.names, block)
+        if !has_part(block, self.own) {
+            return out.extend_from_slice(block);
+        }
+        let mut lines = Vec::new(self.alloc);
+        put_lines(self.alloc, &mut lines, self.names, block)?;
+        if has_part(block, b"name = \"") && !has_part(&lines, b"name = \"") {
+            put_comments(out, block)
         } else {
-            out.extend_from_slice(block)
+            out.extend_from_slice(&lines)
         }
     }
 

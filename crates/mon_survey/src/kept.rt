@@ -195,16 +195,6 @@ fn are_same_numbers(old: &[u32], new: &[u32]) -> bool
     old == new
 }
 
-/// Returns `true` if the station's own number, address, file and wait are the same.
-fn is_kept_own(old: &StationSettings, new: &StationSettings) -> bool
-    ensures { IsTrue result ↔ KeepsOwn (station_view old.now) (station_view new.now) }
-{
-    old.core.station() == new.core.station()
-        && is_same_address(old.listen, new.listen)
-        && is_same_text(&old.file, &new.file)
-        && old.wait_ms == new.wait_ms
-}
-
 /// Returns `true` if the modules and the peers with their addresses are the same.
 fn are_kept_others(old: &StationSettings, new: &StationSettings) -> bool
     ensures { IsTrue result ↔ KeepsOthers (station_view old.now) (station_view new.now) }
@@ -218,11 +208,16 @@ fn are_kept_others(old: &StationSettings, new: &StationSettings) -> bool
     are_same_addresses(old.peer_addresses.as_slice(), new.peer_addresses.as_slice())
 }
 
-/// Returns `true` if what is outside of targets and alarms is the same.
+/// Returns `true` if what is outside of targets and alarms is the same: the station's own number,
+/// address, file and wait, the modules, and the peers.
 pub(crate) fn are_kept_scalars(old: &StationSettings, new: &StationSettings) -> bool
     ensures { IsTrue result ↔ KeepsScalars (station_view old.now) (station_view new.now) }
 {
-    is_kept_own(old, new) && are_kept_others(old, new)
+    old.core.station() == new.core.station()
+        && is_same_address(old.listen, new.listen)
+        && is_same_text(&old.file, &new.file)
+        && old.wait_ms == new.wait_ms
+        && are_kept_others(old, new)
 }
 
 /// The targets from a place on.

@@ -8,7 +8,6 @@ ghost use Rattle.toml.specs.View.{items_view, table_view, view};
 ghost use Rattle.mon_survey.specs.Meant.{IsUnlike};
 ghost use Rattle.mon_survey.specs.Labels.{AreInterfaces, Continue, ContinueIn, IsInterface, IsLabels, IsNoLabels, IsSameInterface, ReadsOn, count_items, has_engine, indexes_of, interfaces_in, is_of, items_at, known_speed, labels_text, number_at, text_at, text_of};
 
-use crate::answers::Answers;
 use crate::choice::Choice;
 use crate::fault::{SurveyFault, given};
 use crate::planning::counters_of;
@@ -244,23 +243,6 @@ fn require_room(
     Ok(())
 }
 
-/// Returns `true` if there are new tables, which are the old ones, and then those of the
-/// interfaces.
-fn continues_in(
-    source: &Source<'_>,
-    indexes: &[u32],
-    old: &[Value],
-    new: Option<&[Value]>,
-) -> Result<bool, AllocError>
-    ensures { IfOk result (λ is. IsTrue is ↔ ContinueIn source.now.engine.now source.now.answers.now
-        indexes.now (items_view old.now) (option_map (λ v. items_view v.now) new.entry)) }
-{
-    match new {
-        Some(new) => continues(source, indexes, old, new),
-        None => Ok(false),
-    }
-}
-
 /// Returns `true` if the text is read as these tables and those of the interfaces. An `Err` means
 /// out of memory.
 fn reads_on(
@@ -277,7 +259,10 @@ fn reads_on(
         Err(SurveyFault::BadLabels) => return Ok(false),
         Err(_) => return Err(AllocError),
     };
-    continues_in(source, indexes, before, interfaces(&read))
+    let Some(after) = interfaces(&read) else {
+        return Ok(false);
+    };
+    continues(source, indexes, before, after)
 }
 
 /// Returns the text, if it is read as the old tables and those of the interfaces.
@@ -333,40 +318,11 @@ pub(crate) fn labels_of(
         indexes.now) }
 {
     let was = given!(tree(source.alloc, old));
-    labels_by(source, old, interfaces(&was), indexes)
-}
-
-/// Returns the file of the interfaces of these indexes after the old tables.
-fn labels_by(
-    source: &Source<'_>,
-    old: &str,
-    before: Option<&[Value]>,
-    indexes: &[u32],
-) -> Result<String, SurveyFault>
-    requires { interfaces_in old.now ≡ option_map (λ v. items_view v.now) before }
-    ensures reads { IfOk result (λ text. IsLabels old.now source.now.engine.now
-        source.now.answers.now indexes.now (string_bytes text)) }
-    ensures fault { IfErr result (IsNoLabels old.now source.now.engine.now source.now.answers.now
-        indexes.now) }
-{
-    let Some(before) = before else {
+    let Some(before) = interfaces(&was) else {
         return Err(SurveyFault::BadLabels);
     };
     given!(require_room(source, old, before, indexes));
     labels_after(source, old, before, indexes)
-}
-
-/// Returns the indexes of the interfaces of which a counter is chosen.
-fn indexes_by(
-    alloc: Global,
-    answers: &Answers,
-    choice: &Choice<'_>,
-) -> Result<Vec<u32>, SurveyFault>
-    ensures gives { IfOk result (λ v. v.items ≡ indexes_of choice.now answers.now) }
-    ensures memory { IfErr result (λ e. e ≡ SurveyFault.OutOfMemory) }
-{
-    let counters = given!(counters_of(alloc, answers, choice));
-    Ok(indexes_of(alloc, &counters)?)
 }
 
 /// Returns a file of the texts of the interfaces of which a counter is chosen: the old text octet
@@ -388,7 +344,8 @@ pub fn labels(
     ensures fault { IfErr result (IsNoLabels old.now (encode_lower agent.now.engine.now)
         agent.now.answers.now (indexes_of choice.now agent.now.answers.now)) }
 {
-    let indexes = given!(indexes_by(alloc, agent.answers, choice));
+    let counters = given!(counters_of(alloc, agent.answers, choice));
+    let indexes = indexes_of(alloc, &counters)?;
     let digits = hex::encode(alloc, agent.engine)?;
     let source = Source {
         alloc,

@@ -57,49 +57,11 @@ fn octets_in(value: &Value) -> &[u8]
     }
 }
 
-/// The first cell that is this ifName.
-fn cell_named<'a>(answers: &'a Answers, name: &[u8]) -> Option<&'a Cell>
-    ensures { option_copied result ≡ find (is_named name.now) answers.now }
-{
-    find_named(answers.cells(), name)
-}
-
 /// The first of the cells that is this ifName.
 fn find_named<'a>(cells: &'a [Cell], name: &[u8]) -> Option<&'a Cell>
     ensures { option_copied result ≡ find (is_named name.now) cells.now }
 {
     cells.iter().find(|cell| is_named(name, cell))
-}
-
-/// The index of a cell, if there is one.
-fn index_in(found: Option<&Cell>) -> Option<u32>
-    ensures { result ≡ option_map (λ c. c.index) (option_copied found.entry) }
-{
-    match found {
-        Some(cell) => Some(cell.index),
-        None => None,
-    }
-}
-
-/// The index of an interface of this name: this one if it is, else the first that is.
-fn index_named(answers: &Answers, name: &[u8], index: u32) -> Option<u32>
-    ensures { result ≡ index_named answers.now name.now index }
-{
-    if answers.octets(Column::IfX(1), index) == name {
-        return Some(index);
-    }
-    index_in(cell_named(answers, name))
-}
-
-/// An index, if there is an interface of it.
-fn same_index(answers: &Answers, index: u32) -> Option<u32>
-    ensures { result ≡ same_index answers.now index }
-{
-    if answers.value(Column::If(2), index).is_some() {
-        Some(index)
-    } else {
-        None
-    }
 }
 
 /// Adds a value, if there is one.
@@ -121,34 +83,19 @@ pub(crate) struct Places<'a> {
 }
 
 impl Places<'_> {
-    /// Returns the index that an interface of the agent has now; `None` if it is gone.
+    /// Returns the index that an interface of the agent has now; `None` if it is gone. If its name
+    /// is known, that is this index if it has the name, else the first that has it.
     pub(crate) fn index_now(&self, index: u32) -> Option<u32>
         ensures { result ≡ index_now (at_of self.now) index }
     {
         match name_before(self.known, index) {
-            Some(name) => index_named(self.answers, name, index),
-            None => same_index(self.answers, index),
-        }
-    }
-
-    /// The name of a cell at the index that its interface has now.
-    fn cell_now(&self, alloc: Global, column: Column, index: u32) -> Result<Option<Oid>, AllocError>
-        ensures { IfOk result (λ q. q ≡ option_map (λ i. cell_name column i)
-            (index_now (at_of self.now) index)) }
-    {
-        match self.index_now(index) {
-            Some(now) => cell_at(alloc, column, now),
-            None => Ok(None),
-        }
-    }
-
-    /// The name at the index that its interface has now, if it is that of a cell.
-    fn spot_now(&self, alloc: Global, name: &Oid) -> Result<Option<Oid>, AllocError>
-        ensures { IfOk result (λ q. q ≡ spot_now (at_of self.now) name.now (spot_of name.now)) }
-    {
-        match Spot::of(name) {
-            Spot::Cell(column, index) => self.cell_now(alloc, column, index),
-            Spot::Ragged | Spot::Elsewhere => copy_name(alloc, name),
+            Some(name) if self.answers.octets(Column::IfX(1), index) == name => Some(index),
+            Some(name) => match find_named(self.answers.cells(), name) {
+                Some(cell) => Some(cell.index),
+                None => None,
+            },
+            None if self.answers.value(Column::If(2), index).is_some() => Some(index),
+            None => None,
         }
     }
 
@@ -156,10 +103,18 @@ impl Places<'_> {
     fn name_now(&self, alloc: Global, engine: &[u8], name: &Oid) -> Result<Option<Oid>, AllocError>
         ensures { IfOk result (λ q. q ≡ name_now (at_of self.now) engine.now name.now) }
     {
-        if engine == self.engine {
-            self.spot_now(alloc, name)
-        } else {
-            copy_name(alloc, name)
+        if engine != self.engine {
+            return copy_name(alloc, name);
+        }
+        let Spot::Cell(column, index) = Spot::of(name) else {
+            return copy_name(alloc, name);
+        };
+        let Some(now) = self.index_now(index) else {
+            return Ok(None);
+        };
+        match column.cell(alloc, now) {
+            Ok(name) => Ok(Some(name)),
+            Err(_) => Err(AllocError),
         }
     }
 
@@ -218,7 +173,16 @@ impl Places<'_> {
         ensures { IfOk result (λ t. t ≡ target_now (at_of self.now) target.now) }
     {
         let objects = self.objects_now(alloc, target)?;
-        with_objects(alloc, target, objects)
+        if objects.is_empty() {
+            return Ok(None);
+        }
+        Ok(Some(Target {
+            address: target.address,
+            community: target.community.try_clone(alloc)?,
+            engine: target.engine.try_clone(alloc)?,
+            tries: target.tries,
+            objects: Objects::new(objects),
+        }))
     }
 
     /// The targets that are left.
@@ -287,39 +251,9 @@ impl Places<'_> {
     }
 }
 
-/// The name of a cell.
-fn cell_at(alloc: Global, column: Column, index: u32) -> Result<Option<Oid>, AllocError>
-    ensures { IfOk result (λ q. q ≡ Some (cell_name column index)) }
-{
-    match column.cell(alloc, index) {
-        Ok(name) => Ok(Some(name)),
-        Err(_) => Err(AllocError),
-    }
-}
-
 /// A copy of a name.
 fn copy_name(alloc: Global, name: &Oid) -> Result<Option<Oid>, AllocError>
     ensures { IfOk result (λ q. q ≡ Some name.now) }
 {
     Ok(Some(name.try_clone(alloc)?))
-}
-
-/// The target with these objects, if there are some.
-fn with_objects(
-    alloc: Global,
-    target: &Target,
-    objects: Vec<Object>,
-) -> Result<Option<Target>, AllocError>
-    ensures { IfOk result (λ t. t ≡ with_objects target.now objects.items) }
-{
-    if objects.is_empty() {
-        return Ok(None);
-    }
-    Ok(Some(Target {
-        address: target.address,
-        community: target.community.try_clone(alloc)?,
-        engine: target.engine.try_clone(alloc)?,
-        tries: target.tries,
-        objects: Objects::new(objects),
-    }))
 }

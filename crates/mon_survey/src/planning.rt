@@ -11,56 +11,34 @@ use crate::choice::Choice;
 use crate::column::Column;
 use crate::counter::{Counter, Kind, Planned, column_of};
 use crate::fault::{SurveyFault, given};
+use crate::moving::add;
 use std::alloc::{AllocError, AllocFailed, Global};
 
 /// The most instances of a station.
 const MAX_INSTANCES: usize = 256;
 
-/// Returns `true` if the agent counts this by 64 bits, `false` if by 32, `None` if not at all.
-fn width_of(answers: &Answers, counter: Counter, index: u32) -> Option<bool>
-    ensures { result ≡ width_of answers.now counter index }
-{
-    if answers.is_counter64(column_of(counter, true), index) {
-        return Some(true);
-    }
-    if answers.is_counter32(column_of(counter, false), index) {
-        return Some(false);
-    }
-    None
-}
-
-/// The counter of an interface, if its kind is polled and the agent has it.
+/// The counter of an interface, by 64 bits or by 32, if its kind is polled and the agent has it.
 fn planned(answers: &Answers, choice: &Choice<'_>, index: u32, counter: Counter) -> Option<Planned>
     ensures { result ≡ planned_by choice.now answers.now index counter }
 {
     if !choice.kinds.has(counter.kind()) {
         return None;
     }
-    match width_of(answers, counter, index) {
-        Some(wide) => Some(Planned {
+    if answers.is_counter64(column_of(counter, true), index) {
+        return Some(Planned {
             counter,
-            wide,
+            wide: true,
             index,
-        }),
-        None => None,
+        });
     }
-}
-
-/// Adds the counter of an interface, if its kind is polled and the agent has it.
-fn add_counter(
-    counters: &mut Vec<Planned>,
-    answers: &Answers,
-    choice: &Choice<'_>,
-    index: u32,
-    counter: Counter,
-) -> Result<(), AllocFailed<Planned>>
-    ensures { OnOk result (counters.new.items ≡ counters.old.items
-        ++ option_to_list (planned_by choice.now answers.now index counter)) }
-{
-    match planned(answers, choice, index, counter) {
-        Some(one) => counters.push(one),
-        None => Ok(()),
+    if answers.is_counter32(column_of(counter, false), index) {
+        return Some(Planned {
+            counter,
+            wide: false,
+            index,
+        });
     }
+    None
 }
 
 /// Adds those of some counters of an interface whose kinds are polled and that the agent has.
@@ -76,22 +54,9 @@ fn add_counters(
         some.now) }
 {
     for counter in some {
-        add_counter(counters, answers, choice, index, *counter)?;
+        add(counters, planned(answers, choice, index, *counter))?;
     }
     Ok(())
-}
-
-/// Adds the counters of an interface.
-fn add_interface(
-    counters: &mut Vec<Planned>,
-    answers: &Answers,
-    choice: &Choice<'_>,
-    index: u32,
-) -> Result<(), AllocFailed<Planned>>
-    ensures { OnOk result (counters.new.items ≡ counters.old.items
-        ++ interface_counters choice.now answers.now index) }
-{
-    add_counters(counters, answers, choice, index, &Counter::every())
 }
 
 /// Adds the counters of the interface whose ifDescr a cell holds, if it is chosen.
@@ -110,7 +75,7 @@ fn add_cell(
     if !choice.takes(answers, cell.index) {
         return Ok(());
     }
-    add_interface(counters, answers, choice, cell.index)
+    add_counters(counters, answers, choice, cell.index, &Counter::every())
 }
 
 /// The counters of all interfaces.
@@ -246,22 +211,15 @@ pub fn thresholds_of(
     }
 }
 
-/// Returns `true` if a counter of an interface's octets is polled, in or out.
-fn polls_octets(answers: &Answers, choice: &Choice<'_>, index: u32) -> bool
-    ensures { result ≡ polls_octets choice.now answers.now index }
-{
-    planned(answers, choice, index, Counter::InOctets).is_some()
-        || planned(answers, choice, index, Counter::OutOctets).is_some()
-}
-
 /// Returns `true` if the cell is the ifDescr of an interface that is chosen, whose octets are
-/// polled and whose speed is unknown.
+/// polled, in or out, and whose speed is unknown.
 fn lacks_speed(answers: &Answers, choice: &Choice<'_>, cell: &Cell) -> bool
     ensures { result ≡ lacks_speed choice.now answers.now cell.now }
 {
     cell.column == Column::If(2)
         && choice.takes(answers, cell.index)
-        && polls_octets(answers, choice, cell.index)
+        && (planned(answers, choice, cell.index, Counter::InOctets).is_some()
+            || planned(answers, choice, cell.index, Counter::OutOctets).is_some())
         && answers.speed(cell.index) == 0
 }
 

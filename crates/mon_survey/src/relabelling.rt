@@ -9,7 +9,7 @@ ghost use Rattle.mon_survey.specs.Edited.{quoted, text_without};
 ghost use Rattle.mon_survey.specs.Labels.{interfaces_in};
 ghost use Rattle.mon_survey.specs.Meant.{IsUnlike};
 ghost use Rattle.mon_survey.specs.Moved.{at_in, at_of};
-ghost use Rattle.mon_survey.specs.Relabelled.{AreKnownIn, AreRest, AreRestIn, IsNoRest, IsNotRelabelled, IsRelabelled, IsRest, ReadsRest, indexes_then, is_index, is_known, known_at, known_by, known_in};
+ghost use Rattle.mon_survey.specs.Relabelled.{AreKnownIn, AreRest, IsNoRest, IsNotRelabelled, IsRelabelled, IsRest, ReadsRest, indexes_then, is_index, is_known, known_at, known_by, known_in};
 
 use crate::changes::{indexes_left, new_counters};
 use crate::choice::{Choice, has_part};
@@ -27,13 +27,6 @@ use toml::Value;
 /// U+FFFD, which a file of labels has in place of what is not UTF-8.
 const REPLACEMENT: &[u8] = &[239, 191, 189];
 
-/// Returns `true` if the number is an ifIndex.
-fn is_index(number: i64) -> bool
-    ensures { result ≡ is_index number }
-{
-    0 <= number && number <= 4_294_967_295
-}
-
 /// Returns `true` if a name says something, and was UTF-8.
 fn is_known(name: &[u8]) -> bool
     ensures { result ≡ is_known name.now }
@@ -44,34 +37,8 @@ fn is_known(name: &[u8]) -> bool
     }
 }
 
-/// Adds a name at an index, if both are there and the name is known.
-fn add_known(
-    alloc: Global,
-    all: &mut Vec<Known>,
-    index: Option<i64>,
-    name: Option<&str>,
-) -> Result<(), AllocError>
-    ensures { OnOk result (all.new.items ≡ all.old.items ++ known_by index
-        (option_copied name.entry)) }
-{
-    let Some(number) = index else {
-        return Ok(());
-    };
-    let Some(name) = name else {
-        return Ok(());
-    };
-    if !is_index(number) || !is_known(name.as_bytes()) {
-        return Ok(());
-    }
-    let name = Octets::from_slice(alloc, name.as_bytes())?;
-    all.push(Known {
-        index: number.unsigned_abs() as u32,
-        name,
-    })?;
-    Ok(())
-}
-
-/// Adds the name that a table says of an interface, if it is one of this engine.
+/// Adds the name that a table says of an interface, if it is one of this engine, its index is an
+/// ifIndex, and the name is known.
 fn add_known_at(
     alloc: Global,
     all: &mut Vec<Known>,
@@ -80,16 +47,24 @@ fn add_known_at(
 ) -> Result<(), AllocError>
     ensures { OnOk result (all.new.items ≡ all.old.items ++ known_at engine.now (view value.now)) }
 {
-    if is_of(engine, text_at(value, "engine")) {
-        add_known(
-            alloc,
-            all,
-            number_at(value, "index"),
-            text_at(value, "ifName"),
-        )
-    } else {
-        Ok(())
+    if !is_of(engine, text_at(value, "engine")) {
+        return Ok(());
     }
+    let Some(number) = number_at(value, "index") else {
+        return Ok(());
+    };
+    let Some(name) = text_at(value, "ifName") else {
+        return Ok(());
+    };
+    if number < 0 || number > 4_294_967_295 || !is_known(name.as_bytes()) {
+        return Ok(());
+    }
+    let name = Octets::from_slice(alloc, name.as_bytes())?;
+    all.push(Known {
+        index: number.unsigned_abs() as u32,
+        name,
+    })?;
+    Ok(())
 }
 
 /// Adds the names that tables say of the interfaces of this engine.
@@ -109,26 +84,6 @@ fn add_known_in(
     add_known_in(alloc, all, engine, values)
 }
 
-/// The names that tables say of the interfaces of this engine, if there is a list of tables.
-fn known_by(
-    alloc: Global,
-    engine: &str,
-    values: Option<&[Value]>,
-) -> Result<Vec<Known>, SurveyFault>
-    ensures gives { IfOk result (λ v. (items : Items) × (option_map (λ v. items_view v.now)
-        values.entry ≡ Some items) × (v.items ≡ known_in engine.now items)) }
-    ensures fault { IfErr result (λ e. (e ≡ SurveyFault.OutOfMemory)
-        ⊎ ((e ≡ SurveyFault.BadLabels) ×
-        (option_map (λ v. items_view v.now) values.entry ≡ None))) }
-{
-    let Some(values) = values else {
-        return Err(SurveyFault::BadLabels);
-    };
-    let mut all = Vec::new(alloc);
-    add_known_in(alloc, &mut all, engine, values)?;
-    Ok(all)
-}
-
 /// Returns the names that a file of labels says of the interfaces of this engine. Empty names are
 /// left out, and those with U+FFFD, which is in place of what is not UTF-8.
 ///
@@ -141,7 +96,12 @@ pub fn known_names(alloc: Global, text: &str, engine: &[u8]) -> Result<Vec<Known
 {
     let digits = hex::encode(alloc, engine)?;
     let read = given!(tree(alloc, text));
-    known_by(alloc, digits.as_str(), interfaces(&read))
+    let Some(values) = interfaces(&read) else {
+        return Err(SurveyFault::BadLabels);
+    };
+    let mut all = Vec::new(alloc);
+    add_known_in(alloc, &mut all, digits.as_str(), values)?;
+    Ok(all)
 }
 
 /// Returns `true` if the new tables are those of the old ones that are of other engines.
@@ -177,18 +137,6 @@ fn indexes_then(
     Ok(indexes)
 }
 
-/// Returns `true` if there are new tables, which are those of the old ones that are of other
-/// engines.
-fn are_rest_in(engine: &str, old: &[Value], new: Option<&[Value]>) -> bool
-    ensures { IsTrue result ↔ AreRestIn engine.now (items_view old.now)
-        (option_map (λ v. items_view v.now) new.entry) }
-{
-    match new {
-        Some(new) => are_rest(engine, old, new),
-        None => false,
-    }
-}
-
 /// Returns `true` if the text is read as those of the old tables that are of other engines.
 fn reads_rest(alloc: Global, engine: &str, before: &[Value], text: &str) -> Result<bool, AllocError>
     ensures { IfOk result (λ is. IsTrue is
@@ -199,25 +147,9 @@ fn reads_rest(alloc: Global, engine: &str, before: &[Value], text: &str) -> Resu
         Err(SurveyFault::BadLabels) => return Ok(false),
         Err(_) => return Err(AllocError),
     };
-    Ok(are_rest_in(engine, before, interfaces(&read)))
-}
-
-/// Returns the text, if it is read as those of the old tables that are of other engines.
-fn confirm_rest(
-    alloc: Global,
-    engine: &str,
-    before: &[Value],
-    text: String,
-) -> Result<String, SurveyFault>
-    ensures gives { IfOk result (λ same. (same ≡ text) × ReadsRest engine.now
-        (items_view before.now) (string_bytes text)) }
-    ensures fault { IfErr result (IsUnlike (ReadsRest engine.now (items_view before.now)
-        (string_bytes text))) }
-{
-    if reads_rest(alloc, engine, before, text.as_str())? {
-        Ok(text)
-    } else {
-        Err(SurveyFault::Misread)
+    match interfaces(&read) {
+        Some(after) => Ok(are_rest(engine, before, after)),
+        None => Ok(false),
     }
 }
 
@@ -238,29 +170,13 @@ fn rest_after(
 {
     let own = quoted(alloc, engine)?;
     let octets = text_without(alloc, own.as_slice(), old.as_bytes())?;
-    match String::from_utf8(octets) {
-        Ok(text) => confirm_rest(alloc, engine, before, text),
-        Err(_) => Err(SurveyFault::Misread),
-    }
-}
-
-/// The old text without its blocks of this engine, if its tables of other engines are left.
-fn rest_by(
-    alloc: Global,
-    engine: &str,
-    old: &str,
-    before: Option<&[Value]>,
-) -> Result<String, SurveyFault>
-    requires { interfaces_in old.now ≡ option_map (λ v. items_view v.now) before }
-    ensures is { IfOk result (λ t. string_bytes t ≡ text_without (quoted engine.now) old.now) }
-    ensures rest { IfOk result (λ t. IsRest engine.now old.now
-        (text_without (quoted engine.now) old.now)) }
-    ensures fault { IfErr result (λ e. (e ≡ SurveyFault.OutOfMemory)
-        ⊎ IsNoRest old.now engine.now e) }
-{
-    match before {
-        Some(before) => rest_after(alloc, engine, old, before),
-        None => Err(SurveyFault::BadLabels),
+    let Ok(text) = String::from_utf8(octets) else {
+        return Err(SurveyFault::Misread);
+    };
+    if reads_rest(alloc, engine, before, text.as_str())? {
+        Ok(text)
+    } else {
+        Err(SurveyFault::Misread)
     }
 }
 
@@ -273,7 +189,10 @@ fn rest_of(alloc: Global, engine: &str, old: &str) -> Result<String, SurveyFault
         ⊎ IsNoRest old.now engine.now e) }
 {
     let was = given!(tree(alloc, old));
-    rest_by(alloc, engine, old, interfaces(&was))
+    match interfaces(&was) {
+        Some(before) => rest_after(alloc, engine, old, before),
+        None => Err(SurveyFault::BadLabels),
+    }
 }
 
 /// The file of these interfaces, with the old tables of other engines.

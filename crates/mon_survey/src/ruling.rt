@@ -11,7 +11,7 @@ ghost use Rattle.mon_survey.specs.Updated.{AreRulings, HasRuling, HasRulings, Is
 use crate::counter::Planned;
 use crate::kept::instance_at;
 use crate::moving::{Places, add};
-use crate::planning::{Thresholds, thresholds_of};
+use crate::planning::thresholds_of;
 use mon_alarms::Rule;
 use mon_ber::Octets;
 use mon_board::{Instance, Watched};
@@ -35,20 +35,6 @@ impl Drop for Ruling {
             rising: _,
             falling: _,
         } = self;
-    }
-}
-
-/// These thresholds on an instance, if it is there.
-fn ruling_on(rising: i128, falling: i128, instance: Option<Instance>) -> Option<Ruling>
-    ensures { result ≡ ruling_on rising falling instance }
-{
-    match instance {
-        Some(instance) => Some(Ruling {
-            instance,
-            rising,
-            falling,
-        }),
-        None => None,
     }
 }
 
@@ -77,49 +63,17 @@ fn ruling_now(
 ) -> Result<Option<Ruling>, AllocError>
     ensures { IfOk result (λ g. g ≡ ruling_now (at_of places.now) was.now rule) }
 {
-    let instance = watched_at(alloc, places, was, rule.instance())?;
-    Ok(ruling_on(
-        i128::from(rule.rising()),
-        i128::from(rule.falling()),
-        instance,
-    ))
-}
-
-/// The instance of a counter of the agent.
-fn instance_of(alloc: Global, engine: &[u8], one: Planned) -> Result<Instance, AllocError>
-    ensures { IfOk result (λ i. i ≡ record {
-      engine = engine.now;
-      name = cell_name
-          (column_of one.counter one.wide) one.index;
-    }) }
-{
-    let engine = Octets::from_slice(alloc, engine)?;
-    match one.column().cell(alloc, one.index) {
-        Ok(name) => Ok(Instance { engine, name }),
-        Err(_) => Err(AllocError),
+    match watched_at(alloc, places, was, rule.instance())? {
+        Some(instance) => Ok(Some(Ruling {
+            instance,
+            rising: i128::from(rule.rising()),
+            falling: i128::from(rule.falling()),
+        })),
+        None => Ok(None),
     }
 }
 
-/// The alarm on a counter of the agent, if there are thresholds.
-fn ruling_at(
-    alloc: Global,
-    engine: &[u8],
-    one: Planned,
-    at: Option<Thresholds>,
-) -> Result<Option<Ruling>, AllocError>
-    ensures { IfOk result (λ g. g ≡ ruling_at engine.now one at) }
-{
-    let Some(at) = at else {
-        return Ok(None);
-    };
-    Ok(Some(Ruling {
-        instance: instance_of(alloc, engine, one)?,
-        rising: i128::from(at.rising),
-        falling: i128::from(at.falling),
-    }))
-}
-
-/// The alarm on a new counter.
+/// The alarm on a new counter, if there are thresholds.
 fn ruling_of(
     alloc: Global,
     places: &Places<'_>,
@@ -129,8 +83,18 @@ fn ruling_of(
     requires { percent ≤ 100 }
     ensures { IfOk result (λ g. g ≡ ruling_of (at_of places.now) percent one) }
 {
-    let at = thresholds_of(places.answers, percent, one.counter, one.index);
-    ruling_at(alloc, places.engine, one, at)
+    let Some(at) = thresholds_of(places.answers, percent, one.counter, one.index) else {
+        return Ok(None);
+    };
+    let engine = Octets::from_slice(alloc, places.engine)?;
+    let Ok(name) = one.column().cell(alloc, one.index) else {
+        return Err(AllocError);
+    };
+    Ok(Some(Ruling {
+        instance: Instance { engine, name },
+        rising: i128::from(at.rising),
+        falling: i128::from(at.falling),
+    }))
 }
 
 /// Adds the alarms that are left.

@@ -49,7 +49,8 @@ pub(crate) fn text_of(alloc: Global, octets: &[u8]) -> Result<Option<String>, Al
     Ok(Some(String::from_utf8_lossy(alloc, octets)?))
 }
 
-/// Adds an octet in quotes.
+/// Adds an octet in quotes: a quote and a backslash after a backslash, a control character by its
+/// number in hex.
 fn put_escaped(alloc: Global, text: &mut Vec<u8>, octet: u8) -> Result<(), AllocError>
     ensures { OnOk result (text.new.items ≡ text.old.items ++ escaped octet) }
 {
@@ -57,18 +58,11 @@ fn put_escaped(alloc: Global, text: &mut Vec<u8>, octet: u8) -> Result<(), Alloc
         return text.extend_from_slice(&[b'\\', octet]);
     }
     if octet <= 31 || octet == 127 {
+        let digits = hex::encode(alloc, &[octet])?;
         text.extend_from_slice(b"\\u00")?;
-        return put_digits(alloc, text, octet);
+        return text.extend_from_slice(digits.as_bytes());
     }
     text.extend_from_slice(&[octet])
-}
-
-/// Adds the two hex digits of an octet.
-fn put_digits(alloc: Global, text: &mut Vec<u8>, octet: u8) -> Result<(), AllocError>
-    ensures { OnOk result (text.new.items ≡ text.old.items ++ encode_lower (octet ∷ [])) }
-{
-    let digits = hex::encode(alloc, &[octet])?;
-    text.extend_from_slice(digits.as_bytes())
 }
 
 /// Adds a text in quotes, without them.
@@ -107,17 +101,6 @@ fn put_text(alloc: Global, text: &mut Vec<u8>, key: &str, octets: &[u8]) -> Resu
 {
     let value = text_of(alloc, octets)?;
     put_line(alloc, text, key, &value)
-}
-
-/// Adds the line of a speed in bits a second, unless it is 0.
-fn put_speed_line(alloc: Global, text: &mut Vec<u8>, speed: u64) -> Result<(), AllocError>
-    ensures { OnOk result (text.new.items ≡ text.old.items ++ speed_line speed) }
-{
-    if speed == 0 {
-        return Ok(());
-    }
-    let line = format!(in alloc; "speed = {speed}\n")?;
-    text.extend_from_slice(line.as_bytes())
 }
 
 /// Adds the head of an interface's table.
@@ -182,7 +165,12 @@ impl Source<'_> {
         ensures { OnOk result (text.new.items ≡ text.old.items
             ++ speed_line (speed_in self.now.answers.now index)) }
     {
-        put_speed_line(self.alloc, text, self.speed(index))
+        let speed = self.speed(index);
+        if speed == 0 {
+            return Ok(());
+        }
+        let line = format!(in self.alloc; "speed = {speed}\n")?;
+        text.extend_from_slice(line.as_bytes())
     }
 
     /// Adds the table of an interface.
@@ -197,24 +185,15 @@ impl Source<'_> {
         self.put_speed(text, index)
     }
 
-    /// Adds the tables of interfaces.
-    fn put_interfaces(&self, text: &mut Vec<u8>, indexes: &[u32]) -> Result<(), AllocError>
-        ensures { OnOk result (text.new.items ≡ text.old.items
-            ++ flat_map (interface_text self.now.engine.now self.now.answers.now) indexes.now) }
-    {
-        for index in indexes {
-            self.put_interface(text, *index)?;
-        }
-        Ok(())
-    }
-
     /// The octets of the text: those of the old one, and the tables of the interfaces.
     pub(crate) fn octets(&self, old: &str, indexes: &[u32]) -> Result<Vec<u8>, AllocError>
         ensures { IfOk result (λ v. v.items ≡ labels_text old.now self.now.engine.now
             self.now.answers.now indexes.now) }
     {
         let mut text = Vec::from_slice(self.alloc, begun(old).as_bytes())?;
-        self.put_interfaces(&mut text, indexes)?;
+        for index in indexes {
+            self.put_interface(&mut text, *index)?;
+        }
         Ok(text)
     }
 }

@@ -132,16 +132,6 @@ fn put_alias(text: &mut String, alias: &[u8]) -> Result<(), AllocError>
     put_cleaned(text, alias)
 }
 
-/// Adds an interface's name and its alias, as a comment shows them.
-fn put_names(text: &mut String, answers: &Answers, index: u32) -> Result<(), AllocError>
-    ensures { OnOk result (string_bytes text.new ≡ string_bytes text.old
-        ++ cleaned (name_in answers.now index) ++ alias_text
-        (octets_of (value_at answers.now (Column.IfX 18) index))) }
-{
-    put_cleaned(text, answers.name(index))?;
-    put_alias(text, answers.alias(index))
-}
-
 /// Adds the end of a counter's line: its comment, with its descriptor, and its interface's name,
 /// alias, type and speed.
 #[tactic(auto, unfolding(crate::specs::Text::comment_text))]
@@ -153,7 +143,8 @@ fn put_comment(text: &mut String, answers: &Answers, one: Planned) -> Result<(),
     let index = one.index;
     let speed = answers.high_speed(index);
     write!(text, " # {label}.{index}: ")?;
-    put_names(text, answers, index)?;
+    put_cleaned(text, answers.name(index))?;
+    put_alias(text, answers.alias(index))?;
     put_type(text, answers, index)?;
     write!(text, ", {speed} Mbit/s\n")
 }

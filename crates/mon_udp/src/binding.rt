@@ -15,10 +15,10 @@ pub trait Binds: Sized + Drop {
     ghost use Rattle.mon_udp.specs.declared.addr.Addr.{Addr as AnyAddr};
 
     // A call of `bind` was asked for this address. Code that is generic over what is bound has this
-    // from a call of `bind` alone.
+    // only from a call of `bind`.
     ghost bound: { Self → AnyAddr → Type 0 };
 
-    // The system said that it is at this address. Had from a call of `bound_to` alone.
+    // The system said that it is at this address. Had only from a call of `bound_to`.
     ghost stands: { Self → AnySocketAddr → Type 0 };
 
     /// Binds one to this address; port 0 takes a free one.

@@ -17,8 +17,8 @@ pub fn addresses()
     ensures { (text : List ℕ) (a : Addr) → (addr_of text ≡ Some a) ↔ IsAddrText text a }
 {}
 
-/// A wait is over four times its length after it began, however often and at whatever times it was
-/// renewed; and when it was quiet for its length. Until then something of it is left.
+/// A wait is over four times its length after it started, however often and at whatever times it
+/// was renewed; and when it was idle for its length. Until then something of it is left.
 pub fn waits_end()
     ensures whole { (length began quiet now : ℕ) → began + 4 * length ≤ now
         → left_of length began quiet now ≡ 0 }

@@ -14,10 +14,10 @@ pub trait Receives {
     ghost use Rattle.std.specs.declared.net.socket_addr.SocketAddr.{SocketAddr as AnySocketAddr};
 
     // A call left this in a buffer, with this many octets of a datagram at its front, which came
-    // from this address. Code that is generic over what receives has this from a call alone.
+    // from this address. Code that is generic over what receives has this only from a call.
     ghost received: { Self → List ℕ → ℕ → AnySocketAddr → Type 0 };
 
-    // A call waited this many nanoseconds, and nothing came. Had from a call alone as well.
+    // A call waited this many nanoseconds, and nothing came. Had only from a call as well.
     ghost quiet: { Self → ℕ → Type 0 };
 
     /// Waits for a datagram without end, and puts it into the buffer. Returns how many of its

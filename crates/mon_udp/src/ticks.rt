@@ -4,14 +4,14 @@ use std::io;
 use std::rt::Clock;
 use std::time::Instant;
 
-/// What tells the time to waits.
+/// The clock of waits.
 pub trait Ticks {
     ghost use Rattle.std.specs.Prelude.{◌≤◌, IfOk};
     ghost use Rattle.std.specs.Time.{instant_nanos};
     ghost use Rattle.std.specs.declared.time.Instant.{Instant as AnyInstant};
 
-    // It told the second of these times when it was asked for one after the first. Code that is
-    // generic over what tells the time has this from a call of `after` alone.
+    // It returned the second of these times when asked for one after the first. Code that is
+    // generic over clocks has this only from a call of `after`.
     ghost told: { Self → AnyInstant → AnyInstant → Type 0 };
 
     /// Returns the time now.

@@ -10,7 +10,7 @@ use std::time::{Duration, Instant};
 /// How many times its length a wait lasts at most, however often it is renewed.
 const MOST: u64 = 4;
 
-/// The times of a wait: how long it is, when it began, and since when it is quiet.
+/// The times of a wait: how long it is, when it started, and since when it is idle.
 #[derive(Clone, Copy)]
 pub struct Timer {
     milliseconds: u32,
@@ -30,22 +30,22 @@ impl Timer {
         }
     }
 
-    /// Returns the same wait, quiet since now. When it began stays.
+    /// Returns the wait renewed: idle since now. When it started stays.
     pub fn renew(self, now: Instant) -> Self
         ensures { result ≡ renewed self now }
     {
         Timer { quiet: now, ..self }
     }
 
-    /// Returns since when the wait is quiet.
+    /// Returns since when the wait is idle.
     pub fn quiet(self) -> Instant
         ensures { result ≡ self.quiet }
     {
         self.quiet
     }
 
-    /// Returns what is left of the wait now: it is over when it was quiet for its length, and at
-    /// the latest four times its length after it began.
+    /// Returns what is left of the wait now: it is over when it was idle for its length, and at
+    /// the latest four times its length after it started.
     pub fn left(self, now: Instant) -> Duration
         ensures { as_nanos result ≡ left_at self now }
     {
@@ -56,7 +56,7 @@ impl Timer {
     }
 }
 
-/// Returns what is left now of this many milliseconds that began then.
+/// Returns what is left now of this many milliseconds that started then.
 fn left_of(milliseconds: u64, began: Instant, now: Instant) -> Duration
     ensures { as_nanos result ≡ milliseconds * 1_000_000
         - (instant_nanos now - instant_nanos began) }

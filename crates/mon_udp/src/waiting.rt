@@ -34,7 +34,7 @@ impl<'a, R: Ticks> Waiting<'a, R> {
     /// # Errors
     /// That of the system, if the clock fails. Then the last wait goes on.
     pub fn begin(&mut self, milliseconds: u32) -> io::Result<()>
-        // It begins at the time that the clock tells in this call.
+        // It begins at the time that the clock returns in this call.
         ensures begins { OnOk result (Begins (R.told self.old.rt.now self.old.timer.quiet)
             milliseconds self.new.timer) }
         ensures same { OnErr result (self.new.timer ≡ self.old.timer) }
@@ -45,13 +45,13 @@ impl<'a, R: Ticks> Waiting<'a, R> {
         Ok(())
     }
 
-    /// Begins the quiet of the wait anew. When it began stays, so it ends at the latest four times
-    /// its length after that.
+    /// Renews the wait: it is idle since now. When it started stays, so it ends at the latest four
+    /// times its length after that.
     ///
     /// # Errors
-    /// That of the system, if the clock fails. Then nothing begins anew.
+    /// That of the system, if the clock fails. Then the wait is not renewed.
     pub fn renew(&mut self) -> io::Result<()>
-        // It is quiet since the time that the clock tells in this call.
+        // It is idle since the time that the clock returns in this call.
         ensures renews { OnOk result (Renews (R.told self.old.rt.now self.old.timer.quiet)
             self.old.timer self.new.timer) }
         ensures same { OnErr result (self.new.timer ≡ self.old.timer) }

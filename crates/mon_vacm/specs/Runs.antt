@@ -6,7 +6,8 @@ use Rattle.mon_vacm.specs.declared.family.ViewTreeFamily.{ViewTreeFamily}
 abbrev pub AreOfOneView : List ViewTreeFamily → Type 0
 AreOfOneView families = (view : List ℕ) × All (λ f. f.view_name ≡ view) families
 
--- From the first on, so many families each are of one view. Nothing is said of those that follow.
+-- From the first on, as many families as each number says are of one view. Nothing is said of those
+-- that follow.
 abbrev pub AreRuns : List ℕ → List ViewTreeFamily → Type 0
 AreRuns [] families = Unit {0}
 AreRuns (n ∷ ns) families = (n ≤ length families) × AreOfOneView (take n families)

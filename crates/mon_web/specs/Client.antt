@@ -89,7 +89,7 @@ pub record IsDraining {S : Type 0} (Read : Call S) (buffer : List ℕ) (old new 
   pub kept : new.connection ≡ old.connection
   pub after : turn ≡ after_reading answer
 
--- What came was answered by what the pages show at this moment, and the stream was asked nothing.
+-- What came was answered by what the pages show at this time, and the stream was asked nothing.
 pub record IsAnswering {S : Type 0} (view : View) (at : Moment) (old new : Client S)
     (turn : Turn) : Type 0 where
   pub answered : IsResponse view at old.connection true new.connection

@@ -240,7 +240,7 @@ impl<C: Content> Table<C> {
         }
     }
 
-    /// Gives a newcomer a slot. If memory is refused for it, it is closed.
+    /// Puts a newcomer into a slot. If memory is refused for it, it is closed.
     fn slot(&mut self, registry: &Registry, place: usize, stream: TcpStream, now: u64)
         ensures pages { self.new.pages ≡ self.old.pages }
         ensures slots { HasSlot place now self.old.slots.items self.new.slots.items }

@@ -21,7 +21,7 @@ found_is_got Told Found t room len from (Ok (Datagram address octets)) found is 
 found_is_got Told Found t room len from (Ok Quiet) found is = elim is [ ]
 found_is_got Told Found t room len from (Err fault) found is = tt
 
--- the same by a clock, a socket and a wait that stayed
+-- a datagram that was found is what is got, by a clock, a socket and a wait that stayed
 pub got_as : {T S : Type 0} → (told : T → Instant → Instant → Type 0) (found : S → List ℕ → ℕ → SocketAddr → Type 0) (ticks was_ticks : T) (socket was_socket : S) (t was : Timer) (room : List ℕ) (len : ℕ) (from : SocketAddr)
     (Turn : Instant → ℕ → Type 0) (datagrams : ℕ) (attempt : Attempt) (seen : List ℕ) (result : Result Arrival ReceiverFault) → ticks ≡ was_ticks → socket ≡ was_socket → t ≡ was → attempt ≡ Received len from
     → IsAttempt (told ticks t.quiet) (found socket room) Turn datagrams t attempt → seen ≡ room → IfOk result (IsArrival seen len from)

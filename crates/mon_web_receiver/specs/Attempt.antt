@@ -22,7 +22,7 @@ abbrev pub moment_at : (origin now : Instant) → Option Date → Moment
 moment_at origin now date =
     record { now = milliseconds_of (instant_nanos now - instant_nanos origin); date = date }
 
--- HTTP had a turn at a time, with the date that was told, and could wait this many nanoseconds
+-- HTTP had a turn at a time, with the date that was returned, and could wait this many nanoseconds
 abbrev pub HadTurn : {W : Type 0} → (Dated : Option Date → Type 0)
     → (Gave : W → Moment → ℕ → W → Type 0) → (origin : Instant) → (before after : W)
     → Instant → ℕ → Type 0
@@ -34,7 +34,8 @@ HadTurn Dated Gave origin before after now wait =
 abbrev pub wait_after : ℕ → ℕ → ℕ
 wait_after datagrams left = if nat_lt datagrams 64 then left else 0
 
--- HTTP had a turn in a wait: at a time that was told, while something of the wait was left
+-- HTTP had a turn in a wait: at a time that the clock returned, while something of the wait was
+-- left
 pub record IsServed (Told : Instant → Type 0) (Turn : Instant → ℕ → Type 0) (datagrams : ℕ)
     (t : Timer) : Type 0 where
   pub now : Instant
@@ -42,8 +43,9 @@ pub record IsServed (Told : Instant → Type 0) (Turn : Instant → ℕ → Type
   pub left : 0 < left_at t now
   pub turn : Turn now (wait_after datagrams (left_at t now))
 
--- an attempt to receive in a wait, by the time that was told in it: a datagram that came while the
--- wait was on; or the wait is over, whatever came; or HTTP had a turn after so many datagrams
+-- an attempt to receive in a wait, by the time that the clock returned in it: a datagram that came
+-- while the wait was on; or the wait is over, whatever came; or HTTP had a turn after this many
+-- datagrams
 abbrev pub IsAttempt : (Told : Instant → Type 0) (Found : ℕ → SocketAddr → Type 0)
     (Turn : Instant → ℕ → Type 0) → (datagrams : ℕ) → Timer → Attempt → Type 0
 IsAttempt Told Found Turn datagrams t (Received len from) = IsOn Told t × Found len from

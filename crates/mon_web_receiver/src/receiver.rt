@@ -76,7 +76,7 @@ impl<'a, C: Content, R: Dates + AllocGlobal, T: Ticks> WebReceiver<
         ensures pages { IfOk result (λ r. r.web.table.pages ≡ web.table.pages) }
         ensures origin { IfOk result (λ r. r.origin ≡ origin) }
         ensures over { IfOk result (λ r. r.timer ≡ begun 0 origin) }
-        ensures room { IfOk result (λ r. length r.buffer.items ≡ 65507) }
+        ensures buffer { IfOk result (λ r. length r.buffer.items ≡ 65507) }
         ensures served { IfOk result (λ r. r.unserved ≡ 0) }
         ensures failures { IfOk result (λ r. r.failures ≡ 0) }
     {
@@ -98,13 +98,13 @@ impl<'a, C: Content, R: Dates + AllocGlobal, T: Ticks> WebReceiver<
 }
 
 impl<R: Dates, T: Ticks, S: Looks, W: Serves> WebReceiver<'_, R, T, S, W> {
-    /// Begins a wait, begins its quiet anew, or goes on with it.
+    /// Begins a wait, renews it, or goes on with it.
     fn begin(&mut self, wait: Wait) -> io::Result<()>
         ensures wait { OnOk result (IsTimed (T.told self.old.ticks.now self.old.timer.quiet) wait
             self.old.timer self.new.timer) }
         ensures by { (self.new.ticks ≡ self.old.ticks) × (self.new.socket ≡ self.old.socket)
             × (self.new.rt ≡ self.old.rt) }
-        ensures room { self.new.buffer ≡ self.old.buffer }
+        ensures buffer { self.new.buffer ≡ self.old.buffer }
         ensures web { (self.new.web ≡ self.old.web) × (self.new.unserved ≡ self.old.unserved) }
         ensures origin { self.new.origin ≡ self.old.origin }
     {
@@ -127,7 +127,7 @@ impl<R: Dates, T: Ticks, S: Looks, W: Serves> WebReceiver<'_, R, T, S, W> {
             W.served self.old.origin self.old.timer)
             self.old.unserved self.new.unserved self.old.web self.new.web) }
         ensures timer { self.new.timer ≡ self.old.timer }
-        ensures room { length self.new.buffer.items ≡ length self.old.buffer.items }
+        ensures buffer { length self.new.buffer.items ≡ length self.old.buffer.items }
         ensures pages { W.pages self.new.web ≡ W.pages self.old.web }
         ensures origin { self.new.origin ≡ self.old.origin }
     {
@@ -154,7 +154,7 @@ impl<R: Dates, T: Ticks, S: Looks, W: Serves> WebReceiver<'_, R, T, S, W> {
             (IsTurnIn (T.told self.old.ticks.now self.new.timer.quiet) (R.dated self.old.rt.now)
             W.served self.old.origin self.new.timer)
             self.old.unserved self.new.unserved self.old.web self.new.web) }
-        ensures room { length self.new.buffer.items ≡ length self.old.buffer.items }
+        ensures buffer { length self.new.buffer.items ≡ length self.old.buffer.items }
         ensures pages { W.pages self.new.web ≡ W.pages self.old.web }
         ensures origin { self.new.origin ≡ self.old.origin }
     {
@@ -177,7 +177,7 @@ impl<R: Dates, T: Ticks, S: Looks, W: Serves> WebReceiver<'_, R, T, S, W> {
         ensures timer { self.new.timer ≡ self.old.timer }
         ensures by { (self.new.ticks ≡ self.old.ticks) × (self.new.socket ≡ self.old.socket)
             × (self.new.rt ≡ self.old.rt) }
-        ensures room { length self.new.buffer.items ≡ length self.old.buffer.items }
+        ensures buffer { length self.new.buffer.items ≡ length self.old.buffer.items }
         ensures pages { W.pages self.new.web ≡ W.pages self.old.web }
         ensures origin { self.new.origin ≡ self.old.origin }
     {
@@ -207,7 +207,7 @@ impl<R: Dates, T: Ticks, S: Looks, W: Serves> WebReceiver<'_, R, T, S, W> {
         ensures timer { self.new.timer ≡ self.old.timer }
         ensures by { (self.new.ticks ≡ self.old.ticks) × (self.new.socket ≡ self.old.socket)
             × (self.new.rt ≡ self.old.rt) }
-        ensures room { length self.new.buffer.items ≡ length self.old.buffer.items }
+        ensures buffer { length self.new.buffer.items ≡ length self.old.buffer.items }
         ensures web { self.new.web ≡ self.old.web }
         ensures origin { self.new.origin ≡ self.old.origin }
     {
@@ -229,7 +229,7 @@ impl<R: Dates, T: Ticks, S: Looks, W: Serves> WebReceiver<'_, R, T, S, W> {
         ensures timer { self.new.timer ≡ self.old.timer }
         ensures by { (self.new.ticks ≡ self.old.ticks) × (self.new.socket ≡ self.old.socket)
             × (self.new.rt ≡ self.old.rt) }
-        ensures room { self.new.buffer ≡ self.old.buffer }
+        ensures buffer { self.new.buffer ≡ self.old.buffer }
         ensures pages { W.pages self.new.web ≡ W.pages self.old.web }
         ensures origin { self.new.origin ≡ self.old.origin }
     {
@@ -260,13 +260,13 @@ impl<R: Dates, T: Ticks, S: Looks, W: Serves> Receiver for WebReceiver<'_, R, T,
     ghost use Rattle.mon_udp.specs.Counts.{failed_after};
 
     // What happens at a socket is not known.
-    ghost heard = { λ _. None };
+    ghost log = { λ _. None };
 
     ghost failures = { λ r. r.failures };
 
     fn receive(&mut self, wait: Wait) -> Result<Arrival, ReceiverFault>
         ensures failures { self.new.failures ≡ failed_after result self.old.failures }
-        // The wait begins, or is quiet since, the time that the clock tells in this call.
+        // The wait begins at the time that the clock returns in this call, or is idle since then.
         ensures wait { OnOk result (IsTimed (T.told self.old.ticks.now self.old.timer.quiet) wait
             self.old.timer self.new.timer) }
         // A datagram is the system's; there is none only if the wait is over by the clock.
@@ -277,7 +277,7 @@ impl<R: Dates, T: Ticks, S: Looks, W: Serves> Receiver for WebReceiver<'_, R, T,
             (IsTurnIn (T.told self.old.ticks.now self.new.timer.quiet) (R.dated self.old.rt.now)
             W.served self.old.origin self.new.timer)
             self.old.unserved self.new.unserved self.old.web self.new.web) }
-        ensures room { length self.new.buffer.items ≡ length self.old.buffer.items }
+        ensures buffer { length self.new.buffer.items ≡ length self.old.buffer.items }
         ensures pages { W.pages self.new.web ≡ W.pages self.old.web }
         ensures origin { self.new.origin ≡ self.old.origin }
     {

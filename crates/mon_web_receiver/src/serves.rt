@@ -16,12 +16,12 @@ pub trait Serves {
     // What it shows.
     ghost pages: { Self → View };
 
-    // It had a turn at this moment, in which it could wait this many nanoseconds: what it was
-    // before, and after. Code that is generic over what serves has this from a call alone, made
+    // It had a turn at this time, in which it could wait this many nanoseconds: what it was
+    // before, and after. Code that is generic over what serves has this only from a call, made
     // once.
     ghost served: { Self → At → ℕ → Self → Type 0 };
 
-    /// Does one thing for one client at this moment, or waits for what comes, for `left` at most.
+    /// Does one thing for one client at this time, or waits for what comes, for `left` at most.
     ///
     /// # Errors
     /// That of the system, if it cannot be waited.
@@ -43,13 +43,13 @@ impl<C: Content> Serves for Server<C> {
     }
 }
 
-/// What tells the date.
+/// What returns the date.
 pub trait Dates {
     ghost use Rattle.std.specs.Prelude.{Option};
     ghost use Rattle.httpdate.specs.declared.date.HttpDate.{HttpDate as AnyDate};
 
-    // It told this date, or none. Code that is generic over what tells the date has this from a
-    // call alone.
+    // It returned this date, or none. Code that is generic over what returns the date has this only
+    // from a call.
     ghost dated: { Self → Option AnyDate → Type 0 };
 
     /// Returns the date now. `None` if the clock fails or is out of range of a date.

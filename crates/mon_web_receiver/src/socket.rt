@@ -36,10 +36,10 @@ pub trait Looks {
     ghost use Rattle.std.specs.declared.net.socket_addr.SocketAddr.{SocketAddr as AnySocketAddr};
 
     // A call left this in a buffer, with this many octets of a datagram at its front, which came
-    // from this address. Code that is generic over what is looked at has this from a call alone.
+    // from this address. Code that is generic over what is looked at has this only from a call.
     ghost found: { Self → List ℕ → ℕ → AnySocketAddr → Type 0 };
 
-    // A call found no datagram, as the system said. Such code has this from a call alone, too.
+    // A call found no datagram, as the system said. Such code has this, too, only from a call.
     ghost was_empty: { Self → Type 0 };
 
     /// Puts a datagram into the buffer, if one is there. Returns how many of its octets are there,

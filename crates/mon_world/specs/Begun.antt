@@ -24,7 +24,7 @@ abbrev pub IsBegunAfter : List (Entry × State) → State → Type 0
 IsBegunAfter [] s = ((i : ℕ) → window_of s.board i ≡ set.empty) × (s.incarnation ≡ 1)
 IsBegunAfter (x ∷ past) s = GoesOn (x ∷ past) s
 
--- how each life began
+-- how each life started
 abbrev pub AreBegun : List (Entry × State) → Type 0
 AreBegun [] = Unit {0}
 AreBegun ((Restart origin w, s) ∷ past) = IsBegunAfter past s × AreBegun past

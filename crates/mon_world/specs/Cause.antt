@@ -37,7 +37,7 @@ IsFaultOfCopy watch file station.OutOfMemory = ⊥
 IsFaultOfCopy watch file (station.Keeper keeper.DiskFault) = ⊥
 IsFaultOfCopy watch file f = IsFaultOfFile watch file f
 
--- why no save was begun on a copy of this file
+-- why no save was started on a copy of this file
 abbrev pub IsFaultOfBeginning : List ℕ → StationFault → Type 0
 IsFaultOfBeginning file station.OutOfMemory = Unit {0}
 IsFaultOfBeginning file (station.Keeper keeper.Damaged) = is_undamaged file ≡ false

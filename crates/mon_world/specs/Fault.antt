@@ -81,8 +81,8 @@ IsSaveRefusal (station.Keeper keeper.DiskFault) = Unit {0}
 IsSaveRefusal (station.Keeper keeper.NoMoreGenerations) = Unit {0}
 IsSaveRefusal f = ⊥
 
--- A station was not opened from a disk in memory, or no save was begun on a copy of it. Such a disk
--- only fails where memory is refused.
+-- A station was not opened from a disk in memory, or no save was started on a copy of it. Such a
+-- disk only fails where memory is refused.
 abbrev pub IsOpeningRefusal : StationFault → Type 0
 IsOpeningRefusal (station.Keeper keeper.Damaged) = Unit {0}
 IsOpeningRefusal (station.Keeper keeper.NoMoreGenerations) = Unit {0}

@@ -69,7 +69,7 @@ MayFindAfter (FromPeer said) answer before later = before later
 MayFindAfter (Share peer) answer before later = before later
 
 -- an opening may find the save that has this many later ones: the last that was answered without a
--- fault or with which a life began, or one after it that met the disk's fault
+-- fault or with which a life started, or one after it that met the disk's fault
 abbrev pub MayFind : List (Entry × State) → ℕ → Type 0
 MayFind [] later = ⊥
 MayFind ((Restart origin w, s) ∷ past) later = later ≡ 0

@@ -28,7 +28,7 @@ use Rattle.mon_world.specs.Places.{HasNumber, IsNumberTo, IsNoNumberTo}
 abbrev pub answers : ℕ → ReadEvent → Option StationFault → State → Move
 answers x e answer s = record { station = x; entry = Answered e answer; after = s }
 
--- station x began a life of this setting from there, which is now so
+-- station x started a life of this setting from there, which is now so
 abbrev pub life_begins : ℕ → Origin → Setting → State → Move
 life_begins x origin w s = record { station = x; entry = Restart origin w; after = s }
 

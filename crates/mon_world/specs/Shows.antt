@@ -131,7 +131,7 @@ abbrev pub AreFirst : {G : Ghosts MemoryDisk} → Core → ℕ → List (Station
 AreFirst {G} core count stations = (x : ℕ) (s : Station MemoryDisk G) → HasNumber stations x s
     → IsFirst core count x s
 
--- a station at this place of a world of this many began a life from this body, and will be found
+-- a station at this place of a world of this many started a life from this body, and will be found
 pub record IsReplaced {G : Ghosts MemoryDisk} (core : Core) (place : ℕ) (body : Option (List ℕ))
     (old new : List (Station MemoryDisk G)) : Type 0 where
   pub station : Station MemoryDisk G

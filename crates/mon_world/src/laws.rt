@@ -87,7 +87,7 @@ pub fn unforged()
 /// without a fault, or of one after it that was stopped or met the disk's fault; an opening's own
 /// save is one of these. Its incarnation is the one after that of the life before, so greater than
 /// each earlier one.
-pub fn begun()
+pub fn lives_start()
     ensures { (core : Core) (count x : ℕ) (moves : List Move)
         → AreMoves (setting_at core count) moves → AreBegun (lives_of x moves) }
 {

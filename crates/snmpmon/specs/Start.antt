@@ -52,7 +52,8 @@ status_of true SettingsChanged = 4
 status_of true fault = if lasts fault then 3 else 1
 status_of false fault = 1
 
--- the end of a command: status 0 and no word; or its failure is told, and the status is its fault's
+-- the end of a command: status 0 and no word; or its failure is reported, and the status is
+-- its fault's
 abbrev pub IsEnd : (station : Bool) → Result Unit Failure → List AtHost → ℕ → Type 0
 IsEnd station (Ok done) log status = (log ≡ []) × (status ≡ 0)
 IsEnd station (Err failure) log status =
@@ -195,7 +196,7 @@ abbrev pub no_machines : List ℕ
 no_machines =
     codes "snmpmon: --stations and --first-group want --machines; see snmpmon settings --help\n"
 
--- what is said of rows that are to be sorted of a report that is no table
+-- what is said of sorted rows of a report that is no table
 abbrev pub no_columns : List ℕ
 no_columns = codes "snmpmon: --sort wants --columns; see snmpmon report --help\n"
 

@@ -60,7 +60,7 @@ const NO_SPLIT: &str =
 const NO_MACHINES: &str =
     "snmpmon: --stations and --first-group want --machines; see snmpmon settings --help\n";
 
-/// The line for rows that are to be sorted of a report that is no table.
+/// The line for sorted rows of a report that is no table.
 const NO_COLUMNS: &str = "snmpmon: --sort wants --columns; see snmpmon report --help\n";
 
 /// What commands reach besides their host.
@@ -83,8 +83,8 @@ pub fn start<
     H: Host,
 >(rt: &R, means: &Means<N, K, C>, host: &mut H) -> u8
     ensures { GoesOnBy (λ log. IsStart (agents_by (N.Opens.has_opened means.now.net)
-        (N.Opens.has_failed means.now.net) N.Wire.told) (ports_by (N.Listens.has_opened means.now.net)
-        (N.Listens.has_failed means.now.net) N.Port.told N.Port.failures)
+        (N.Opens.has_failed means.now.net) N.Wire.log) (ports_by (N.Listens.has_opened means.now.net)
+        (N.Listens.has_failed means.now.net) N.Port.log N.Port.failures)
         (K.asked_save means.now.disks)
         (stations_by (C.has_connected means.now.streams) (C.has_failed means.now.streams)
         C.Stream.log) log result) (H.log host.old) (H.log host.new) }
@@ -123,8 +123,8 @@ fn start_with<
     H: Host,
 >(rt: &R, means: &Means<N, K, C>, host: &mut H, words: &[String]) -> u8
     ensures { GoesOnBy (λ log. IsStartWith (agents_by (N.Opens.has_opened means.now.net)
-        (N.Opens.has_failed means.now.net) N.Wire.told) (ports_by (N.Listens.has_opened means.now.net)
-        (N.Listens.has_failed means.now.net) N.Port.told N.Port.failures)
+        (N.Opens.has_failed means.now.net) N.Wire.log) (ports_by (N.Listens.has_opened means.now.net)
+        (N.Listens.has_failed means.now.net) N.Port.log N.Port.failures)
         (K.asked_save means.now.disks)
         (stations_by (C.has_connected means.now.streams) (C.has_failed means.now.streams)
         C.Stream.log) (map string_bytes words.now) log result)
@@ -179,8 +179,8 @@ fn start_command<
 >(rt: &R, means: &Means<N, K, C>, host: &mut H, asked: Invocation<'_, '_>) -> u8
     requires { IsWithin asked }
     ensures { GoesOnBy (λ log. IsStartOf (agents_by (N.Opens.has_opened means.now.net)
-        (N.Opens.has_failed means.now.net) N.Wire.told) (ports_by (N.Listens.has_opened means.now.net)
-        (N.Listens.has_failed means.now.net) N.Port.told N.Port.failures)
+        (N.Opens.has_failed means.now.net) N.Wire.log) (ports_by (N.Listens.has_opened means.now.net)
+        (N.Listens.has_failed means.now.net) N.Port.log N.Port.failures)
         (K.asked_save means.now.disks)
         (stations_by (C.has_connected means.now.streams) (C.has_failed means.now.streams)
         C.Stream.log) asked.entry log result)
@@ -220,8 +220,8 @@ fn run_to_end<
 >(rt: &R, means: &Means<N, K, C>, host: &mut H, asked: Invocation<'_, '_>) -> u8
     requires { IsWithin asked }
     ensures { GoesOnBy (λ log. IsRunFor (agents_by (N.Opens.has_opened means.now.net)
-        (N.Opens.has_failed means.now.net) N.Wire.told) (ports_by (N.Listens.has_opened means.now.net)
-        (N.Listens.has_failed means.now.net) N.Port.told N.Port.failures)
+        (N.Opens.has_failed means.now.net) N.Wire.log) (ports_by (N.Listens.has_opened means.now.net)
+        (N.Listens.has_failed means.now.net) N.Port.log N.Port.failures)
         (K.asked_save means.now.disks)
         (stations_by (C.has_connected means.now.streams) (C.has_failed means.now.streams)
         C.Stream.log) asked.entry log result)
@@ -252,7 +252,7 @@ fn reads_input(asked: &Invocation<'_, '_>) -> bool
     )
 }
 
-/// Returns `true` for a station that runs, or that is to be checked.
+/// Returns `true` for a station that is run or checked.
 fn is_station(asked: &Invocation<'_, '_>) -> bool
     ensures { result ≡ is_station asked.now }
 {
@@ -277,7 +277,7 @@ fn end<H: Host>(host: &mut H, done: Result<(), Failure>, station: bool) -> u8
         Ok(()) => 0,
         Err(failure) => {
             if !failure.is_cut() {
-                failure.tell(host, Level::Error);
+                failure.report(host, Level::Error);
             }
             status_of(station, failure.fault)
         }
@@ -307,8 +307,8 @@ fn run<
 >(rt: &R, means: &Means<N, K, C>, host: &mut H, asked: Invocation<'_, '_>) -> Result<(), Failure>
     requires { IsWithin asked }
     ensures { GoesOnBy (λ log. Does (agents_by (N.Opens.has_opened means.now.net)
-        (N.Opens.has_failed means.now.net) N.Wire.told) (ports_by (N.Listens.has_opened means.now.net)
-        (N.Listens.has_failed means.now.net) N.Port.told N.Port.failures)
+        (N.Opens.has_failed means.now.net) N.Wire.log) (ports_by (N.Listens.has_opened means.now.net)
+        (N.Listens.has_failed means.now.net) N.Port.log N.Port.failures)
         (K.asked_save means.now.disks)
         (stations_by (C.has_connected means.now.streams) (C.has_failed means.now.streams)
         C.Stream.log) asked.entry log result) (H.log host.old) (H.log host.new) }

@@ -83,8 +83,8 @@ BUGS = {
     ),
     "refuses_a_reply_of_the_limit": (
         "src/response_builder.rt",
-        "    size <= limit.max(0) as usize",
-        "    size < limit.max(0) as usize",
+        "    size <= max_message_size.max(0) as usize",
+        "    size < max_message_size.max(0) as usize",
     ),
     "forgets_the_size_of_the_list": (
         "src/response_builder.rt",
@@ -108,7 +108,7 @@ BUGS = {
     ),
     "sends_too_big_at_any_size": (
         "src/sending.rt",
-        "    match size_within(reply, limit) {",
+        "    match size_within(reply, max_message_size) {",
         "    match size_within(reply, i32::MAX) {",
     ),
     "calls_too_big_no_request": (
@@ -128,7 +128,7 @@ BUGS = {
     ),
     "silences_a_set_above_the_limit": (
         "src/assigning.rt",
-        "            return make_answer(send_too_big(alloc, response, limit));",
+        "            return make_answer(send_too_big(alloc, response, max_message_size));",
         "            return Ok(Ready::Answer(Reply::Silent(crate::reply::Silence::TooBigTwice)));",
     ),
     "returns_one_binding_of_a_set": (
@@ -163,17 +163,17 @@ BUGS = {
     ),
     "has_room_by_its_bindings_alone": (
         "src/response_builder.rt",
-        "    if is_within(size_bound(head, list), limit) {",
-        "    if is_within(list, limit) {",
+        "    if is_within(size_bound(head, list), max_message_size) {",
+        "    if is_within(list, max_message_size) {",
     ),
     "sends_within_any_limit": (
         "src/response_builder.rt",
-        "        send_measured(alloc, self.into_message(), list, limit)",
-        "        send_measured(alloc, self.into_message(), list, limit.max(484))",
+        "        send_measured(alloc, self.into_message(), list, max_message_size)",
+        "        send_measured(alloc, self.into_message(), list, max_message_size.max(484))",
     ),
     "sends_what_was_cut": (
         "src/reading.rt",
-        "        send_too_big(alloc, reply.into_message(), limit)\n    }",
+        "        send_too_big(alloc, reply.into_message(), max_message_size)\n    }",
         "        reply.send(alloc)\n    }",
     ),
     "counts_nothing_of_what_it_tells": (
@@ -208,8 +208,8 @@ BUGS = {
     ),
     "sends_above_the_limit": (
         "src/response_builder.rt",
-        "    size <= limit.max(0) as usize",
-        "    size <= limit.max(0) as usize + 1",
+        "    size <= max_message_size.max(0) as usize",
+        "    size <= max_message_size.max(0) as usize + 1",
     ),
     "silent_drop_is_not_counted": (
         "src/agent.rt",
@@ -253,13 +253,13 @@ BUGS = {
     ),
     "in_place_cuts_off_octets": (
         "src/in_place.rt",
-        "        Ok(Shown::Octets(octets)) => put_octets_binding(out, name, octets, limit),",
-        "        Ok(Shown::Octets(octets)) => put_octets_binding(out, name, &octets[..octets.len().min(4)], limit),",
+        "        Ok(Shown::Octets(octets)) => put_octets_binding(out, name, octets, max_message_size),",
+        "        Ok(Shown::Octets(octets)) => put_octets_binding(out, name, &octets[..octets.len().min(4)], max_message_size),",
     ),
     "in_place_gets_null": (
         "src/in_place.rt",
-        "        Ok(Shown::Other(got)) => put_binding(out, name, &got_value(got), limit),",
-        "        Ok(Shown::Other(_)) => put_binding(out, name, &Value::Null, limit),",
+        "        Ok(Shown::Other(got)) => put_binding(out, name, &got_value(got), max_message_size),",
+        "        Ok(Shown::Other(_)) => put_binding(out, name, &Value::Null, max_message_size),",
     ),
     "in_place_takes_any_short_value_for_null": (
         "src/in_place.rt",
@@ -273,13 +273,13 @@ BUGS = {
     ),
     "in_place_answers_with_the_error_index": (
         "src/in_place.rt",
-        "        take_response(alloc, frame.community, frame.request_id, limit, buffers)\n    }\n\n    /// The octets of the reply to a GetBulk",
-        "        take_response(alloc, frame.community, frame.error_index, limit, buffers)\n    }\n\n    /// The octets of the reply to a GetBulk",
+        "            frame.request_id,\n            max_message_size,\n            buffers,\n        )\n    }\n\n    /// The octets of the reply to a GetBulk",
+        "            frame.error_index,\n            max_message_size,\n            buffers,\n        )\n    }\n\n    /// The octets of the reply to a GetBulk",
     ),
     "in_place_of_any_size": (
         "src/in_place.rt",
-        "    write_frame(&mut buffers.octets, &frame, limit.max(0) as u32).ok()?;",
-        "    let _ = limit;\n    write_frame(&mut buffers.octets, &frame, u32::MAX).ok()?;",
+        "    write_frame(&mut buffers.octets, &frame, max_message_size.max(0) as u32).ok()?;",
+        "    let _ = max_message_size;\n    write_frame(&mut buffers.octets, &frame, u32::MAX).ok()?;",
     ),
     "in_place_answers_with_an_error": (
         "src/in_place.rt",
@@ -323,8 +323,8 @@ BUGS = {
     ),
     "in_place_answers_no_object_at_the_end": (
         "src/in_place.rt",
-        "        _ => put_binding(out, name, &Value::EndOfMibView, limit),",
-        "        _ => put_binding(out, name, &Value::NoSuchObject, limit),",
+        "        _ => put_binding(out, name, &Value::EndOfMibView, max_message_size),",
+        "        _ => put_binding(out, name, &Value::NoSuchObject, max_message_size),",
     ),
     "bulk_in_place_ends_at_a_text": (
         "src/bulk_in_place.rt",
@@ -348,8 +348,8 @@ BUGS = {
     ),
     "bulk_in_place_within_the_limit_of_a_list": (
         "src/bulk_in_place.rt",
-        "    if frame_fits(&plan.head, list.len().min(LIMIT), plan.limit) {",
-        "    if list.len() <= plan.limit as usize {",
+        "    if frame_fits(&plan.head, list.len().min(LIMIT), plan.max_message_size) {",
+        "    if list.len() <= plan.max_message_size as usize {",
     ),
     "answers_before_it_counts": (
         "src/agent.rt",

@@ -285,32 +285,32 @@ BUGS = {
     ),
     "tells_nothing_of_memory": (
         "src/agent.rt",
-        "        Served::Untaken => Failure::from(AppFault::OutOfMemory).tell(host, Level::Warning),",
+        "        Served::Untaken => Failure::from(AppFault::OutOfMemory).report(host, Level::Warning),",
         "        Served::Untaken => {}",
     ),
     "tells_twice_of_memory": (
         "src/agent.rt",
-        "        Served::Untaken => Failure::from(AppFault::OutOfMemory).tell(host, Level::Warning),",
-        "        Served::Untaken => {\n            Failure::from(AppFault::OutOfMemory).tell(host, Level::Warning);\n            Failure::from(AppFault::OutOfMemory).tell(host, Level::Warning);\n        }",
+        "        Served::Untaken => Failure::from(AppFault::OutOfMemory).report(host, Level::Warning),",
+        "        Served::Untaken => {\n            Failure::from(AppFault::OutOfMemory).report(host, Level::Warning);\n            Failure::from(AppFault::OutOfMemory).report(host, Level::Warning);\n        }",
     ),
     "tells_of_each_datagram": (
         "src/agent.rt",
         "        Served::Answered => {}",
-        "        Served::Answered => Failure::from(AppFault::OutOfMemory).tell(host, Level::Warning),",
+        "        Served::Answered => Failure::from(AppFault::OutOfMemory).report(host, Level::Warning),",
     ),
     "tells_another_fault_for_memory": (
         "src/agent.rt",
-        "        Served::Untaken => Failure::from(AppFault::OutOfMemory).tell(host, Level::Warning),",
-        "        Served::Untaken => Failure::from(AppFault::FileFault).tell(host, Level::Warning),",
+        "        Served::Untaken => Failure::from(AppFault::OutOfMemory).report(host, Level::Warning),",
+        "        Served::Untaken => Failure::from(AppFault::FileFault).report(host, Level::Warning),",
     ),
     "tells_of_memory_in_other_words": (
         "src/agent.rt",
-        "        Served::Untaken => Failure::from(AppFault::OutOfMemory).tell(host, Level::Warning),",
+        "        Served::Untaken => Failure::from(AppFault::OutOfMemory).report(host, Level::Warning),",
         '        Served::Untaken => host.note(Level::Info, "snmpmon: no memory for a datagram\\n"),',
     ),
     "tells_of_memory_on_standard_output": (
         "src/agent.rt",
-        "        Served::Untaken => Failure::from(AppFault::OutOfMemory).tell(host, Level::Warning),",
+        "        Served::Untaken => Failure::from(AppFault::OutOfMemory).report(host, Level::Warning),",
         '        Served::Untaken => {\n            let _ = host.print(b"snmpmon: mon_app 1 OutOfMemory\\n");\n        }',
     ),
     "notes_each_answer": (
@@ -351,7 +351,7 @@ BUGS = {
     "tells_the_fault_of_a_port_too": (
         "src/agent.rt",
         "    let served = serve_one(alloc, port, agent, room)?;\n    tell_untaken(host, served);\n",
-        "    let served = match serve_one(alloc, port, agent, room) {\n        Ok(served) => served,\n        Err(fault) => {\n            Failure::from(AppFault::OutOfMemory).tell(host, Level::Warning);\n            return Err(AppFault::from(fault));\n        }\n    };\n    tell_untaken(host, served);\n",
+        "    let served = match serve_one(alloc, port, agent, room) {\n        Ok(served) => served,\n        Err(fault) => {\n            Failure::from(AppFault::OutOfMemory).report(host, Level::Warning);\n            return Err(AppFault::from(fault));\n        }\n    };\n    tell_untaken(host, served);\n",
     ),
     "lacks_memory_where_the_port_fails": (
         "src/agent.rt",
@@ -361,7 +361,7 @@ BUGS = {
     "tells_a_failed_port_before_it_ends": (
         "src/agent.rt",
         "        serve_next(alloc, host, port, agent, &mut room)?;",
-        "        if let Err(fault) = serve_next(alloc, host, port, agent, &mut room) {\n            let failure = Failure::from(fault);\n            failure.tell(host, Level::Warning);\n            return Err(failure);\n        }",
+        "        if let Err(fault) = serve_next(alloc, host, port, agent, &mut room) {\n            let failure = Failure::from(fault);\n            failure.report(host, Level::Warning);\n            return Err(failure);\n        }",
     ),
     "listens_and_serves_nobody": (
         "src/agent.rt",
@@ -566,7 +566,7 @@ BUGS = {
     "tells_a_failed_walk_itself": (
         "src/walking.rt",
         "        Err(fault) => Err(walk_failure(alloc, route.agent.word, fault)),",
-        "        Err(fault) => {\n            let failure = walk_failure(alloc, route.agent.word, fault);\n            failure.tell(host, Level::Warning);\n            Err(failure)\n        }",
+        "        Err(fault) => {\n            let failure = walk_failure(alloc, route.agent.word, fault);\n            failure.report(host, Level::Warning);\n            Err(failure)\n        }",
     ),
     "shows_a_walk_in_numbers": (
         "src/walking.rt",

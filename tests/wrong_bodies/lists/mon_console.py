@@ -319,8 +319,8 @@ BUGS = {
     ),
     "says_a_line_twice": (
         "src/failure.rt",
-        "            self.tell_more(host, level);",
-        "            self.tell_more(host, level); self.tell_more(host, level);",
+        "            self.report_more(host, level);",
+        "            self.report_more(host, level); self.report_more(host, level);",
     ),
     "says_each_failure_as_an_error": (
         "src/failure.rt",

@@ -153,8 +153,8 @@ BUGS = {
     ),
     "an_if_name_as_it_is": (
         "src/words.rt",
-        "        Some(name) => put_escaped(text, name.as_bytes()),",
-        "        Some(name) => text.extend_from_slice(name.as_bytes()),",
+        "        return put_escaped(text, name.as_bytes());",
+        "        return text.extend_from_slice(name.as_bytes());",
     ),
     "a_title_as_it_is": (
         "src/head.rt",
@@ -168,8 +168,8 @@ BUGS = {
     ),
     "reason_as_it_is": (
         "src/wrong.rt",
-        "    text.extend_from_slice(b\": \")?;\n    put_escaped(text, reason)",
-        "    text.extend_from_slice(b\": \")?;\n    text.extend_from_slice(reason)",
+        "    text.extend_from_slice(b\": \")?;\n    put_escaped(text, reason.as_bytes())",
+        "    text.extend_from_slice(b\": \")?;\n    text.extend_from_slice(reason.as_bytes())",
     ),
     "first_row_again": (
         "src/row.rt",
@@ -203,13 +203,13 @@ BUGS = {
     ),
     "the_rate_of_a_stale_row": (
         "src/words.rt",
-        "    let rate = fresh_rate(row.entry(), row.is_fresh());",
-        "    let rate = fresh_rate(row.entry(), true);",
+        "    let Some(rate) = fresh_rate(row.entry(), row.is_fresh()) else {",
+        "    let Some(rate) = fresh_rate(row.entry(), true) else {",
     ),
     "the_errors_of_a_stale_row": (
         "src/table.rt",
-        "    let rate = fresh_rate(row.entry(), row.is_fresh());\n    put_fault_if",
-        "    let rate = fresh_rate(row.entry(), true);\n    put_fault_if",
+        "    let Some(rate) = fresh_rate(row.entry(), row.is_fresh()) else {\n        return Ok(());\n    };\n    if rate == 0",
+        "    let Some(rate) = fresh_rate(row.entry(), true) else {\n        return Ok(());\n    };\n    if rate == 0",
     ),
     "oldest_value": (
         "src/words.rt",
@@ -218,8 +218,8 @@ BUGS = {
     ),
     "no_rate_is_0": (
         "src/words.rt",
-        "        None => text.extend_from_slice(b\"-\"),\n        Some(rate) =>",
-        "        None => text.extend_from_slice(b\"0 /s\"),\n        Some(rate) =>",
+        "else {\n        return text.extend_from_slice(b\"-\");\n    };\n    put_rate",
+        "else {\n        return text.extend_from_slice(b\"0 /s\");\n    };\n    put_rate",
     ),
     "an_unknown_age_is_0": (
         "src/words.rt",
@@ -283,8 +283,8 @@ BUGS = {
     ),
     "the_least_age": (
         "src/table.rt",
-        "        Some(other) => Some(some.max(other)),",
-        "        Some(other) => Some(some.min(other)),",
+        "    Some(age.max(other))",
+        "    Some(age.min(other))",
     ),
     "one_device_for_all": (
         "src/devices.rt",
@@ -298,8 +298,8 @@ BUGS = {
     ),
     "a_device_is_up_if_a_target_is": (
         "src/devices.rt",
-        "    targets.iter().all(|target| is_fine(target, engine))",
-        "    targets.iter().any(|target| is_fine(target, engine))",
+        "            .all(|target| target.up",
+        "            .any(|target| target.up",
     ),
     "a_stale_device_is_closed": (
         "src/devices.rt",
@@ -333,8 +333,8 @@ BUGS = {
     ),
     "one_alarm_less": (
         "src/head.rt",
-        "    Ok(alarms.len())",
-        "    Ok(alarms.len().saturating_sub(1))",
+        "    let raised = raised_alarms(alloc, rows)?.len();",
+        "    let raised = raised_alarms(alloc, rows)?.len().saturating_sub(1);",
     ),
     "fresh_instances_are_stale": (
         "src/head.rt",
@@ -348,8 +348,8 @@ BUGS = {
     ),
     "all_devices_are_up": (
         "src/head.rt",
-        "        up: count_up(targets_of(station), found.as_slice()),",
-        "        up: found.len(),",
+        "        up: count_up(targets, devices.as_slice()),",
+        "        up: devices.len(),",
     ),
     "peers_for_devices": (
         "src/head.rt",
@@ -363,8 +363,8 @@ BUGS = {
     ),
     "a_file_without_its_age": (
         "src/head.rt",
-        "        Some(seconds) => put_file_age(text, seconds),",
-        "        Some(_) => Ok(()),",
+        "    text.extend_from_slice(b\"<p>The file is \")?;\n    put_duration(text, seconds)?;\n    text.extend_from_slice(b\" old.</p>\\n\")",
+        "    let _ = seconds;\n    Ok(())",
     ),
     "no_round_was_in_1970": (
         "src/head.rt",
@@ -388,13 +388,13 @@ BUGS = {
     ),
     "the_incarnation_for_the_number": (
         "src/head.rt",
-        "    text.extend_from_slice(b\"station \")?;\n    put_small(text, figures.station)\n",
-        "    text.extend_from_slice(b\"station \")?;\n    put_small(text, figures.incarnation)\n",
+        "    text.extend_from_slice(b\"station \")?;\n    put_small(text, figures.station)?;",
+        "    text.extend_from_slice(b\"station \")?;\n    put_small(text, figures.incarnation)?;",
     ),
     "the_label_of_no_station": (
         "src/head.rt",
-        "        Some(label) => put_labelled_station(text, figures, label.as_bytes()),",
-        "        Some(_) => put_station_number(text, figures),",
+        "    text.extend_from_slice(b\" &middot; \")?;\n    put_escaped(text, label.as_bytes())",
+        "    let _ = label;\n    Ok(())",
     ),
     "an_alarm_twice": (
         "src/wrong.rt",
@@ -423,8 +423,8 @@ BUGS = {
     ),
     "a_heard_peer_is_silent": (
         "src/wrong.rt",
-        "    if peer.silent {",
         "    if !peer.silent {",
+        "    if peer.silent {",
     ),
     "one_failed_save_is_none": (
         "src/wrong.rt",
@@ -438,8 +438,8 @@ BUGS = {
     ),
     "hides_why_a_response_was_refused": (
         "src/wrong.rt",
-        "        Some(reason) => put_reason_text(text, reason.as_bytes()),",
-        "        Some(_) => Ok(()),",
+        "    text.extend_from_slice(b\": \")?;\n    put_escaped(text, reason.as_bytes())",
+        "    let _ = reason;\n    Ok(())",
     ),
     "nothing_is_ever_wrong": (
         "src/wrong.rt",
@@ -453,27 +453,27 @@ BUGS = {
     ),
     "never_loads_again": (
         "src/page.rt",
-        "        Some(seconds) => put_seconds(text, seconds),",
-        "        Some(_) => Ok(()),",
+        "    let Some(seconds) = refresh_of(station) else {",
+        "    let Some(seconds) = refresh_of(None) else {",
     ),
     "loads_again_after_the_limit_of_ages": (
         "src/page.rt",
-        "        Some(figures) => refresh_after(figures.interval),",
-        "        Some(figures) => refresh_after(figures.stale_after),",
+        "    Some(figures.interval)",
+        "    Some(figures.stale_after)",
     ),
     "loads_again_at_once": (
         "src/page.rt",
-        "    if interval == 0 {",
-        "    if interval == 1 {",
+        "    if figures.interval == 0 {",
+        "    if figures.interval == 1 {",
     ),
     "every_page_loads_again": (
         "src/page.rt",
-        "        None => None,\n        Some(figures) => refresh_after",
-        "        None => Some(30),\n        Some(figures) => refresh_after",
+        "    let Some(figures) = station else {\n        return None;",
+        "    let Some(figures) = station else {\n        return Some(30);",
     ),
     "a_page_without_its_head": (
         "src/page.rt",
-        "    put_head_of(&mut text, extras)?;\n",
+        "    put_head(\n        &mut text,\n        extras.station,\n        extras.presentation.label.as_deref(),\n    )?;\n",
         "",
     ),
     "a_head_without_a_style": (
@@ -483,8 +483,8 @@ BUGS = {
     ),
     "counts_below_the_list": (
         "src/page.rt",
-        "    put_row_counts(alloc, text, origin.station, rows)?;\n    put_wrong(alloc, text, names, rows, origin.station)?;",
-        "    put_wrong(alloc, text, names, rows, origin.station)?;\n    put_row_counts(alloc, text, origin.station, rows)?;",
+        "    put_counts(text, origin.station, counts)?;\n    put_wrong(alloc, text, names, rows, origin.station)?;",
+        "    put_wrong(alloc, text, names, rows, origin.station)?;\n    put_counts(text, origin.station, counts)?;",
     ),
     "a_page_behind_what_the_buffer_had": (
         "src/page.rt",
@@ -498,8 +498,8 @@ BUGS = {
     ),
     "no_style_for_narrow_windows": (
         "src/style.rt",
-        "    text.extend_from_slice(plots())?;\n    text.extend_from_slice(narrow())",
-        "    text.extend_from_slice(plots())",
+        "        b\"@media (max-width:45rem){",
+        "        b\"@media (max-width:1rem){",
     ),
     "plots_counters_values": (
         "src/plot.rt",
@@ -508,8 +508,8 @@ BUGS = {
     ),
     "scale_without_thresholds": (
         "src/plot.rt",
-        "        scale = with_rule(counted, scale, rule);",
-        "        let _ = with_rule(counted, scale, rule);",
+        "        scale = widened(widened(scale, Some(rising)), Some(falling));",
+        "        let _ = widened(widened(scale, Some(rising)), Some(falling));",
     ),
     "one_threshold": (
         "src/plot.rt",
@@ -538,8 +538,8 @@ BUGS = {
     ),
     "a_scale_of_the_rising_thresholds": (
         "src/plot.rt",
-        "    widened(widened(scale, Some(rising)), Some(falling))",
-        "    let _ = falling;\n    widened(scale, Some(rising))",
+        "        scale = widened(widened(scale, Some(rising)), Some(falling));",
+        "        let _ = falling;\n        scale = widened(scale, Some(rising));",
     ),
     "a_line_for_the_first_rule_alone": (
         "src/plot.rt",

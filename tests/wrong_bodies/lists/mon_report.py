@@ -77,7 +77,14 @@ BUGS = {
     "repeats_the_front": ("src/writing.rt", "writer.write(&octets[sent..])", "writer.write(&octets[sent / 2..])"),
     "first_instance_alone": ("src/report.rt", "write_line(board, writer, ok, i as u16, watched)", "write_line(board, writer, ok, 0, watched)"),
     "name_before_engine": ("src/report.rt", "let ok = put_hex(writer, ok, entry.engine);", "let ok = put_name(writer, ok, entry.name);"),
-    "no_rules": ("src/report.rt", "        rules: board.watch().rules(),\n", "        rules: &board.watch().rules()[..0],\n"),
+    "no_rules": ("src/report.rt", "        rules: &rules[first..end],\n", "        rules: &rules[end..end],\n"),
+    "one_rule_of_an_instance": ("src/report.rt", "        rules: &rules[first..end],\n", "        rules: &rules[first..end.min(first + 1)],\n"),
+    "rules_of_the_next_instance": ("src/report.rt", "first_rule(rules, number), first", "first_rule(rules, number + 1), first"),
+    "states_from_the_first_on": (
+        "src/report.rt",
+        "        states: states_from(states, first),\n",
+        "        states: states_from(states, 0),\n",
+    ),
     "end_without_a_line": ("src/line.rt", 'put(writer, ok, b" samples\\n")', 'put(writer, ok, b" samples")'),
     "alarms_of_later_instances": ("src/line.rt", "rule.instance() == instance", "rule.instance() >= instance"),
     "counts_instances_as_samples": ("src/report.rt", "count += board.items(i as u16).len() as u64;", "count += (board.items(i as u16).len() as u64).min(1);"),
@@ -264,8 +271,8 @@ BUGS = {
     ),
     "states_of_the_first_rule_alone": (
         "src/report.rt",
-        "        states,\n        instance: i,\n",
-        "        states: &states[..states.len().min(1)],\n        instance: i,\n",
+        "        states: states_from(states, first),\n        instance: i,\n",
+        "        states: states_from(&states[..states.len().min(1)], first),\n        instance: i,\n",
     ),
     "states_over_the_first_instance": (
         "src/alarms.rt",

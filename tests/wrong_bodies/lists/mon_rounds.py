@@ -3,23 +3,23 @@
 BUGS = {
     "counts_no_overrun": (
         "src/freshness.rt",
-        "        self.overruns = overruns_after(spell, self.overruns);\n",
-        "",
+        "                self.overruns = self.overruns.saturating_add(1);\n",
+        "                let _ = spell.interval;\n",
     ),
     "counts_rounds_without_an_interval": (
         "src/freshness.rt",
-        "    0 < interval && interval < took\n",
-        "    interval < took\n",
+        "if 0 < spell.interval && spell.interval < spell.took {",
+        "if spell.interval < spell.took {",
     ),
     "counts_rounds_that_take_the_interval": (
         "src/freshness.rt",
-        "    0 < interval && interval < took\n",
-        "    0 < interval && interval <= took\n",
+        "if 0 < spell.interval && spell.interval < spell.took {",
+        "if 0 < spell.interval && spell.interval <= spell.took {",
     ),
     "counts_waits_as_rounds": (
         "src/freshness.rt",
-        "        Span::Between(_) => before,\n    }\n}\n\n/// How many polls of the target",
-        "        Span::Between(_) => before.saturating_add(1),\n    }\n}\n\n/// How many polls of the target",
+        "            if 0 < spell.interval && spell.interval < spell.took {\n                self.overruns = self.overruns.saturating_add(1);\n            }\n        }\n",
+        "            if 0 < spell.interval && spell.interval < spell.took {\n                self.overruns = self.overruns.saturating_add(1);\n            }\n        } else {\n            self.overruns = self.overruns.saturating_add(1);\n        }\n",
     ),
     "announces_each_alarm_at_once": (
         "src/totals.rt",
@@ -58,13 +58,13 @@ BUGS = {
     ),
     "another_engine_is_never_known": (
         "src/changes.rt",
-        "        return latest.other_engine(alloc, target.address, engine);\n",
-        "        let _ = (alloc, latest, engine);\n        return Ok(None);\n",
+        "            latest.other_engine(alloc, target.address, engine.as_slice())\n",
+        "            let _ = (alloc, latest, engine);\n            Ok(None)\n",
     ),
     "another_engine_is_known_of_each_target": (
         "src/changes.rt",
-        "    if is_other(target) {\n        return latest.other_engine(alloc, target.address, engine);\n    }\n    Ok(None)\n",
-        "    latest.other_engine(alloc, target.address, engine)\n",
+        "    match target.refusal {\n        Some(StationFault::Response(ResponseFault::OtherEngine)) => {\n            latest.other_engine(alloc, target.address, engine.as_slice())\n        }\n        _ => Ok(None),\n    }\n",
+        "    latest.other_engine(alloc, target.address, engine.as_slice())\n",
     ),
     "the_first_wrong_engine_stays": (
         "src/changes.rt",
@@ -143,8 +143,8 @@ BUGS = {
     ),
     "sends_to_the_first_peer": (
         "src/addresses.rt",
-        "        Some(place) => addresses.get(place).copied(),",
-        "        Some(_) => addresses.first().copied(),",
+        "            Some(place) => self.peer_addresses.as_slice().get(place).copied(),",
+        "            Some(_) => self.peer_addresses.as_slice().first().copied(),",
     ),
     "ends_where_it_is_quiet": (
         "src/source.rt",
@@ -158,13 +158,13 @@ BUGS = {
     ),
     "a_round_never_saves": (
         "src/round.rt",
-        "        if self.saving {\n            return Some(self.save());\n        }\n",
-        "",
+        "        if !self.saving {\n            self.end();\n            return None;\n        }\n        self.wait = Wait::Begin(self.wait_ms);\n        self.phase = Phase::Over;\n        self.events.push_reserved(RoundEvent::Save);\n        Some(OwnedEvent::Save)\n",
+        "        self.end();\n        None\n",
     ),
     "a_round_saves_though_told_not_to": (
         "src/round.rt",
-        "        if self.saving {\n            return Some(self.save());\n        }\n        self.end();\n        None\n",
-        "        Some(self.save())\n",
+        "        if !self.saving {\n            self.end();\n            return None;\n        }\n",
+        "",
     ),
     "a_round_saves_twice": (
         "src/round.rt",
@@ -213,8 +213,8 @@ BUGS = {
     ),
     "counts_peers_as_strangers": (
         "src/reporting.rt",
-        "        RoundEvent::FromAgent(from, ()) => !round.is_target(from),\n        RoundEvent::FromPeer(_)\n        | RoundEvent::StartPoll(_)",
-        "        RoundEvent::FromAgent(from, ()) => !round.is_target(from),\n        RoundEvent::FromPeer(_) => true,\n        RoundEvent::StartPoll(_)",
+        "            RoundEvent::FromAgent(from, ()) if !round.is_target(*from) => {\n                count = count.saturating_add(1);\n            }\n            _ => {}\n",
+        "            RoundEvent::FromAgent(from, ()) if !round.is_target(*from) => {\n                count = count.saturating_add(1);\n            }\n            RoundEvent::FromPeer(_) => count = count.saturating_add(1),\n            _ => {}\n",
     ),
     "round_only_rests": (
         "src/running.rt",
@@ -243,8 +243,8 @@ BUGS = {
     ),
     "forgets_the_last_notices": (
         "src/reporting.rt",
-        "    for place in 0..events.len().min(answers.len()) {\n        put_notice(",
-        "    for place in 0..events.len().min(answers.len()) / 2 {\n        put_notice(",
+        "    for place in 0..events.len().min(answers.len()) {\n",
+        "    for place in 0..events.len().min(answers.len()) / 2 {\n",
     ),
     "the_first_target_gave_up": (
         "src/reporting.rt",
@@ -258,13 +258,13 @@ BUGS = {
     ),
     "tells_of_strangers": (
         "src/reporting.rt",
-        "    } else {\n        astray(from, fault)\n    }",
-        "    } else {\n        Some(Notice::BadResponse(from, fault))\n    }",
+        "        RoundEvent::FromAgent(from, ()) => match fault {\n            StationFault::Response(ResponseFault::WrongSource) => Some(Notice::Astray(from)),\n            _ => None,\n        },",
+        "        RoundEvent::FromAgent(from, ()) => match fault {\n            StationFault::Response(ResponseFault::WrongSource) => Some(Notice::Astray(from)),\n            _ => Some(Notice::BadResponse(from, fault)),\n        },",
     ),
     "each_stranger_is_astray": (
         "src/reporting.rt",
-        "        StationFault::Response(ResponseFault::WrongSource) => Some(Notice::Astray(from)),\n        _ => None,",
-        "        _ => {\n            let _ = fault;\n            Some(Notice::Astray(from))\n        }",
+        "        RoundEvent::FromAgent(from, ()) => match fault {\n            StationFault::Response(ResponseFault::WrongSource) => Some(Notice::Astray(from)),\n            _ => None,\n        },",
+        "        RoundEvent::FromAgent(from, ()) => Some(Notice::Astray(from)),",
     ),
     "hides_what_came_astray": (
         "src/reporting.rt",
@@ -273,13 +273,13 @@ BUGS = {
     ),
     "a_targets_datagram_is_a_peers": (
         "src/reporting.rt",
-        "        RoundEvent::FromPeer(from) => from == address,\n        RoundEvent::FromAgent(..)\n        | RoundEvent::StartPoll(_)",
-        "        RoundEvent::FromPeer(from) | RoundEvent::FromAgent(from, ()) => from == address,\n        RoundEvent::StartPoll(_)",
+        "            RoundEvent::FromPeer(from) if *from == address => return true,",
+        "            RoundEvent::FromPeer(from) | RoundEvent::FromAgent(from, ()) if *from == address => {\n                return true;\n            }",
     ),
     "each_peer_was_heard": (
         "src/reporting.rt",
-        "        RoundEvent::FromPeer(from) => from == address,",
-        "        RoundEvent::FromPeer(_) => true,",
+        "            RoundEvent::FromPeer(from) if *from == address => return true,",
+        "            RoundEvent::FromPeer(_) => return true,",
     ),
     "a_peer_grows_no_older": (
         "src/freshness.rt",
@@ -288,7 +288,7 @@ BUGS = {
     ),
     "the_first_peers_age_for_all": (
         "src/freshness.rt",
-        "report.heard.as_slice().get(usize::from(slot))",
+        "report.heard.as_slice().get(usize::from(peer.slot))",
         "report.heard.as_slice().first()",
     ),
     "polled_by_the_first_target": (
@@ -313,13 +313,13 @@ BUGS = {
     ),
     "another_engine_is_none": (
         "src/changes.rt",
-        "        Some(StationFault::Response(ResponseFault::OtherEngine)) => true,",
-        "        Some(StationFault::Response(ResponseFault::OtherEngine)) => false,",
+        "        Some(StationFault::Response(ResponseFault::OtherEngine)) => {",
+        "        Some(StationFault::Response(ResponseFault::WrongNames)) => {",
     ),
     "each_refusal_is_another_engine": (
         "src/changes.rt",
-        "        Some(StationFault::Response(ResponseFault::OtherEngine)) => true,",
-        "        Some(_) => true,",
+        "        Some(StationFault::Response(ResponseFault::OtherEngine)) => {",
+        "        Some(_) => {",
     ),
     "stale_though_its_target_is_silent": (
         "src/changes.rt",
@@ -358,8 +358,8 @@ BUGS = {
     ),
     "hides_bad_responses": (
         "src/reporting.rt",
-        "    if round.is_target(from) {\n        Some(Notice::BadResponse(from, fault))",
-        "    if round.is_target(from) {\n        None",
+        "        RoundEvent::FromAgent(from, ()) if round.is_target(from) => {\n            Some(Notice::BadResponse(from, fault))\n        }",
+        "        RoundEvent::FromAgent(from, ()) if round.is_target(from) => None,",
     ),
     "tells_no_want_of_memory": (
         "src/reporting.rt",
@@ -463,13 +463,13 @@ BUGS = {
     ),
     "a_target_that_gave_up_answered": (
         "src/reporting.rt",
-        "        Answer::GaveUp(_) | Answer::Memory | Answer::Refused(_) | Answer::Keeper(_) => None,\n    }\n}\n\n/// Of each of these addresses",
-        "        Answer::GaveUp(target) => Some(TargetStamp {\n            target,\n            boots: 0,\n            time: 0,\n        }),\n        Answer::Memory | Answer::Refused(_) | Answer::Keeper(_) => None,\n    }\n}\n\n/// Of each of these addresses",
+        "            answered.push(*stamp)?;\n        }\n",
+        "            answered.push(*stamp)?;\n        }\n        if let Answer::GaveUp(target) = answer {\n            answered.push(TargetStamp {\n                target: *target,\n                boots: 0,\n                time: 0,\n            })?;\n        }\n",
     ),
     "a_save_without_memory_is_none": (
         "src/reporting.rt",
-        "Notice::NotSaved(_) | Notice::NoMemory(RoundEvent::Save) => true,",
-        "Notice::NotSaved(_) => true,",
+        "        if let Notice::NotSaved(_) | Notice::NoMemory(RoundEvent::Save) = notice {",
+        "        if let Notice::NotSaved(_) = notice {",
     ),
     "the_time_between_makes_older": (
         "src/freshness.rt",
@@ -493,8 +493,8 @@ BUGS = {
     ),
     "polls_of_all_targets_were_given_up": (
         "src/freshness.rt",
-        "        Notice::GaveUp(target) => target == number,",
-        "        Notice::GaveUp(_) => true,",
+        "            Notice::GaveUp(target) if *target == number => count += 1,",
+        "            Notice::GaveUp(_) => count += 1,",
     ),
     "down_in_the_time_between": (
         "src/freshness.rt",
@@ -528,8 +528,8 @@ BUGS = {
     ),
     "an_unknown_peer_is_the_first": (
         "src/addresses.rt",
-        "        Some(place) => addresses.get(place).copied(),\n        None => None,",
-        "        Some(place) => addresses.get(place).copied(),\n        None => addresses.first().copied(),",
+        "            Some(place) => self.peer_addresses.as_slice().get(place).copied(),\n            None => None,",
+        "            Some(place) => self.peer_addresses.as_slice().get(place).copied(),\n            None => self.peer_addresses.as_slice().first().copied(),",
     ),
     "a_peer_is_a_target_too": (
         "src/addresses.rt",
@@ -563,8 +563,8 @@ BUGS = {
     ),
     "an_instance_without_a_target_answers": (
         "src/changes.rt",
-        "    let Some(number) = number else {\n        return false;\n    };",
-        "    let Some(number) = number else {\n        return true;\n    };",
+        "    let Some(number) = instance.target else {\n        return false;\n    };",
+        "    let Some(number) = instance.target else {\n        return true;\n    };",
     ),
     "loses_changes_without_memory": (
         "src/changes.rt",
@@ -628,23 +628,23 @@ BUGS = {
     ),
     "the_time_between_is_a_round": (
         "src/freshness.rt",
-        "        Span::Round => spell.took,\n        Span::Between(_) => before,",
-        "        Span::Round | Span::Between(_) => {\n            let _ = before;\n            spell.took\n        }",
+        "        if let Span::Round = spell.span {\n            self.round_ms = spell.took;\n",
+        "        self.round_ms = spell.took;\n        if let Span::Round = spell.span {\n",
     ),
     "refused_by_the_first_notice": (
         "src/freshness.rt",
-        "        last = refusal_with(address, last, *notice);",
-        "        if last.is_none() {\n            last = refusal_with(address, last, *notice);\n        }",
+        "            Notice::BadResponse(from, fault) if *from == address => last = Some(*fault),",
+        "            Notice::BadResponse(from, fault) if *from == address && last.is_none() => {\n                last = Some(*fault);\n            }",
     ),
     "refused_for_what_others_sent": (
         "src/freshness.rt",
-        "        Notice::BadResponse(from, fault) if from == address => Some(fault),",
-        "        Notice::BadResponse(_, fault) => {\n            let _ = address;\n            Some(fault)\n        }",
+        "            Notice::BadResponse(from, fault) if *from == address => last = Some(*fault),",
+        "            Notice::BadResponse(_, fault) => last = Some(*fault),",
     ),
     "a_first_sample_is_not_new": (
         "src/freshness.rt",
-        "        (Some(one), Some(other)) => have_same(one, other),\n        _ => false,",
-        "        (Some(one), Some(other)) => have_same(one, other),\n        _ => true,",
+        "                && one.tag == other.tag\n        }\n        _ => false,",
+        "                && one.tag == other.tag\n        }\n        _ => true,",
     ),
     "the_oldest_sample_for_the_newest": (
         "src/freshness.rt",
@@ -688,13 +688,13 @@ BUGS = {
     ),
     "no_target_answered": (
         "src/reporting.rt",
-        "    for answer in answers {\n        put_stamp(&mut answered, *answer)?;",
-        "    for answer in &answers[..0] {\n        put_stamp(&mut answered, *answer)?;",
+        "    for answer in answers {\n        if let Answer::Handled {\n            answered: Some(stamp),",
+        "    for answer in &answers[..0] {\n        if let Answer::Handled {\n            answered: Some(stamp),",
     ),
     "all_answered_for_the_first_target": (
         "src/reporting.rt",
-        "        answered.push(stamp)?;",
-        "        answered.push(TargetStamp {\n            target: 0,\n            ..stamp\n        })?;",
+        "            answered.push(*stamp)?;",
+        "            answered.push(TargetStamp {\n                target: 0,\n                ..*stamp\n            })?;",
     ),
     "a_response_of_one_target_answers_for_all": (
         "src/freshness.rt",
@@ -728,8 +728,8 @@ BUGS = {
     ),
     "a_rest_never_ends": (
         "src/round.rt",
-        "        Phase::BetweenRounds | Phase::Rested => Phase::Rested,\n        _ => Phase::Over,",
-        "        Phase::BetweenRounds => Phase::BetweenRounds,\n        Phase::Rested => Phase::Rested,\n        _ => Phase::Over,",
+        "            Phase::BetweenRounds | Phase::Rested => Phase::Rested,\n            _ => Phase::Over,",
+        "            Phase::BetweenRounds => Phase::BetweenRounds,\n            Phase::Rested => Phase::Rested,\n            _ => Phase::Over,",
     ),
     "counts_datagrams_downwards": (
         "src/round.rt",
@@ -823,18 +823,18 @@ BUGS = {
     ),
     "a_wait_goes_on_after_a_timeout": (
         "src/round.rt",
-        "        self.wait = Wait::Begin(self.wait_ms);\n        self.quiets",
-        "        self.wait = Wait::Rest;\n        self.quiets",
+        "        self.wait = Wait::Begin(self.wait_ms);\n        // The first timeout",
+        "        self.wait = Wait::Rest;\n        // The first timeout",
     ),
     "every_datagram_renews_a_wait": (
         "src/round.rt",
-        "        Wait::Renew if !is_taken(last) => Wait::Rest,\n",
+        "            Wait::Renew if !is_taken(last) => Some(Wait::Rest),\n",
         "",
     ),
     "no_datagram_renews_a_wait": (
         "src/round.rt",
-        "        Wait::Renew if !is_taken(last) => Wait::Rest,",
-        "        Wait::Renew => Wait::Rest,",
+        "            Wait::Renew if !is_taken(last) => Some(Wait::Rest),",
+        "            Wait::Renew => Some(Wait::Rest),",
     ),
     "a_refused_response_renews_a_wait": (
         "src/round.rt",
@@ -868,13 +868,13 @@ BUGS = {
     ),
     "a_rest_is_prolonged": (
         "src/round.rt",
-        "        Phase::BetweenRounds => Wait::Rest,\n        _ => Wait::Renew,",
-        "        _ => Wait::Renew,",
+        "            Phase::BetweenRounds => Wait::Rest,\n            _ => Wait::Renew,",
+        "            _ => Wait::Renew,",
     ),
     "listening_is_never_renewed": (
         "src/round.rt",
-        "        Phase::BetweenRounds => Wait::Rest,\n        _ => Wait::Renew,",
-        "        Phase::BetweenRounds | Phase::AwaitConfirmations => Wait::Rest,\n        _ => Wait::Renew,",
+        "            Phase::BetweenRounds => Wait::Rest,\n            _ => Wait::Renew,",
+        "            Phase::BetweenRounds | Phase::AwaitConfirmations => Wait::Rest,\n            _ => Wait::Renew,",
     ),
     "times_out_once": (
         "src/round.rt",
@@ -883,13 +883,13 @@ BUGS = {
     ),
     "uses_up_a_quiet_wait_for_each_timeout": (
         "src/round.rt",
-        "        Phase::TimingOut(_) => quiets,\n        _ => quiets.saturating_sub(1),",
-        "        _ => quiets.saturating_sub(1),",
+        "            Phase::TimingOut(_) => self.quiets,\n            _ => self.quiets.saturating_sub(1),",
+        "            _ => self.quiets.saturating_sub(1),",
     ),
     "uses_up_no_quiet_wait": (
         "src/round.rt",
-        "        _ => quiets.saturating_sub(1),",
-        "        _ => quiets,",
+        "            _ => self.quiets.saturating_sub(1),",
+        "            _ => self.quiets,",
     ),
     "times_out_the_oldest_poll_alone": (
         "src/round.rt",
@@ -898,13 +898,13 @@ BUGS = {
     ),
     "waits_after_each_timeout": (
         "src/round.rt",
-        "        Phase::TimingOut(_) if !more => Phase::AwaitResponses,",
-        "        Phase::TimingOut(_) => Phase::AwaitResponses,",
+        "            Phase::TimingOut(_) if !goes_on => Phase::AwaitResponses,",
+        "            Phase::TimingOut(_) => Phase::AwaitResponses,",
     ),
     "never_ends_timing_out": (
         "src/round.rt",
-        "        Phase::TimingOut(_) if !more => Phase::AwaitResponses,\n",
-        "",
+        "            Phase::TimingOut(_) if !goes_on => Phase::AwaitResponses,\n",
+        "            Phase::Over if !goes_on => Phase::Over,\n",
     ),
     "times_out_the_first_poll_again": (
         "src/round.rt",
@@ -923,13 +923,13 @@ BUGS = {
     ),
     "shares_while_polls_are_open": (
         "src/round.rt",
-        "            Some(id) if self.may_time_out() => Some(self.time_out_one(id)),",
-        "            Some(id) if self.may_time_out() && self.quiets > 1 => Some(self.time_out_one(id)),",
+        "            Some(id) if may_time_out => Some(self.time_out_one(id)),",
+        "            Some(id) if may_time_out && self.quiets > 1 => Some(self.time_out_one(id)),",
     ),
     "a_quiet_wait_ends_the_polls": (
         "src/round.rt",
-        "            Some(id) if self.may_time_out() => Some(self.time_out_one(id)),\n            _ => self.share(0),",
-        "            _ => self.share(0),",
+        "            Some(id) if may_time_out => Some(self.time_out_one(id)),\n            _ => self.share(0),",
+        "            Some(_) if may_time_out => self.share(0),\n            _ => self.share(0),",
     ),
     "tries_once_more": (
         "src/round.rt",
@@ -953,8 +953,8 @@ BUGS = {
     ),
     "waits_half_as_long_after_timeouts": (
         "src/round.rt",
-        "        self.wait = Wait::Begin(self.wait_ms);\n        self.quiets",
-        "        self.wait = Wait::Begin(self.wait_ms / 2);\n        self.quiets",
+        "        self.wait = Wait::Begin(self.wait_ms);\n        // The first timeout",
+        "        self.wait = Wait::Begin(self.wait_ms / 2);\n        // The first timeout",
     ),
     "proceeds_without_a_reception": (
         "src/source.rt",
@@ -1068,19 +1068,19 @@ BUGS = {
     ),
     "counts_a_peers_spells_over_rounds": (
         "src/freshness.rt",
-        "            offers: 0,\n            counted: false,\n            often: row_after",
-        "            offers: peer.offers,\n            counted: false,\n            often: row_after",
+        "            offers: 0,\n            counted: false,\n            often: if",
+        "            offers: peer.offers,\n            counted: false,\n            often: if",
     ),
     "counts_no_spell_of_a_peer": (
         "src/freshness.rt",
-        "                offers: count_on(peer.offers, counted),\n",
-        "",
+        "                    peer.offers.saturating_add(1)\n",
+        "                    peer.offers\n",
     ),
     "once_an_interval_is_often": ("src/freshness.rt", "const OFTEN: u32 = 2;", "const OFTEN: u32 = 1;"),
     "a_row_goes_on_after_a_gap": (
         "src/freshness.rt",
-        "    if offers < OFTEN {\n        return 0;",
-        "    if offers < OFTEN {\n        return row;",
+        "            often: if peer.offers < OFTEN {\n                0\n",
+        "            often: if peer.offers < OFTEN {\n                peer.often\n",
     ),
     "names_a_peer_at_once": ("src/changes.rt", "const IN_A_ROW: u32 = 3;", "const IN_A_ROW: u32 = 1;"),
     "names_no_peer_that_offers_often": (
@@ -1130,18 +1130,18 @@ BUGS = {
     ),
     "a_row_of_late_rounds_never_ends": (
         "src/late.rt",
-        "    if row.counted {\n        LateRow {\n            counted: false,",
-        "    if row.counted || row.rounds > 0 {\n        LateRow {\n            counted: false,",
+        "        Span::Round if row.counted => {",
+        "        Span::Round if row.counted || row.rounds > 0 => {",
     ),
     "a_row_begins_anew_in_each_round": (
         "src/late.rt",
-        "        Span::Round => add_late(begin_round(row), datagrams),",
-        "        Span::Round => add_late(LateRow::new(), datagrams),",
+        "            add_late(begun, datagrams)\n",
+        "            let _ = begun;\n            add_late(LateRow::new(), datagrams)\n",
     ),
     "all_late_datagrams_are_of_one_round": (
         "src/late.rt",
-        "        Span::Round => add_late(begin_round(row), datagrams),",
-        "        Span::Round => add_late(row, datagrams),",
+        "                counted: false,\n                ..row\n            };",
+        "                counted: true,\n                ..row\n            };",
     ),
     "late_datagrams_between_rounds_do_not_count": (
         "src/late.rt",
@@ -1155,13 +1155,13 @@ BUGS = {
     ),
     "late_datagrams_of_all_addresses": (
         "src/late.rt",
-        "        Notice::BadResponse(from, fault) => is_stray(fault) && from == address,",
-        "        Notice::BadResponse(_, fault) => is_stray(fault),",
+        "        Notice::BadResponse(from, StationFault::Response(ResponseFault::Stray)) => from == address,",
+        "        Notice::BadResponse(from, StationFault::Response(ResponseFault::Stray)) => {\n            let _ = (from, address);\n            true\n        }",
     ),
     "any_refused_response_is_late": (
         "src/late.rt",
-        "        StationFault::Response(ResponseFault::Stray) => true,",
-        "        StationFault::Response(_) => true,",
+        "        Notice::BadResponse(from, StationFault::Response(ResponseFault::Stray)) => from == address,",
+        "        Notice::BadResponse(from, StationFault::Response(_)) => from == address,",
     ),
     "late_in_the_second_round": (
         "src/freshness.rt",
@@ -1180,13 +1180,13 @@ BUGS = {
     ),
     "each_response_is_a_restart": (
         "src/clock.rt",
-        "    last.boots == stamp.boots && stamp.time < last.time",
-        "    last.boots == stamp.boots && stamp.time <= last.time.max(stamp.time)",
+        "    if last.boots == boots && time < last.time {",
+        "    if last.boots == boots && time <= last.time.max(time) {",
     ),
     "an_equal_time_is_a_restart": (
         "src/clock.rt",
-        "    last.boots == stamp.boots && stamp.time < last.time",
-        "    last.boots == stamp.boots && stamp.time <= last.time",
+        "    if last.boots == boots && time < last.time {",
+        "    if last.boots == boots && time <= last.time {",
     ),
     "a_fall_of_the_boots_is_a_restart": (
         "src/clock.rt",
@@ -1195,8 +1195,8 @@ BUGS = {
     ),
     "a_lesser_time_after_other_boots_is_a_restart": (
         "src/clock.rt",
-        "    last.boots == stamp.boots && stamp.time < last.time",
-        "    stamp.time < last.time",
+        "    if last.boots == boots && time < last.time {",
+        "    if time < last.time {",
     ),
     "a_restart_is_said_again": (
         "src/clock.rt",
@@ -1205,8 +1205,8 @@ BUGS = {
     ),
     "a_restart_of_another_target": (
         "src/clock.rt",
-        "    if stamp.target == number {",
-        "    if stamp.target >= number {",
+        "    if stamp.target != number {",
+        "    if stamp.target < number {",
     ),
     "too_old_until_the_last_time": (
         "src/clock.rt",
@@ -1225,8 +1225,8 @@ BUGS = {
     ),
     "a_later_response_hides_a_restart": (
         "src/clock.rt",
-        "        Some(restart) => Some(restart),\n        None => clock.restart,",
-        "        Some(restart) => Some(restart),\n        None => None,",
+        "    }\n    clock.restart\n}",
+        "    }\n    None\n}",
     ),
     "a_restart_has_the_stamp_before_it": (
         "src/clock.rt",
@@ -1242,10 +1242,10 @@ PROMISES = {
     "keeps_no_datagram_of_a_target": "source::Rounds::keep_latest",
     "begins_a_round_before_it_lends_the_receiver": "source::Rounds::receiver_mut",
     "counts_each_spell_of_a_peer": "freshness::peer_after",
-    "every_datagram_renews_a_wait": "round::wait_due",
+    "every_datagram_renews_a_wait": "round::Round::next_wait",
     "a_refused_response_renews_a_wait": "round::is_taken",
     "times_out_the_oldest_poll_alone": "round::Round::settle",
-    "as_many_quiet_waits_as_there_are_timeouts": "round::Round::may_time_out",
+    "as_many_quiet_waits_as_there_are_timeouts": "round::Round::time_out",
     "a_quiet_wait_ends_the_polls": "round::Round::time_out",
     "a_round_saves_though_told_not_to": "round::Round::finish",
     "a_round_that_does_not_save_ends_without_its_shares": "round::Round::time_out",

@@ -83,8 +83,8 @@ BUGS = {
     ),
     "takes_a_limit_of_483": (
         "src/agent.rt",
-        "    let limit = given!(reader.int(Key::Limit, 484, 8192));",
-        "    let limit = given!(reader.int(Key::Limit, 483, 8192));",
+        "    let max_message_size = given!(reader.int(Key::Limit, 484, 8192));",
+        "    let max_message_size = given!(reader.int(Key::Limit, 483, 8192));",
     ),
     "reads_model_1_as_2": (
         "src/leaf.rt",

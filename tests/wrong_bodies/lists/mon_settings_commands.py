@@ -715,13 +715,13 @@ BUGS = {
     ),
     "no_network": (
         "src/network.rt",
-        "        Some(machines) => Some(Site { folder, machines }),",
+        "        Some(machines) => Some(SplitPaths { folder, machines }),",
         "        Some(_) => None,",
     ),
     "machines_in_the_folder": (
         "src/network.rt",
-        "        Some(machines) => Some(Site { folder, machines }),",
-        "        Some(_) => Some(Site { folder, machines: folder }),",
+        "        Some(machines) => Some(SplitPaths { folder, machines }),",
+        "        Some(_) => Some(SplitPaths { folder, machines: folder }),",
     ),
     "a_port_less": (
         "src/network.rt",

@@ -23,6 +23,33 @@ BUGS = {
             ("gives_a_name_twice", NAMES, '        let name = self.name_of(alloc, oid)?;\n        format!(in alloc; "{name}{name}")\n'),
         )
     },
+    **{
+        name: ("src/listing.rt", old, new)
+        for name, old, new in (
+            ("lists_names_as_they_stand", "    rows.sort_unstable();\n", ""),
+            ("blames_the_first_name_that_is_defined", "    names.sort_unstable();\n", ""),
+            ("leaves_out_a_name_without_identifier", "            Err(fault) => return Err(fault_at(name, fault)),", "            Err(_) => {}"),
+            ("blames_memory", "BadIdentifier => ListFault::Unnamed(name, fault),", "BadIdentifier => {\n            let _ = name;\n            ListFault::OutOfMemory\n        }"),
+            ("lists_no_name", "    for definition in definitions {", "    for definition in &definitions[..0] {"),
+            ("prints_the_identifier_first", 'write!(lines, "{name} {dotted}\\n")', 'write!(lines, "{dotted} {name}\\n")'),
+            ("prints_no_line_ends", 'write!(lines, "{name} {dotted}\\n")', 'write!(lines, "{name} {dotted}")'),
+            ("lists_half_the_rows", "    for (oid, name) in rows {", "    for (oid, name) in &rows[..rows.len() / 2] {"),
+            ("prints_nothing", "    Ok(lines_of(alloc, rows.as_slice())?)", "    let _ = rows;\n    Ok(String::new(alloc))"),
+            ("prints_the_first_row_alone", "    Ok(lines_of(alloc, rows.as_slice())?)", "    Ok(lines_of(alloc, &rows.as_slice()[..rows.len().min(1)])?)"),
+            ("drops_the_last_name", "    names.sort_unstable();\n    Ok(names)", "    names.sort_unstable();\n    let _ = names.pop();\n    Ok(names)"),
+            ("lists_each_name_twice", "        names.push(definition.name.as_str())?;", "        names.push(definition.name.as_str())?;\n        names.push(definition.name.as_str())?;"),
+            ("lists_rows_from_the_last", "    rows.sort_unstable();\n    Ok(rows)", "    rows.sort_unstable();\n    rows.reverse();\n    Ok(rows)"),
+            ("looks_up_no_name", "    let mut rows = found_of(alloc, known, names)?;", "    let mut rows = found_of(alloc, known, &names[..0])?;"),
+            ("passes_over_the_first_name", "    for name in names {", "    for name in &names[names.len().min(1)..] {"),
+            ("blames_the_first_name", "fault_at(name, fault)", "fault_at(names.first().copied().unwrap_or(*name), fault)"),
+            ("says_that_each_name_is_unknown", "BadIdentifier => ListFault::Unnamed(name, fault),", "BadIdentifier => ListFault::Unnamed(name, NamesFault::Unknown),"),
+            ("memory_is_the_names_fault", "        NamesFault::OutOfMemory => ListFault::OutOfMemory,\n        NamesFault::Duplicate(_)\n", "        NamesFault::OutOfMemory\n        | NamesFault::Duplicate(_)\n"),
+            ("leaves_out_the_first_line", "    for (oid, name) in rows {", "    for (oid, name) in &rows[rows.len().min(1)..] {"),
+            ("keeps_the_last_line_alone", "    let dotted = oid.text(alloc)?;\n", "    let dotted = oid.text(alloc)?;\n    lines.clear();\n"),
+            ("prints_the_name_alone", 'write!(lines, "{name} {dotted}\\n")', 'write!(lines, "{name}\\n")'),
+            ("puts_a_tab_between", 'write!(lines, "{name} {dotted}\\n")', 'write!(lines, "{name}\\t{dotted}\\n")'),
+        )
+    },
     "again_at_the_front": (
         "src/places.rt",
         "            return Ok(Some(i));",
@@ -250,8 +277,23 @@ BUGS = {
     ),
     "looks_for_the_shortest_prefix": (
         "src/labels.rt",
-        "        let mut len = parts.len();",
+        "        let mut len = parts.len().min(self.longest);",
         "        let mut len = parts.len().min(2);",
+    ),
+    "the_longest_identifier_has_no_name": (
+        "src/labels.rt",
+        "        let mut len = parts.len().min(self.longest);",
+        "        let mut len = parts.len().min(self.longest.saturating_sub(1));",
+    ),
+    "no_identifier_is_the_longest": (
+        "src/labels.rt",
+        "                longest = len;",
+        "                longest = len - 1;",
+    ),
+    "an_added_identifier_has_no_length": (
+        "src/labels.rt",
+        "            Ok(oid.parts().len())",
+        "            Ok(oid.parts().len() - 1)",
     ),
     "passes_over_two_numbers": (
         "src/labels.rt",
@@ -420,8 +462,8 @@ BUGS = {
     ),
     "leaves_out_a_name_where_memory_ran_out": (
         "src/labels.rt",
-        "    match identify(alloc, places, defs, name)? {\n        Some(oid) => put_label(alloc, by_identifier, &oid, name),\n        None => Ok(()),\n    }",
-        "    match identify(alloc, places, defs, name) {\n        Ok(Some(oid)) => put_label(alloc, by_identifier, &oid, name),\n        _ => Ok(()),\n    }",
+        "    match identify(alloc, places, defs, name)? {\n        Some(oid) => {",
+        "    match identify(alloc, places, defs, name).unwrap_or(None) {\n        Some(oid) => {",
     ),
     "keeps_the_first_name_of_an_identifier": (
         "src/labels.rt",

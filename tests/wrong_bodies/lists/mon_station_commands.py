@@ -48,7 +48,7 @@ BUGS = {
     ),
     "bad_settings_are_not_spoken_of": (
         "src/following.rt",
-        "            failure.tell(host, Level::Warning);\n",
+        "            failure.report(host, Level::Warning);\n",
         "            let _ = &host;\n",
     ),
     "each_look_is_news": (
@@ -198,8 +198,8 @@ BUGS = {
     ),
     "forgets_that_a_file_could_not_be_made": (
         "src/keeping.rt",
-        "                failure.tell(host, Level::Error);\n            }\n            true\n",
-        "                failure.tell(host, Level::Error);\n            }\n            false\n",
+        "                failure.report(host, Level::Error);\n            }\n            true\n",
+        "                failure.report(host, Level::Error);\n            }\n            false\n",
     ),
     "a_damaged_file_for_a_full_disk": ("src/opening.rt", "        KeeperFault::DiskFault => disk_failure(alloc, path, Fault::Keeper(fault), disk),", "        KeeperFault::DiskFault => disk_failure(alloc, path, Fault::Keeper(KeeperFault::Damaged), disk),"),
     "ages_of_the_first_instance": ("src/figures.rt", "        ages.push(instance.rounds)?;", "        ages.push(instances[0].rounds)?;"),
@@ -520,7 +520,7 @@ BUGS = {
     ),
     "says_nothing_of_a_failure": (
         "src/printing.rt",
-        "            failure.tell(host, Level::Warning);",
+        "            failure.report(host, Level::Warning);",
         "",
     ),
     "a_file_that_cannot_be_looked_for_is_none": (
@@ -823,5 +823,5 @@ PROMISES = {
     "the_last_save_is_forgotten": "station::run_rounds",
     "no_file_before_a_socket_fails": "opening::without_socket",
     "shows_no_levels": "station::show_levels_if",
-    "a_cleared_alarm_is_a_warning": "telling::alarm_level",
+    "says_nothing_of_deliveries": "notifying::take_one",
 }

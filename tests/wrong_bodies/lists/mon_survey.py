@@ -8,13 +8,13 @@ BUGS = {
     ),
     "empties_too_early": (
         "src/editing.rt",
-        'has_part(old, b"name = \\"") && !has_part(new, b"name = \\"")',
-        'has_part(old, b"name = \\"") && has_part(new, b"name = \\"")',
+        'has_part(block, b"name = \\"") && !has_part(&lines, b"name = \\"")',
+        'has_part(block, b"name = \\"") && has_part(&lines, b"name = \\"")',
     ),
     "follows_the_first_name": (
         "src/moving.rt",
-        "if answers.octets(Column::IfX(1), index) == name {",
-        "if answers.octets(Column::IfX(1), index) == name && index > 1_000_000 {",
+        "Some(name) if self.answers.octets(Column::IfX(1), index) == name => Some(index),",
+        "Some(name) if self.answers.octets(Column::IfX(1), index) == name && index > 1_000_000 => Some(index),",
     ),
     "loses_old_alarms": (
         "src/ruling.rt",
@@ -73,8 +73,8 @@ BUGS = {
     ),
     "polls_32_bits_first": (
         "src/planning.rt",
-        "    if answers.is_counter64(column_of(counter, true), index) {\n        return Some(true);",
-        "    if answers.is_counter64(column_of(counter, true), index) && !answers.is_counter32(column_of(counter, false), index) {\n        return Some(true);",
+        "    if answers.is_counter64(column_of(counter, true), index) {\n        return Some(Planned {\n            counter,\n            wide: true,",
+        "    if answers.is_counter64(column_of(counter, true), index) && !answers.is_counter32(column_of(counter, false), index) {\n        return Some(Planned {\n            counter,\n            wide: true,",
     ),
     "polls_interfaces_that_are_down": (
         "src/choice.rt",
@@ -228,12 +228,12 @@ BUGS = {
     ),
     "calls_every_file_bad": (
         "src/labelled.rt",
-        "    let Some(before) = before else {\n        return Err(SurveyFault::BadLabels);",
-        "    let Some(before) = before else {\n        return Err(SurveyFault::Misread);",
+        "    let Some(before) = interfaces(&was) else {\n        return Err(SurveyFault::BadLabels);",
+        "    let Some(before) = interfaces(&was) else {\n        return Err(SurveyFault::Misread);",
     ),
     "compares_no_marks": (
         "src/comparing.rt",
-        "        None => !answers.is_marked(index),",
+        "        None => !answers.is_marked(one.index),",
         "        None => true,",
     ),
     "compares_no_communities": (
@@ -393,13 +393,13 @@ BUGS = {
     ),
     "takes_ifspeed_always": (
         "src/answers.rt",
-        "    if millions > 0 {\n        u64::from(millions) * 1_000_000\n    } else if plain < u32::MAX {",
-        "    let _ = millions;\n    if plain < u32::MAX {",
+        "        if millions > 0 {\n            u64::from(millions) * 1_000_000\n        } else if plain < u32::MAX {",
+        "        let _ = millions;\n        if plain < u32::MAX {",
     ),
     "takes_ifspeed_at_its_greatest": (
         "src/answers.rt",
-        "    } else if plain < u32::MAX {\n        u64::from(plain)\n    } else {\n        0\n    }",
-        "    } else {\n        u64::from(plain)\n    }",
+        "        } else if plain < u32::MAX {\n            u64::from(plain)\n        } else {\n            0\n        }",
+        "        } else {\n            u64::from(plain)\n        }",
     ),
     "takes_ifspeed_for_millions": (
         "src/answers.rt",
@@ -458,8 +458,8 @@ BUGS = {
     ),
     "counts_interfaces_that_count_octets_in": (
         "src/planning.rt",
-        "    planned(answers, choice, index, Counter::InOctets).is_some()\n        || planned(answers, choice, index, Counter::OutOctets).is_some()",
-        "    planned(answers, choice, index, Counter::InOctets).is_some()",
+        "        && (planned(answers, choice, cell.index, Counter::InOctets).is_some()\n            || planned(answers, choice, cell.index, Counter::OutOctets).is_some())",
+        "        && planned(answers, choice, cell.index, Counter::InOctets).is_some()",
     ),
     "counts_one_interface_less": (
         "src/planning.rt",
@@ -517,8 +517,8 @@ BUGS = {
 PROMISES = {
     "adds_what_is_there": "changes::add_unless_there",
     "gives_no_targets": "longest::reading_of",
-    "takes_ifspeed_at_its_greatest": "answers::speed_of",
-    "polls_32_bits_first": "planning::width_of",
+    "takes_ifspeed_at_its_greatest": "answers::Answers::speed",
+    "polls_32_bits_first": "planning::planned",
     "polls_interfaces_that_are_down": "choice::Choice::takes",
     "plans_nothing_for_no_counter": "planning::require_few",
     "shows_control_characters": "writing::shown",

@@ -43,7 +43,7 @@ BUGS = {
     ),
     "says_nothing_of_a_failure": (
         "src/commands.rt",
-        "failure.tell(host, Level::Error);",
+        "failure.report(host, Level::Error);",
         "let _ = &failure;",
     ),
     "says_nothing_of_refused_arguments": (
@@ -143,8 +143,8 @@ BUGS = {
     ),
     "tells_a_failure_twice": (
         "src/commands.rt",
-        "                failure.tell(host, Level::Error);",
-        "                failure.tell(host, Level::Error);\n                failure.tell(host, Level::Error);",
+        "                failure.report(host, Level::Error);",
+        "                failure.report(host, Level::Error);\n                failure.report(host, Level::Error);",
     ),
     "ends_a_failure_with_the_status_of_success": (
         "src/commands.rt",
@@ -153,8 +153,8 @@ BUGS = {
     ),
     "ends_a_cut_with_the_status_of_success": (
         "src/commands.rt",
-        "            if !failure.is_cut() {\n                failure.tell(host, Level::Error);\n            }\n            status_of(station, failure.fault)\n",
-        "            if failure.is_cut() {\n                return 0;\n            }\n            failure.tell(host, Level::Error);\n            status_of(station, failure.fault)\n",
+        "            if !failure.is_cut() {\n                failure.report(host, Level::Error);\n            }\n            status_of(station, failure.fault)\n",
+        "            if failure.is_cut() {\n                return 0;\n            }\n            failure.report(host, Level::Error);\n            status_of(station, failure.fault)\n",
     ),
     "ends_well_with_the_status_of_a_failure": (
         "src/commands.rt",

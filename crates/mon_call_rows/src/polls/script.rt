@@ -1,6 +1,6 @@
 //! What each line asks of the poller, and what is answered.
 
-use mon_poller::{Offered, Poller, Request, ResponseFault, TimedOut};
+use mon_poller::{Offered, Poller, ResponseFault, TimedOut};
 use mon_row_texts::{first_word, octets, parsed, put, put_digits, put_refused, two};
 use mon_udp::Addr;
 use std::alloc::Global;
@@ -11,7 +11,12 @@ pub fn answer(alloc: Global, text: &mut String, polls: &mut Poller, line: &str) 
     let (word, rest) = first_word(line);
     match word {
         "start" => start(alloc, text, polls, parsed(rest)?),
-        "timeout" => timeout(alloc, text, polls, parsed(rest)?),
+        "timeout" => {
+            let id = parsed(rest)?;
+            let tries = polls.has_tries(id);
+            put_timed_out(text, polls.time_out(alloc, id).ok()?)?;
+            write!(text, " ({tries})").ok()
+        }
         "oldest" => oldest(text, polls),
         "from" => received(alloc, text, polls, rest),
         _ => None,
@@ -20,33 +25,23 @@ pub fn answer(alloc: Global, text: &mut String, polls: &mut Poller, line: &str) 
 
 fn start(alloc: Global, text: &mut String, polls: &mut Poller, target: u16) -> Option<()> {
     match polls.start(alloc, target) {
-        Ok(request) => put_request(text, &request),
+        Ok(request) => {
+            write!(text, "id {} ", request.id).ok()?;
+            put_digits(text, request.octets.as_slice())
+        }
         Err(why) => put_refused(text, why.number(), why.name()),
     }
 }
 
-fn put_request(text: &mut String, request: &Request) -> Option<()> {
-    write!(text, "id {} ", request.id).ok()?;
-    put_digits(text, request.octets.as_slice())
-}
-
-fn timeout(alloc: Global, text: &mut String, polls: &mut Poller, id: u32) -> Option<()> {
-    let tries = polls.has_tries(id);
-    put_timed_out(text, polls.time_out(alloc, id).ok()?)?;
-    write!(text, " ({tries})").ok()
-}
-
 fn put_timed_out(text: &mut String, timed_out: TimedOut) -> Option<()> {
     match timed_out {
-        TimedOut::Again { target, octets } => put_again(text, target, octets.as_slice()),
+        TimedOut::Again { target, octets } => {
+            write!(text, "again {target} ").ok()?;
+            put_digits(text, octets.as_slice())
+        }
         TimedOut::GivenUp { target } => write!(text, "given up {target}").ok(),
         TimedOut::NotOpen => put(text, "not open"),
     }
-}
-
-fn put_again(text: &mut String, target: u16, octets: &[u8]) -> Option<()> {
-    write!(text, "again {target} ").ok()?;
-    put_digits(text, octets)
 }
 
 fn oldest(text: &mut String, polls: &Poller) -> Option<()> {
@@ -63,15 +58,13 @@ fn received(alloc: Global, text: &mut String, polls: &mut Poller, line: &str) ->
     let octets = octets(alloc, digits)?;
     match polls.response(alloc, from, octets.as_slice()) {
         Ok(offered) => put_offered(text, &offered),
-        Err(why) => put_why(text, why),
-    }
-}
-
-fn put_why(text: &mut String, why: ResponseFault) -> Option<()> {
-    put_refused(text, why.number(), why.name())?;
-    match why {
-        ResponseFault::AgentError(status, index) => write!(text, " {status} {index}").ok(),
-        _ => Some(()),
+        Err(why) => {
+            put_refused(text, why.number(), why.name())?;
+            match why {
+                ResponseFault::AgentError(status, index) => write!(text, " {status} {index}").ok(),
+                _ => Some(()),
+            }
+        }
     }
 }
 

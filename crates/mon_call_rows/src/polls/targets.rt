@@ -57,48 +57,23 @@ const THIRD: Polled = Polled {
 /// objects, the middle one without.
 pub fn poller(alloc: Global) -> Option<Poller> {
     let mut targets = Vec::new(alloc);
-    push_targets(alloc, &mut targets)?;
+    let mut objects = Vec::new(alloc);
+    push_unmarked(alloc, &mut objects, 0, "1.3.6.1.2.1.2.2.1.10.1")?;
+    targets.push(target(alloc, FIRST, objects)?).ok()?;
+    let mut objects = Vec::new(alloc);
+    for interface in 1..17u16 {
+        push_marked(alloc, &mut objects, interface, interface)?;
+    }
+    targets.push(target(alloc, SECOND, objects)?).ok()?;
+    let mut objects = Vec::new(alloc);
+    push_marked(alloc, &mut objects, 21, 1)?;
+    push_unmarked(alloc, &mut objects, 9, "1.3.6.1.4.1.2021.10.1.5.1")?;
+    push_marked(alloc, &mut objects, 300, 2)?;
+    targets.push(target(alloc, THIRD, objects)?).ok()?;
     if !are_targets(&targets) {
         return None;
     }
     Poller::new(alloc, targets).ok()
-}
-
-fn push_targets(alloc: Global, targets: &mut Vec<Target>) -> Option<()> {
-    targets.push(one_object(alloc)?).ok()?;
-    targets.push(many_objects(alloc)?).ok()?;
-    targets.push(some_marks(alloc)?).ok()
-}
-
-fn one_object(alloc: Global) -> Option<Target> {
-    let mut objects = Vec::new(alloc);
-    push_unmarked(alloc, &mut objects, 0, "1.3.6.1.2.1.2.2.1.10.1")?;
-    target(alloc, FIRST, objects)
-}
-
-fn many_objects(alloc: Global) -> Option<Target> {
-    let mut objects = Vec::new(alloc);
-    push_interfaces(alloc, &mut objects)?;
-    target(alloc, SECOND, objects)
-}
-
-fn push_interfaces(alloc: Global, objects: &mut Vec<Object>) -> Option<()> {
-    for interface in 1..17u16 {
-        push_marked(alloc, objects, interface, interface)?;
-    }
-    Some(())
-}
-
-fn some_marks(alloc: Global) -> Option<Target> {
-    let mut objects = Vec::new(alloc);
-    push_some_marks(alloc, &mut objects)?;
-    target(alloc, THIRD, objects)
-}
-
-fn push_some_marks(alloc: Global, objects: &mut Vec<Object>) -> Option<()> {
-    push_marked(alloc, objects, 21, 1)?;
-    push_unmarked(alloc, objects, 9, "1.3.6.1.4.1.2021.10.1.5.1")?;
-    push_marked(alloc, objects, 300, 2)
 }
 
 fn target(alloc: Global, polled: Polled, objects: Vec<Object>) -> Option<Target> {

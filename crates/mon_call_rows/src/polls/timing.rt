@@ -24,7 +24,10 @@ struct Arguments {
 /// arguments TIMES PLACE say, and answers each poll with the response, with the request-id at the
 /// place.
 pub fn time_polls<R: Input + Print + AllocGlobal>(rt: &R, words: &[String]) -> Option<()> {
-    let asked = asked_of(words)?;
+    let asked = Arguments {
+        times: parsed(words.first()?)?,
+        place: parsed(words.get(1)?)?,
+    };
     let line = first_line(rt, rt.alloc())?;
     let tally = answered(rt.alloc(), line.trim(), asked)?;
     println!(rt;
@@ -32,14 +35,6 @@ pub fn time_polls<R: Input + Print + AllocGlobal>(rt: &R, words: &[String]) -> O
         tally.samples, tally.marks, tally.refused
     )
     .ok()
-}
-
-/// Reads the two arguments.
-fn asked_of(words: &[String]) -> Option<Arguments> {
-    Some(Arguments {
-        times: parsed(words.first()?)?,
-        place: parsed(words.get(1)?)?,
-    })
 }
 
 /// Polls and answers as often as is asked, with the response of these digits.

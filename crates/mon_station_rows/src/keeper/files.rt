@@ -55,32 +55,23 @@ pub(crate) fn row(alloc: Global, text: &mut String, line: &str) -> Option<()> {
     }
 }
 
-/// Makes the disk of a file `SLOT SLOT SIZE`.
+/// Makes the disk of a file `SLOT SLOT SIZE`: it has what the slots begin with, and the last octet.
 fn disk_of(alloc: Global, file: &str) -> Option<MemoryDisk> {
     let (first, second, size) = three(file, ' ')?;
     let last = u64::checked_sub(parsed(size)?, 1)?;
-    let slots = (Slot::parse(first)?, Slot::parse(second)?);
+    let (first, second) = (Slot::parse(first)?, Slot::parse(second)?);
     let mut disk = MemoryDisk::new(alloc, &[]).ok()?;
-    write_file(&mut disk, slots, last)?;
+    disk.write_at(0, &first.octets()).ok()?;
+    disk.write_at(SLOT_SIZE, &second.octets()).ok()?;
+    disk.write_at(last, &[0]).ok()?;
     Some(disk)
-}
-
-/// Writes what the slots begin with, and the last octet.
-fn write_file(disk: &mut MemoryDisk, slots: (Slot, Slot), last: u64) -> Option<()> {
-    disk.write_at(0, &slots.0.octets()).ok()?;
-    disk.write_at(SLOT_SIZE, &slots.1.octets()).ok()?;
-    disk.write_at(last, &[0]).ok()
 }
 
 /// Says what a save of this many octets answers.
 pub(crate) fn sized(alloc: Global, text: &mut String, size: usize) -> Option<()> {
     let disk = MemoryDisk::new(alloc, &[]).ok()?;
     let (mut keeper, _) = Keeper::open(alloc, disk).ok()?;
-    let answer = save_zeros(alloc, &mut keeper, size)?;
-    write!(text, "save of {size}: {answer}").ok()
-}
-
-fn save_zeros(alloc: Global, keeper: &mut Keeper<MemoryDisk>, size: usize) -> Option<&'static str> {
     let zeros = zeros(alloc, size).ok()?;
-    Some(saved(keeper.save(alloc, zeros.as_slice())))
+    let answer = saved(keeper.save(alloc, zeros.as_slice()));
+    write!(text, "save of {size}: {answer}").ok()
 }

@@ -77,16 +77,12 @@ fn numbered(alloc: Global, number: u64) -> Option<Vec<u8>> {
 
 /// Returns the number of the save that this body is of, 0 if there is no body.
 fn number_of(alloc: Global, body: Option<Vec<u8>>) -> Option<u64> {
-    match body {
-        Some(body) => number_in(alloc, body.as_slice()),
-        None => Some(0),
-    }
-}
-
-fn number_in(alloc: Global, body: &[u8]) -> Option<u64> {
-    let number = u64::from_be_bytes(*body.first_chunk::<8>()?);
+    let Some(body) = body else {
+        return Some(0);
+    };
+    let number = u64::from_be_bytes(*body.as_slice().first_chunk::<8>()?);
     let whole = numbered(alloc, number)?;
-    if body == whole.as_slice() {
+    if body.as_slice() == whole.as_slice() {
         Some(number)
     } else {
         None
@@ -131,13 +127,9 @@ pub fn time_saves<R: Files<File = File> + AllocGlobal>(rt: &R, words: &[String])
     let size: usize = parsed(words.get(1)?)?;
     let times: u64 = parsed(words.get(2)?)?;
     let (mut keeper, _) = open_file(rt, words.first()?)?;
-    save_zeros(rt.alloc(), &mut keeper, size, times)
-}
-
-fn save_zeros(alloc: Global, keeper: &mut Keeper<FileDisk>, size: usize, times: u64) -> Option<()> {
-    let body = zeros(alloc, size.min(BODY_SIZE)).ok()?;
+    let body = zeros(rt.alloc(), size.min(BODY_SIZE)).ok()?;
     for _ in 0..times {
-        keeper.save(alloc, body.as_slice()).ok()?;
+        keeper.save(rt.alloc(), body.as_slice()).ok()?;
     }
     Some(())
 }

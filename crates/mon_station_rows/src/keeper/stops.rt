@@ -24,21 +24,24 @@ fn stop_of(words: &str) -> Option<(u64, bool)> {
     }
 }
 
-fn end(keep: bool) -> &'static str {
-    if keep { "keeps" } else { "loses" }
-}
-
 /// Appends how a row of something that was stopped begins.
 fn put_stop(text: &mut String, what: &str, calls: u64, keep: bool) -> Option<()> {
-    let end = end(keep);
+    let end = if keep { "keeps" } else { "loses" };
     write!(text, "{what} stopped after {calls}, a crash {end}: ").ok()
 }
 
-/// Says what becomes of a save that is stopped as a line `CALLS KEEP` says.
+/// Stops a save of `new` as a line `CALLS KEEP` says. Says what it answers and one after it by the
+/// same keeper, and what a crash then leaves.
 pub(crate) fn save_row(alloc: Global, text: &mut String, line: &str) -> Option<()> {
     let (calls, keep) = stop_of(line)?;
     put_stop(text, "save", calls, keep)?;
-    put_stopped_save(alloc, text, calls, keep)
+    let mut keeper = begun(alloc)?;
+    keeper.set(calls);
+    let first = saved(keeper.save(alloc, b"new"));
+    let second = saved(keeper.save(alloc, b"new"));
+    let disk = keeper.into_disk().into_disk().crash(keep).ok()?;
+    let found = Found::on(alloc, disk);
+    write!(text, "{first} {second} {found}").ok()
 }
 
 /// Says what becomes of openings that are stopped as a line `CALLS KEEP` says: of a fresh disk, of
@@ -46,17 +49,24 @@ pub(crate) fn save_row(alloc: Global, text: &mut String, line: &str) -> Option<(
 pub(crate) fn opening_row(alloc: Global, text: &mut String, line: &str) -> Option<()> {
     let (calls, keep) = stop_of(line)?;
     put_stop(text, "opening", calls, keep)?;
-    put_stopped_opening(alloc, text, fresh(alloc)?, calls, keep)?;
+    let fresh = MemoryDisk::new(alloc, &[]).ok()?;
+    put_stopped_opening(alloc, text, fresh, calls, keep)?;
     put(text, ", ")?;
     put_stopped_opening(alloc, text, unsynced(alloc)?, calls, keep)?;
     put(text, ", ")?;
-    put_stopped_opening(alloc, text, left_open(alloc)?, calls, keep)
+    let left_open = unsynced(alloc)?.crash(true).ok()?;
+    put_stopped_opening(alloc, text, left_open, calls, keep)
 }
 
-/// Says what becomes of an opening and a save of which this call fails.
+/// Opens an empty disk and saves `new` while this call of the disk fails. Says what that answers,
+/// how often the disk failed, and what the next opening finds.
 pub(crate) fn failing_row(alloc: Global, text: &mut String, call: u64) -> Option<()> {
     write!(text, "call {call} fails: ").ok()?;
-    put_failing_call(alloc, text, call)
+    let disk = FlakyDisk::new(MemoryDisk::new(alloc, &[]).ok()?, call);
+    let (answer, disk) = saved_on(alloc, disk);
+    let failures = disk.failures();
+    let found = Found::on(alloc, disk);
+    write!(text, "{answer} {failures} {found}").ok()
 }
 
 /// Says what becomes of a save that is stopped as a line `CALLS KEEP` says, of a reopening after it
@@ -121,18 +131,9 @@ fn mend(
 pub(crate) fn mended_row(alloc: Global, text: &mut String, call: u64) -> Option<()> {
     write!(text, "call {call} fails: ").ok()?;
     let disk = MemoryDisk::new(alloc, &[]).ok()?;
-    match Keeper::open(alloc, FlakyDisk::new(disk, call)) {
-        Ok((keeper, _)) => put_mended(alloc, text, keeper),
-        Err(_) => put(text, "not opened"),
-    }
-}
-
-fn put_mended(
-    alloc: Global,
-    text: &mut String,
-    keeper: Keeper<FlakyDisk<MemoryDisk>>,
-) -> Option<()> {
-    let mut keeper = keeper;
+    let Ok((mut keeper, _)) = Keeper::open(alloc, FlakyDisk::new(disk, call)) else {
+        return put(text, "not opened");
+    };
     let first = saved(keeper.save(alloc, b"old"));
     let again = saved(keeper.reopen());
     let second = saved(keeper.save(alloc, b"new"));
@@ -142,34 +143,12 @@ fn put_mended(
     write!(text, "{first} {again} {second} {failures} {found}").ok()
 }
 
-/// Stops a save of `new` after some calls of the disk. Says what it answers and one after it by the
-/// same keeper, and what a crash then leaves.
-fn put_stopped_save(alloc: Global, text: &mut String, calls: u64, keep: bool) -> Option<()> {
-    let mut keeper = begun(alloc)?;
-    keeper.set(calls);
-    let first = saved(keeper.save(alloc, b"new"));
-    let second = saved(keeper.save(alloc, b"new"));
-    let disk = keeper.into_disk().into_disk().crash(keep).ok()?;
-    let found = Found::on(alloc, disk);
-    write!(text, "{first} {second} {found}").ok()
-}
-
-/// Makes a disk that was never saved.
-fn fresh(alloc: Global) -> Option<MemoryDisk> {
-    MemoryDisk::new(alloc, &[]).ok()
-}
-
 /// Makes a disk with the gate of `new` open, which is not synced.
 fn unsynced(alloc: Global) -> Option<MemoryDisk> {
     let mut keeper = begun(alloc)?;
     keeper.set(5);
     let _ = keeper.save(alloc, b"new");
     Some(keeper.into_disk().into_disk())
-}
-
-/// Makes a disk on which a crash left the gate of `new` open.
-fn left_open(alloc: Global) -> Option<MemoryDisk> {
-    unsynced(alloc)?.crash(true).ok()
 }
 
 /// Stops an opening after some calls of the disk. Says what it answers, and what a crash then
@@ -194,16 +173,6 @@ fn opened_on<D: Disk>(alloc: Global, disk: D) -> (Found, D) {
         Ok((keeper, body)) => (Found::of(body), keeper.into_disk()),
         Err(NotOpened { fault, disk }) => (Found::Fault(fault), disk),
     }
-}
-
-/// Opens an empty disk and saves `new` while one call of the disk fails. Says what that answers,
-/// how often the disk failed, and what the next opening finds.
-fn put_failing_call(alloc: Global, text: &mut String, call: u64) -> Option<()> {
-    let disk = FlakyDisk::new(MemoryDisk::new(alloc, &[]).ok()?, call);
-    let (answer, disk) = saved_on(alloc, disk);
-    let failures = disk.failures();
-    let found = Found::on(alloc, disk);
-    write!(text, "{answer} {failures} {found}").ok()
 }
 
 /// Says what an opening answers that fails, else a save of `new`; and returns the disk.

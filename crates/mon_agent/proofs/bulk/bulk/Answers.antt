@@ -37,7 +37,7 @@ returns-then-not-branch-2-clause-put g c = λ next steps.
     (sym rounds ∙ above_zero c.count-rounds.result c.if-rounds-eq0.false)
     (subst (λ all. IsPut (FitsWith c.args.reply.now) (c.args.reply.now.bindings ++ answers next c.split.result.0.now) all middle.bindings)
     c.if-not-branch.false (c.in_ok-extend.ensures.put next steps))
-    (cut_same c.args.reply.now middle (middle.bindings ++ answers next c.split.result.1.now) c.extend-2.new.reply.bindings c.extend.ensures.head c.extend.ensures.limit
+    (cut_same c.args.reply.now middle (middle.bindings ++ answers next c.split.result.1.now) c.extend-2.new.reply.bindings c.extend.ensures.head c.extend.ensures.max_message_size
     (subst (λ all. IsPut (FitsWith middle) (middle.bindings ++ answers next c.split.result.1.now) all c.extend-2.new.reply.bindings)
     c.if-not-branch-2.true (c.in_ok-extend-2.ensures.put next (moved g.D.Device.held next c.extend.ensures.stays steps))))
 
@@ -57,7 +57,7 @@ returns-clause-put g c = λ next steps.
     (subst (λ all. IsPut (FitsWith middle) (middle.bindings ++ answers next c.split.result.1.now) all round.bindings)
     c.if-not-branch-2.false (c.in_ok-extend-2.ensures.put next (moved g.D.Device.held next c.extend.ensures.stays steps)))
     (ended_same c.args.reply.now round (round.bindings ++ more_rounds next (c.count-rounds.result - 1) (last (length c.split.result.1.now) round.bindings))
-    c.repeat_all.new.reply.bindings (c.extend-2.ensures.head ∙ c.extend.ensures.head) (c.extend-2.ensures.limit ∙ c.extend.ensures.limit) ended))
+    c.repeat_all.new.reply.bindings (c.extend-2.ensures.head ∙ c.extend.ensures.head) (c.extend-2.ensures.max_message_size ∙ c.extend.ensures.max_message_size) ended))
     (c.repeat_all.ensures.put next (moved g.D.Device.held next (c.extend-2.ensures.stays ∙ c.extend.ensures.stays) steps))
 
 pub returns-in_err-extend-clause-head : goal.returns-in_err-extend-clause-head
@@ -78,23 +78,23 @@ returns-then-not-branch-2-clause-head g c = c.extend-2.ensures.head ∙ c.extend
 pub returns-clause-head : goal.returns-clause-head
 returns-clause-head g c = c.repeat_all.ensures.head ∙ (c.extend-2.ensures.head ∙ c.extend.ensures.head)
 
-pub returns-in_err-extend-clause-limit : goal.returns-in_err-extend-clause-limit
-returns-in_err-extend-clause-limit g c = c.extend.ensures.limit
+pub returns-in_err-extend-clause-max_message_size : goal.returns-in_err-extend-clause-max_message_size
+returns-in_err-extend-clause-max_message_size g c = c.extend.ensures.max_message_size
 
-pub returns-then-not-branch-clause-limit : goal.returns-then-not-branch-clause-limit
-returns-then-not-branch-clause-limit g c = c.extend.ensures.limit
+pub returns-then-not-branch-clause-max_message_size : goal.returns-then-not-branch-clause-max_message_size
+returns-then-not-branch-clause-max_message_size g c = c.extend.ensures.max_message_size
 
-pub returns-then-rounds-eq0-clause-limit : goal.returns-then-rounds-eq0-clause-limit
-returns-then-rounds-eq0-clause-limit g c = c.extend.ensures.limit
+pub returns-then-rounds-eq0-clause-max_message_size : goal.returns-then-rounds-eq0-clause-max_message_size
+returns-then-rounds-eq0-clause-max_message_size g c = c.extend.ensures.max_message_size
 
-pub returns-in_err-extend-2-clause-limit : goal.returns-in_err-extend-2-clause-limit
-returns-in_err-extend-2-clause-limit g c = c.extend-2.ensures.limit ∙ c.extend.ensures.limit
+pub returns-in_err-extend-2-clause-max_message_size : goal.returns-in_err-extend-2-clause-max_message_size
+returns-in_err-extend-2-clause-max_message_size g c = c.extend-2.ensures.max_message_size ∙ c.extend.ensures.max_message_size
 
-pub returns-then-not-branch-2-clause-limit : goal.returns-then-not-branch-2-clause-limit
-returns-then-not-branch-2-clause-limit g c = c.extend-2.ensures.limit ∙ c.extend.ensures.limit
+pub returns-then-not-branch-2-clause-max_message_size : goal.returns-then-not-branch-2-clause-max_message_size
+returns-then-not-branch-2-clause-max_message_size g c = c.extend-2.ensures.max_message_size ∙ c.extend.ensures.max_message_size
 
-pub returns-clause-limit : goal.returns-clause-limit
-returns-clause-limit g c = c.repeat_all.ensures.limit ∙ (c.extend-2.ensures.limit ∙ c.extend.ensures.limit)
+pub returns-clause-max_message_size : goal.returns-clause-max_message_size
+returns-clause-max_message_size g c = c.repeat_all.ensures.max_message_size ∙ (c.extend-2.ensures.max_message_size ∙ c.extend.ensures.max_message_size)
 
 pub returns-in_err-extend-clause-put : goal.returns-in_err-extend-clause-put
 returns-in_err-extend-clause-put g c = λ next steps. IfOk-from_err c.from_residual.result _ c.from_residual.ensures.0

@@ -17,7 +17,7 @@ returns-then-not-branch-clause-put g c = λ next steps.
     c.push.ensures.full (c.in_ok-push.was ∙ ap Ok c.if-not-branch.true) in
     let one : found ≡ next (get_or asked at.binding-index c.binding-item.result).name =
     c.in_ok-found.ensures.only next (moved g.D.Device.held next at.invariant.stays steps) ∙ ap (λ (b : Binding). next b.name) c.binding-item.is in
-    rw full.0 (cut_same c.args.reply.now at.reply (before ++ answers next asked) at.reply.bindings at.invariant.head at.invariant.limit
+    rw full.0 (cut_same c.args.reply.now at.reply (before ++ answers next asked) at.reply.bindings at.invariant.head at.invariant.max_message_size
     (cut_at next (FitsWith at.reply) before asked at.reply.bindings at.binding-index c.binding-item.result found lt (at.invariant.put next steps) one full.1))
 
 pub loop-binding-preserved : goal.loop-binding-preserved
@@ -29,7 +29,7 @@ loop-binding-preserved g c =
     let more : c.push.new.self.bindings ≡ at.reply.bindings ++ found ∷ [] = c.push.ensures.more (c.in_ok-push.was ∙ ap Ok c.if-not-branch.false) in
     record {
       head = c.push.ensures.head ∙ at.invariant.head;
-      limit = c.push.ensures.limit ∙ at.invariant.limit;
+      max_message_size = c.push.ensures.max_message_size ∙ at.invariant.max_message_size;
       long = one_longer at.reply.bindings c.push.new.self.bindings found (length c.args.reply.now.bindings) at.binding-index more at.invariant.long;
       put = λ next steps. more ∙ more_at next c.args.reply.now.bindings asked at.reply.bindings at.binding-index c.binding-item.result found lt
           (at.invariant.put next steps) (c.in_ok-found.ensures.only next (moved g.D.Device.held next at.invariant.stays steps) ∙ ap (λ (b : Binding). next b.name) c.binding-item.is);
@@ -42,8 +42,8 @@ returns-in_err-found-clause-stays g c = c.step.ensures.stays ∙ c.loop-binding.
 pub returns-in_err-found-clause-head : goal.returns-in_err-found-clause-head
 returns-in_err-found-clause-head g c = c.loop-binding.invariant.head
 
-pub returns-in_err-found-clause-limit : goal.returns-in_err-found-clause-limit
-returns-in_err-found-clause-limit g c = c.loop-binding.invariant.limit
+pub returns-in_err-found-clause-max_message_size : goal.returns-in_err-found-clause-max_message_size
+returns-in_err-found-clause-max_message_size g c = c.loop-binding.invariant.max_message_size
 
 pub returns-in_err-found-clause-put : goal.returns-in_err-found-clause-put
 returns-in_err-found-clause-put g c = λ next steps. IfOk-from_err c.from_residual.result _ c.from_residual.ensures.0
@@ -57,8 +57,8 @@ returns-in_err-push-clause-stays g c = c.step.ensures.stays ∙ c.loop-binding.i
 pub returns-in_err-push-clause-head : goal.returns-in_err-push-clause-head
 returns-in_err-push-clause-head g c = c.push.ensures.head ∙ c.loop-binding.invariant.head
 
-pub returns-in_err-push-clause-limit : goal.returns-in_err-push-clause-limit
-returns-in_err-push-clause-limit g c = c.push.ensures.limit ∙ c.loop-binding.invariant.limit
+pub returns-in_err-push-clause-max_message_size : goal.returns-in_err-push-clause-max_message_size
+returns-in_err-push-clause-max_message_size g c = c.push.ensures.max_message_size ∙ c.loop-binding.invariant.max_message_size
 
 pub returns-in_err-push-clause-put : goal.returns-in_err-push-clause-put
 returns-in_err-push-clause-put g c = λ next steps. IfOk-from_err c.from_residual-in_err-push.result _ c.from_residual-in_err-push.ensures.0
@@ -72,8 +72,8 @@ returns-then-not-branch-clause-stays g c = c.step.ensures.stays ∙ c.loop-bindi
 pub returns-then-not-branch-clause-head : goal.returns-then-not-branch-clause-head
 returns-then-not-branch-clause-head g c = c.push.ensures.head ∙ c.loop-binding.invariant.head
 
-pub returns-then-not-branch-clause-limit : goal.returns-then-not-branch-clause-limit
-returns-then-not-branch-clause-limit g c = c.push.ensures.limit ∙ c.loop-binding.invariant.limit
+pub returns-then-not-branch-clause-max_message_size : goal.returns-then-not-branch-clause-max_message_size
+returns-then-not-branch-clause-max_message_size g c = c.push.ensures.max_message_size ∙ c.loop-binding.invariant.max_message_size
 
 pub returns-clause-stays : goal.returns-clause-stays
 returns-clause-stays g c = c.loop-binding.invariant.stays
@@ -81,8 +81,8 @@ returns-clause-stays g c = c.loop-binding.invariant.stays
 pub returns-clause-head : goal.returns-clause-head
 returns-clause-head g c = c.loop-binding.invariant.head
 
-pub returns-clause-limit : goal.returns-clause-limit
-returns-clause-limit g c = c.loop-binding.invariant.limit
+pub returns-clause-max_message_size : goal.returns-clause-max_message_size
+returns-clause-max_message_size g c = c.loop-binding.invariant.max_message_size
 
 pub returns-then-not-branch-clause-long : goal.returns-then-not-branch-clause-long
 returns-then-not-branch-clause-long g c = not_full
@@ -94,4 +94,4 @@ returns-clause-put g c = λ next steps.
 
 pub loop-binding-init : goal.loop-binding-init
 loop-binding-init g c =
-    record { stays = refl; head = refl; limit = refl; long = omega arith; put = λ next steps. sym (append-nil c.args.reply.now.bindings) }
+    record { stays = refl; head = refl; max_message_size = refl; long = omega arith; put = λ next steps. sym (append-nil c.args.reply.now.bindings) }

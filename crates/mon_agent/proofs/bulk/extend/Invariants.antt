@@ -9,7 +9,7 @@ abbrev pub invariant-loop-binding : goal.invariant-loop-binding
 invariant-loop-binding g l = record {
   stays : l.search ≡ l.fn.search;
   head : l.reply.head ≡ l.fn.reply.head;
-  limit : l.reply.limit ≡ l.fn.reply.limit;
+  max_message_size : l.reply.max_message_size ≡ l.fn.reply.max_message_size;
   long : length l.reply.bindings ≡ length l.fn.reply.bindings + l.binding-index;
   put : ((next : List ℕ → Binding) → IsStepper (known_in g.D.Device.held l.fn.search) (IsSeenIn l.fn.search) next
       → l.reply.bindings ≡ l.fn.reply.bindings ++ map next (names_of (take l.binding-index l.asked)));

@@ -20,7 +20,7 @@ returns-then-not-branch-clause-put g c = λ next steps.
     let one : found ≡ next (get_or (last width before) at.counter found).name =
     c.in_ok-found.ensures.only next (moved g.D.Device.held next at.invariant.stays steps)
     ∙ (ap next name ∙ ap (λ b. next b.name) (name_back next before at.reply.bindings width at.counter found wide inside (at.invariant.put next steps))) in
-    rw full.0 (cut_same c.args.reply.now at.reply (before ++ answers next (last width before)) at.reply.bindings at.invariant.head at.invariant.limit
+    rw full.0 (cut_same c.args.reply.now at.reply (before ++ answers next (last width before)) at.reply.bindings at.invariant.head at.invariant.max_message_size
     (cut_at next (FitsWith at.reply) before (last width before) at.reply.bindings at.counter found found lt (at.invariant.put next steps) one full.1))
 
 pub loop-preserved : goal.loop-preserved
@@ -35,7 +35,7 @@ loop-preserved g c =
     let name : c.name_before.result.now ≡ (get_or at.reply.bindings (length at.reply.bindings - width) found).name = c.name_before.ensures found in
     record {
       head = c.push.ensures.head ∙ at.invariant.head;
-      limit = c.push.ensures.limit ∙ at.invariant.limit;
+      max_message_size = c.push.ensures.max_message_size ∙ at.invariant.max_message_size;
       wide = as_wide at.reply.bindings c.push.new.self.bindings found width more at.invariant.wide;
       put = λ next steps.
           let lt : at.counter < length (last width before) = in_last width before at.counter wide inside in
@@ -62,8 +62,8 @@ returns-in_err-found-clause-stays g c = c.step.ensures.stays ∙ c.loop.invarian
 pub returns-in_err-found-clause-head : goal.returns-in_err-found-clause-head
 returns-in_err-found-clause-head g c = c.loop.invariant.head
 
-pub returns-in_err-found-clause-limit : goal.returns-in_err-found-clause-limit
-returns-in_err-found-clause-limit g c = c.loop.invariant.limit
+pub returns-in_err-found-clause-max_message_size : goal.returns-in_err-found-clause-max_message_size
+returns-in_err-found-clause-max_message_size g c = c.loop.invariant.max_message_size
 
 pub returns-in_err-found-clause-put : goal.returns-in_err-found-clause-put
 returns-in_err-found-clause-put g c = λ next steps. IfOk-from_err c.from_residual.result _ c.from_residual.ensures.0
@@ -77,8 +77,8 @@ returns-in_err-push-clause-stays g c = c.step.ensures.stays ∙ c.loop.invariant
 pub returns-in_err-push-clause-head : goal.returns-in_err-push-clause-head
 returns-in_err-push-clause-head g c = c.push.ensures.head ∙ c.loop.invariant.head
 
-pub returns-in_err-push-clause-limit : goal.returns-in_err-push-clause-limit
-returns-in_err-push-clause-limit g c = c.push.ensures.limit ∙ c.loop.invariant.limit
+pub returns-in_err-push-clause-max_message_size : goal.returns-in_err-push-clause-max_message_size
+returns-in_err-push-clause-max_message_size g c = c.push.ensures.max_message_size ∙ c.loop.invariant.max_message_size
 
 pub returns-in_err-push-clause-put : goal.returns-in_err-push-clause-put
 returns-in_err-push-clause-put g c = λ next steps. IfOk-from_err c.from_residual-in_err-push.result _ c.from_residual-in_err-push.ensures.0
@@ -92,8 +92,8 @@ returns-then-not-branch-clause-stays g c = c.step.ensures.stays ∙ c.loop.invar
 pub returns-then-not-branch-clause-head : goal.returns-then-not-branch-clause-head
 returns-then-not-branch-clause-head g c = c.push.ensures.head ∙ c.loop.invariant.head
 
-pub returns-then-not-branch-clause-limit : goal.returns-then-not-branch-clause-limit
-returns-then-not-branch-clause-limit g c = c.push.ensures.limit ∙ c.loop.invariant.limit
+pub returns-then-not-branch-clause-max_message_size : goal.returns-then-not-branch-clause-max_message_size
+returns-then-not-branch-clause-max_message_size g c = c.push.ensures.max_message_size ∙ c.loop.invariant.max_message_size
 
 pub returns-then-not-branch-clause-wide : goal.returns-then-not-branch-clause-wide
 returns-then-not-branch-clause-wide g c = not_full
@@ -104,8 +104,8 @@ returns-clause-stays g c = c.loop.invariant.stays
 pub returns-clause-head : goal.returns-clause-head
 returns-clause-head g c = c.loop.invariant.head
 
-pub returns-clause-limit : goal.returns-clause-limit
-returns-clause-limit g c = c.loop.invariant.limit
+pub returns-clause-max_message_size : goal.returns-clause-max_message_size
+returns-clause-max_message_size g c = c.loop.invariant.max_message_size
 
 pub returns-clause-wide : goal.returns-clause-wide
 returns-clause-wide g c = λ is. c.loop.invariant.wide

@@ -10,7 +10,7 @@ abbrev pub invariant-loop : goal.invariant-loop
 invariant-loop g l = record {
   stays : l.search ≡ l.fn.search;
   head : l.reply.head ≡ l.fn.reply.head;
-  limit : l.reply.limit ≡ l.fn.reply.limit;
+  max_message_size : l.reply.max_message_size ≡ l.fn.reply.max_message_size;
   wide : l.width ≤ length l.reply.bindings;
   put : ((next : List ℕ → Binding) → IsStepper (known_in g.D.Device.held l.fn.search) (IsSeenIn l.fn.search) next
       → l.reply.bindings ≡ l.fn.reply.bindings ++ map next (names_of (take l.counter (last l.width l.fn.reply.bindings))));

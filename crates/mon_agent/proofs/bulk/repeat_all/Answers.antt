@@ -28,7 +28,7 @@ returns-then-not-branch-clause-put g c = λ next steps.
     let whole : (at.reply.bindings ++ answers next round) ++ more_rounds next m (answers next round)
     ≡ c.args.reply.now.bindings ++ more_rounds next c.args.rounds (last width c.args.reply.now.bindings) =
     unrolled next at.reply.bindings round (c.args.rounds - at.counter) m left other ∙ sym (at.invariant.put next steps) in
-    inr (cut_same c.args.reply.now at.reply _ c.repeat.new.reply.bindings at.invariant.head at.invariant.limit
+    inr (cut_same c.args.reply.now at.reply _ c.repeat.new.reply.bindings at.invariant.head at.invariant.max_message_size
     (cut_is (FitsWith at.reply) _ _ c.repeat.new.reply.bindings whole
     (cut_longer (FitsWith at.reply) (at.reply.bindings ++ answers next round) (more_rounds next m (answers next round)) c.repeat.new.reply.bindings put)))
 
@@ -43,7 +43,7 @@ loop-preserved g c =
     let wide : width ≤ length c.repeat.new.reply.bindings = c.repeat.ensures.wide (c.in_ok-repeat.was ∙ ap Ok c.if-not-branch.false) in
     record {
       head = c.repeat.ensures.head ∙ at.invariant.head;
-      limit = c.repeat.ensures.limit ∙ at.invariant.limit;
+      max_message_size = c.repeat.ensures.max_message_size ∙ at.invariant.max_message_size;
       wide = wide;
       stays = c.repeat.ensures.stays ∙ at.invariant.stays;
       put = λ next steps.
@@ -74,20 +74,20 @@ repeat-requires g c = c.loop.invariant.wide
 pub returns-then-all_end_of_mib_view-clause-head : goal.returns-then-all_end_of_mib_view-clause-head
 returns-then-all_end_of_mib_view-clause-head g c = c.loop.invariant.head
 
-pub returns-then-all_end_of_mib_view-clause-limit : goal.returns-then-all_end_of_mib_view-clause-limit
-returns-then-all_end_of_mib_view-clause-limit g c = c.loop.invariant.limit
+pub returns-then-all_end_of_mib_view-clause-max_message_size : goal.returns-then-all_end_of_mib_view-clause-max_message_size
+returns-then-all_end_of_mib_view-clause-max_message_size g c = c.loop.invariant.max_message_size
 
 pub returns-in_err-repeat-clause-head : goal.returns-in_err-repeat-clause-head
 returns-in_err-repeat-clause-head g c = c.repeat.ensures.head ∙ c.loop.invariant.head
 
-pub returns-in_err-repeat-clause-limit : goal.returns-in_err-repeat-clause-limit
-returns-in_err-repeat-clause-limit g c = c.repeat.ensures.limit ∙ c.loop.invariant.limit
+pub returns-in_err-repeat-clause-max_message_size : goal.returns-in_err-repeat-clause-max_message_size
+returns-in_err-repeat-clause-max_message_size g c = c.repeat.ensures.max_message_size ∙ c.loop.invariant.max_message_size
 
 pub returns-then-not-branch-clause-head : goal.returns-then-not-branch-clause-head
 returns-then-not-branch-clause-head g c = c.repeat.ensures.head ∙ c.loop.invariant.head
 
-pub returns-then-not-branch-clause-limit : goal.returns-then-not-branch-clause-limit
-returns-then-not-branch-clause-limit g c = c.repeat.ensures.limit ∙ c.loop.invariant.limit
+pub returns-then-not-branch-clause-max_message_size : goal.returns-then-not-branch-clause-max_message_size
+returns-then-not-branch-clause-max_message_size g c = c.repeat.ensures.max_message_size ∙ c.loop.invariant.max_message_size
 
 pub returns-in_err-repeat-clause-put : goal.returns-in_err-repeat-clause-put
 returns-in_err-repeat-clause-put g c = λ next steps. IfOk-from_err c.from_residual.result _ c.from_residual.ensures.0
@@ -95,5 +95,5 @@ returns-in_err-repeat-clause-put g c = λ next steps. IfOk-from_err c.from_resid
 pub returns-clause-head : goal.returns-clause-head
 returns-clause-head g c = c.loop.invariant.head
 
-pub returns-clause-limit : goal.returns-clause-limit
-returns-clause-limit g c = c.loop.invariant.limit
+pub returns-clause-max_message_size : goal.returns-clause-max_message_size
+returns-clause-max_message_size g c = c.loop.invariant.max_message_size

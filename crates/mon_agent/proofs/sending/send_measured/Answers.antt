@@ -5,5 +5,5 @@ use Rattle.mon_agent.proofs.sending.send_measured.Goals as goal
 
 pub returns-in-Some : goal.returns-in-Some
 returns-in-Some c =
-    let fits : IsWithinLimit c.args.limit c.args.reply = search rules in
-    sent_within c.args.limit c.args.reply c.write_listed.result fits c.write_listed.ensures
+    let fits : IsWithinLimit c.args.max_message_size c.args.reply = search rules in
+    sent_within c.args.max_message_size c.args.reply c.write_listed.result fits c.write_listed.ensures

@@ -6,6 +6,6 @@ use Rattle.mon_app.proofs.asking.send_request.Given as goal
 -- it was sent this often, and no reply was received
 abbrev pub invariant-loop : goal.invariant-loop
 invariant-loop g l = record {
-  sent : AreSent (asked_in l.question) l.counter (g.W.Wire.told l.fn.wire) (g.W.Wire.told l.wire);
+  sent : AreSent (asked_in l.question) l.counter (g.W.Wire.log l.fn.wire) (g.W.Wire.log l.wire);
   failures : g.W.Wire.failures l.wire ≡ g.W.Wire.failures l.fn.wire;
 }

@@ -4,4 +4,4 @@ use Rattle.mon_app.proofs.serving.next_datagram.Given as goal
 
 -- this many waits failed
 abbrev pub invariant-loop : goal.invariant-loop
-invariant-loop g l = Happens (AreFailures l.counter) (g.P.Port.told l.fn.port) (g.P.Port.told l.port) (g.P.Port.failures l.fn.port) (g.P.Port.failures l.port)
+invariant-loop g l = Happens (AreFailures l.counter) (g.P.Port.log l.fn.port) (g.P.Port.log l.port) (g.P.Port.failures l.fn.port) (g.P.Port.failures l.port)

@@ -10,9 +10,9 @@ use Rattle.mon_app.proofs.serving.serve_in.Goals as goal
 
 pub returns-in-Ok-Send-clause-served : goal.returns-in-Ok-Send-clause-served
 returns-in-Ok-Send-clause-served g c =
-    let told_0 = g.P.Port.told c.args.port.now in
-    let told_1 = g.P.Port.told c.next_datagram.new.port in
-    let told_2 = g.P.Port.told c.reply.new.self in
+    let told_0 = g.P.Port.log c.args.port.now in
+    let told_1 = g.P.Port.log c.next_datagram.new.port in
+    let told_2 = g.P.Port.log c.reply.new.self in
     let count_0 = g.P.Port.failures c.args.port.now in
     let count_1 = g.P.Port.failures c.next_datagram.new.port in
     let count_2 = g.P.Port.failures c.reply.new.self in

@@ -6,5 +6,5 @@ use Rattle.mon_commands.specs.Serving.{untaken_lines}
 use Rattle.mon_host.specs.Log.{GoesOnBy}
 
 pub returns-in-Untaken : goal.returns-in-Untaken
-returns-in-Untaken g c = subst (λ (s : Served). GoesOnBy (λ log. log ≡ untaken_lines s) (g.H.Host.log c.args.host.now) (g.H.Host.log c.tell.new.host))
-    (sym c.in-Untaken.is) (told_of_memory c.from.result _ _ c.from.ensures c.tell.ensures)
+returns-in-Untaken g c = subst (λ (s : Served). GoesOnBy (λ log. log ≡ untaken_lines s) (g.H.Host.log c.args.host.now) (g.H.Host.log c.report.new.host))
+    (sym c.in-Untaken.is) (told_of_memory c.from.result _ _ c.from.ensures c.report.ensures)

@@ -8,7 +8,7 @@ use Rattle.mon_commands.proofs.client.answer.Goals as goal
 
 pub returns-in_ok-labels : goal.returns-in_ok-labels
 returns-in_ok-labels g c =
-    let agents = (agents_by (g.N.Opens.has_opened c.args.net.now) (g.N.Opens.has_failed c.args.net.now) g.N.Wire.Wire.told) in
+    let agents = (agents_by (g.N.Opens.has_opened c.args.net.now) (g.N.Opens.has_failed c.args.net.now) g.N.Wire.Wire.log) in
     let named = subst (λ (defs : List Definition). IsAnsweredAs agents (λ oid. name_text defs oid) c.args.query.now c.args.asking c.answer_shown-then-query.result)
     c.in_ok-labels.ensures c.answer_shown-then-query.ensures in
     subst (λ (b : Bool). IsAnsweredAs agents (shown_if b c.args.query.now.known) c.args.query.now c.args.asking c.answer_shown-then-query.result)
@@ -16,6 +16,6 @@ returns-in_ok-labels g c =
 
 pub returns-else-query : goal.returns-else-query
 returns-else-query g c =
-    let agents = (agents_by (g.N.Opens.has_opened c.args.net.now) (g.N.Opens.has_failed c.args.net.now) g.N.Wire.Wire.told) in
+    let agents = (agents_by (g.N.Opens.has_opened c.args.net.now) (g.N.Opens.has_failed c.args.net.now) g.N.Wire.Wire.log) in
     subst (λ (b : Bool). IsAnsweredAs agents (shown_if b c.args.query.now.known) c.args.query.now c.args.asking c.answer_shown-else-query.result)
     (sym c.if-query.false) c.answer_shown-else-query.ensures

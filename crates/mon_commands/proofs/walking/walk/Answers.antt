@@ -10,12 +10,12 @@ use Rattle.mon_commands.proofs.walking.walk.Goals as goal
 pub returns-in_err-query : goal.returns-in_err-query
 returns-in_err-query g c =
     let failure = c.in_err-query.field-0.0 in
-    failed (IsWalking (agents_by (g.N.Opens.has_opened c.args.net.now) (g.N.Opens.has_failed c.args.net.now) g.N.Wire.Wire.told) c.args.words) c.from_residual.result failure _ _ c.from_residual.ensures.1
+    failed (IsWalking (agents_by (g.N.Opens.has_opened c.args.net.now) (g.N.Opens.has_failed c.args.net.now) g.N.Wire.Wire.log) c.args.words) c.from_residual.result failure _ _ c.from_residual.ensures.1
     (then_fails (IsQuery c.args.words.request) _ failure _ _ c.in_err-query.ensures)
 
 pub returns : goal.returns
 returns g c =
-    let agents = (agents_by (g.N.Opens.has_opened c.args.net.now) (g.N.Opens.has_failed c.args.net.now) g.N.Wire.Wire.told) in
+    let agents = (agents_by (g.N.Opens.has_opened c.args.net.now) (g.N.Opens.has_failed c.args.net.now) g.N.Wire.Wire.log) in
     let words = c.args.words in
     let query = c.in_ok-query.query in
     follows (IsQuery words.request) (IsWalkBy agents words.bulk) query _ _ _ _ c.in_ok-query.ensures

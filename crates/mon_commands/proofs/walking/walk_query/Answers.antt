@@ -11,7 +11,7 @@ use Rattle.mon_smi.specs.declared.definition.Definition.{Definition}
 
 pub returns-in_ok-labels : goal.returns-in_ok-labels
 returns-in_ok-labels g c =
-    let agents = (agents_by (g.N.Opens.has_opened c.args.net.now) (g.N.Opens.has_failed c.args.net.now) g.N.Wire.Wire.told) in
+    let agents = (agents_by (g.N.Opens.has_opened c.args.net.now) (g.N.Opens.has_failed c.args.net.now) g.N.Wire.Wire.log) in
     let query = c.args.query.now in
     let start = c.index.result.now in
     let before = g.H.Host.log c.args.host.now in
@@ -26,7 +26,7 @@ returns-in_ok-labels g c =
 
 pub returns-else-query : goal.returns-else-query
 returns-else-query g c =
-    let agents = (agents_by (g.N.Opens.has_opened c.args.net.now) (g.N.Opens.has_failed c.args.net.now) g.N.Wire.Wire.told) in
+    let agents = (agents_by (g.N.Opens.has_opened c.args.net.now) (g.N.Opens.has_failed c.args.net.now) g.N.Wire.Wire.log) in
     let query = c.args.query.now in
     let start = c.index.result.now in
     let before = g.H.Host.log c.args.host.now in

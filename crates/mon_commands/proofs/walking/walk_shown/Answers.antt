@@ -8,7 +8,7 @@ use Rattle.mon_commands.proofs.walking.walk_shown.Goals as goal
 
 pub returns-in-Err : goal.returns-in-Err
 returns-in-Err g c =
-    let agents = (agents_by (g.N.Opens.has_opened c.args.net.now) (g.N.Opens.has_failed c.args.net.now) g.N.Wire.Wire.told) in
+    let agents = (agents_by (g.N.Opens.has_opened c.args.net.now) (g.N.Opens.has_failed c.args.net.now) g.N.Wire.Wire.log) in
     let route = c.args.route.now in
     let plan = route.plan in
     let show = g.S.NameTexts.shown c.args.names.now in

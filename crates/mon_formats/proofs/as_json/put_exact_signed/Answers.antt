@@ -7,7 +7,7 @@ use Rattle.mon_formats.proofs.Pushed.{when_added}
 use Rattle.mon_formats.proofs.Samples.{large_text}
 use Rattle.mon_formats.proofs.as_json.put_exact_signed.Goals as goal
 
--- digits between quotes, behind what stands before them
+-- digits between quotes, after the text before them
 between : (old before quote digits : List ℕ) → ((old ++ before) ++ (quote ++ digits)) ++ quote ≡ old ++ (before ++ (quote ++ (digits ++ quote)))
 between old before quote digits = simp append_assoc
 

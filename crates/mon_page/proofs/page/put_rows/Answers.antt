@@ -1,5 +1,6 @@
-use Rattle.mon_page.specs.Page.{body_text}
-use Rattle.mon_page.proofs.Chains.{join, written}
+use Rattle.std.proofs.Common.{option_map}
+use Rattle.mon_page.specs.Page.{body_text, counts_text}
+use Rattle.mon_page.proofs.Chains.{join, said, written}
 use Rattle.mon_page.proofs.page.put_rows.Goals as goal
 
 pub returns : goal.returns
@@ -7,7 +8,7 @@ unfolding body_text
 returns g c =
     let start = c.args.text.now.items in
     written c.extend_from_slice.result start _ _ _ _ (join start _ _ _ _ (join start _ _ _ _ (join start _ _ _ _ c.in_ok-put_origin.ensures
-    c.in_ok-put_row_counts.ensures)
+    (said _ _ _ _ (λ i. counts_text (option_map (λ f. f.now) c.args.origin.station) (c.in_ok-counts.ensures i)) c.in_ok-put_counts.ensures))
     c.in_ok-put_wrong.ensures)
     c.in_ok-put_row_sections.ensures)
     c.extend_from_slice.ensures.items

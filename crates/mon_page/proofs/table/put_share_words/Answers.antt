@@ -1,5 +1,6 @@
+use Rattle.std.proofs.Common.{decimal}
 use Rattle.mon_page.specs.Page.{share_words}
-use Rattle.mon_page.proofs.Chains.{join, written}
+use Rattle.mon_page.proofs.Chains.{join, said, written}
 use Rattle.mon_page.proofs.table.put_share_words.Goals as goal
 
 pub returns : goal.returns
@@ -9,5 +10,5 @@ returns c =
     written c.extend_from_slice-3.result start _ _ _ _ (join start _ _ _ _ (join start _ _ _ _ (join start _ _ _ _ c.in_ok-extend_from_slice.ensures.items
     c.in_ok-put_percent.ensures)
     c.in_ok-extend_from_slice-2.ensures.items)
-    c.in_ok-put_percent_number.ensures)
+    (said _ _ _ _ (λ i. decimal (c.percent_of.ensures i)) c.in_ok-put_wide.ensures))
     c.extend_from_slice-3.ensures.items

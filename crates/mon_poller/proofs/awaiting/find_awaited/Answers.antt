@@ -13,15 +13,15 @@ use Rattle.mon_poller.proofs.Steps.{was_true, was_false}
 use Rattle.mon_poller.proofs.Responds.{no_poll, other_source, other_community, poll_found}
 use Rattle.mon_poller.proofs.awaiting.find_awaited.Goals as goal
 
-pub returns-in_default-find-clause-told : goal.returns-in_default-find-clause-told
-returns-in_default-find-clause-told c =
+pub returns-in_default-find-clause-verdict : goal.returns-in_default-find-clause-verdict
+returns-in_default-find-clause-verdict c =
     let slots = c.args.polls.now.slots in
     let is : response_pdu c.args.message.now.body ≡ Some c.in-Some.pdu.now = sym c.response_pdu.ensures ∙ ap option_copied c.in-Some.is in
     let named : c.in-Some.pdu.now.request_id ≡ pos c.in-Ok.id = search rules in
     no_poll c.args.targets.now (open_of slots) c.args.from c.args.message.now c.in-Some.pdu.now is c.in-Ok.id named (in_none slots c.in-Ok.id c.in_default-find.ensures.absent)
 
-pub returns-then-ne-clause-told : goal.returns-then-ne-clause-told
-returns-then-ne-clause-told c =
+pub returns-then-ne-clause-verdict : goal.returns-then-ne-clause-verdict
+returns-then-ne-clause-verdict c =
     let slots = c.args.polls.now.slots in
     let poll = c.in-Some-find.poll in
     let is : response_pdu c.args.message.now.body ≡ Some c.in-Some.pdu.now = sym c.response_pdu.ensures ∙ ap option_copied c.in-Some.is in
@@ -33,8 +33,8 @@ returns-then-ne-clause-told c =
     other_source c.args.targets.now (open_of slots) c.args.from c.args.message.now c.in-Some.pdu.now is c.in-Ok.id named (poll_in poll) found
     (ap (λ (t : Target). same_addr c.args.from t.address) (sym at) ∙ was_false _ (sym c.ne.ensures ∙ c.if-ne.true))
 
-pub returns-then-ne-2-clause-told : goal.returns-then-ne-2-clause-told
-returns-then-ne-2-clause-told c =
+pub returns-then-ne-2-clause-verdict : goal.returns-then-ne-2-clause-verdict
+returns-then-ne-2-clause-verdict c =
     let slots = c.args.polls.now.slots in
     let poll = c.in-Some-find.poll in
     let is : response_pdu c.args.message.now.body ≡ Some c.in-Some.pdu.now = sym c.response_pdu.ensures ∙ ap option_copied c.in-Some.is in
@@ -47,8 +47,8 @@ returns-then-ne-2-clause-told c =
     (ap (λ (t : Target). same_addr c.args.from t.address) (sym at) ∙ was_true _ (sym c.ne.ensures ∙ c.if-ne.false))
     ((λ j. bytes_eq (sym c.as_slice.ensures j) (sym at j).community) ∙ ap (λ o. bytes_eq c.as_slice.result.now o) (sym c.as_slice-2.ensures) ∙ was_false _ (sym c.ne-2.ensures ∙ c.if-ne-2.true))
 
-pub returns-clause-told : goal.returns-clause-told
-returns-clause-told c =
+pub returns-clause-verdict : goal.returns-clause-verdict
+returns-clause-verdict c =
     let slots = c.args.polls.now.slots in
     let poll = c.in-Some-find.poll in
     let is : response_pdu c.args.message.now.body ≡ Some c.in-Some.pdu.now = sym c.response_pdu.ensures ∙ ap option_copied c.in-Some.is in

@@ -1,4 +1,4 @@
-use Rattle.std.proofs.Common.{◌++◌, ◌∙◌, List, Option, None, ap, arith, get_or, ℕ}
+use Rattle.std.proofs.Common.{◌++◌, ◌∙◌, None, arith}
 use Rattle.mon_rounds.specs.Changes.{engine_change}
 use Rattle.mon_rounds.proofs.Becoming.{changes_step}
 use Rattle.mon_rounds.proofs.changes.put_engine_changes.Goals as goal

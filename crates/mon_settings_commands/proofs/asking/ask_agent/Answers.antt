@@ -11,7 +11,7 @@ use Rattle.mon_settings_commands.proofs.asking.ask_agent.Goals as goal
 
 pub returns-in_err-survey : goal.returns-in_err-survey
 returns-in_err-survey g c =
-    let agents = agents_by (g.N.Opens.has_opened c.args.net.now) (g.N.Opens.has_failed c.args.net.now) g.N.Wire.Wire.told in
+    let agents = agents_by (g.N.Opens.has_opened c.args.net.now) (g.N.Opens.has_failed c.args.net.now) g.N.Wire.Wire.log in
     let now = g.H.Host.log c.args.host.now in
     subst (λ (r : Result Survey Failure). GoesOnBy (λ log. IsAsking agents c.args.asked log r) now now) (sym (failure_is c.from_residual.result c.in_err-survey.field-0.0 c.from_residual.ensures.1))
     (record { more = []; holds = (c.in_err-survey.ensures, refl); on = stays now })

@@ -15,8 +15,8 @@ returns g c =
     let s = stand c.args.place.now c.args.answers.now in
     let id = c.args.asker.now.last_id in
     let last = c.ask.new.asker.last_id in
-    let before = g.W.Wire.told c.args.asker.now.wire in
-    let after = g.W.Wire.told c.ask.new.asker.wire in
+    let before = g.W.Wire.log c.args.asker.now.wire in
+    let after = g.W.Wire.log c.ask.new.asker.wire in
     let bindings = c.in_ok-bindings.bindings in
     let result = turned (stand c.take.new.place c.take.new.answers) c.take.result in
     asks_then community (IsQuestion agent bulk (c.args.place.now.last ∷ [])) (λ (given : Vec Binding). Quietly (IsReplyPut agent s given.items)) bindings result id last last before after after

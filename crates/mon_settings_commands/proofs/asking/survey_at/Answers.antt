@@ -11,6 +11,6 @@ returns g c =
     let after = c.survey_by.new.asker.wire in
     let last = c.survey_by.new.asker.last_id in
     let r = c.survey_by.result in
-    surveyed (g.N.Opens.has_opened c.args.net.now) (g.N.Opens.has_failed c.args.net.now) g.N.Wire.Wire.told asked r before after last c.in_ok-asker.ensures.opened
-    (subst (λ (id : ℕ). AsksBy (λ log. IsSurvey asked.agent.word.now asked.kinds log r) asked.community.now id last (g.N.Wire.Wire.told before) (g.N.Wire.Wire.told after))
+    surveyed (g.N.Opens.has_opened c.args.net.now) (g.N.Opens.has_failed c.args.net.now) g.N.Wire.Wire.log asked r before after last c.in_ok-asker.ensures.opened
+    (subst (λ (id : ℕ). AsksBy (λ log. IsSurvey asked.agent.word.now asked.kinds log r) asked.community.now id last (g.N.Wire.Wire.log before) (g.N.Wire.Wire.log after))
     c.in_ok-asker.ensures.first c.survey_by.ensures)

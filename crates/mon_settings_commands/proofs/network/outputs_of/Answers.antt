@@ -12,14 +12,14 @@ use Rattle.mon_settings_commands.proofs.network.outputs_of.Goals as goal
 
 pub returns-in_err-groups : goal.returns-in_err-groups
 returns-in_err-groups g c =
-    let agents = agents_by (g.N.Opens.has_opened c.args.net.now) (g.N.Opens.has_failed c.args.net.now) g.N.Wire.Wire.told in
+    let agents = agents_by (g.N.Opens.has_opened c.args.net.now) (g.N.Opens.has_failed c.args.net.now) g.N.Wire.Wire.log in
     let s = source_in c.args.input.now in
     subst (λ (r : Result (Vec Output) Failure). AreFilesOf agents s c.args.files.folder.now c.args.files.network r) (sym (failure_is c.from_residual.result c.in_err-groups.field-0.0 c.from_residual.ensures.1))
     (no_groups agents s c.args.files.folder.now c.args.files.network c.in_err-groups.field-0.0 c.in_err-groups.ensures.refused)
 
 pub returns-in_err-outputs : goal.returns-in_err-outputs
 returns-in_err-outputs g c =
-    let agents = agents_by (g.N.Opens.has_opened c.args.net.now) (g.N.Opens.has_failed c.args.net.now) g.N.Wire.Wire.told in
+    let agents = agents_by (g.N.Opens.has_opened c.args.net.now) (g.N.Opens.has_failed c.args.net.now) g.N.Wire.Wire.log in
     let s = source_in c.args.input.now in
     subst (λ (r : Result (Vec Output) Failure). AreFilesOf agents s c.args.files.folder.now c.args.files.network r) (sym (failure_is c.from_residual-in_err-outputs.result c.in_err-outputs.field-0.0 c.from_residual-in_err-outputs.ensures.1))
     (no_seats agents s c.args.files.folder.now c.args.files.network c.in_err-outputs.field-0.0 c.in_err-outputs.ensures.refused)

@@ -15,11 +15,11 @@ use Rattle.mon_settings_commands.proofs.network.print_network.Goals as goal
 
 pub returns-in_err-machines : goal.returns-in_err-machines
 returns-in_err-machines g c =
-    let agents = agents_by (g.N.Opens.has_opened c.args.net.now) (g.N.Opens.has_failed c.args.net.now) g.N.Wire.Wire.told in
+    let agents = agents_by (g.N.Opens.has_opened c.args.net.now) (g.N.Opens.has_failed c.args.net.now) g.N.Wire.Wire.log in
     let words = c.args.layout.words.now in
     let asked = c.args.asked in
-    let folder = c.args.layout.site.folder.now in
-    let path = c.args.layout.site.machines.now in
+    let folder = c.args.layout.paths.folder.now in
+    let path = c.args.layout.paths.machines.now in
     let before = g.H.Host.log c.args.host.now in
     let named = g.H.Host.log c.names_of.new.host in
     let read = g.H.Host.log c.machines_at.new.host in
@@ -30,11 +30,11 @@ returns-in_err-machines g c =
 
 pub returns-in_err-survey : goal.returns-in_err-survey
 returns-in_err-survey g c =
-    let agents = agents_by (g.N.Opens.has_opened c.args.net.now) (g.N.Opens.has_failed c.args.net.now) g.N.Wire.Wire.told in
+    let agents = agents_by (g.N.Opens.has_opened c.args.net.now) (g.N.Opens.has_failed c.args.net.now) g.N.Wire.Wire.log in
     let words = c.args.layout.words.now in
     let asked = c.args.asked in
-    let folder = c.args.layout.site.folder.now in
-    let path = c.args.layout.site.machines.now in
+    let folder = c.args.layout.paths.folder.now in
+    let path = c.args.layout.paths.machines.now in
     let before = g.H.Host.log c.args.host.now in
     let named = g.H.Host.log c.names_of.new.host in
     let read = g.H.Host.log c.machines_at.new.host in
@@ -48,11 +48,11 @@ returns-in_err-survey g c =
 
 pub returns : goal.returns
 returns g c =
-    let agents = agents_by (g.N.Opens.has_opened c.args.net.now) (g.N.Opens.has_failed c.args.net.now) g.N.Wire.Wire.told in
+    let agents = agents_by (g.N.Opens.has_opened c.args.net.now) (g.N.Opens.has_failed c.args.net.now) g.N.Wire.Wire.log in
     let words = c.args.layout.words.now in
     let asked = c.args.asked in
-    let folder = c.args.layout.site.folder.now in
-    let path = c.args.layout.site.machines.now in
+    let folder = c.args.layout.paths.folder.now in
+    let path = c.args.layout.paths.machines.now in
     let before = g.H.Host.log c.args.host.now in
     let named = g.H.Host.log c.names_of.new.host in
     let read = g.H.Host.log c.machines_at.new.host in

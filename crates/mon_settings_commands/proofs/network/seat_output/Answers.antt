@@ -19,7 +19,7 @@ fit-requires g c = subst IsSeat (sym c.seat-seat.ensures) c.requires.seated
 
 pub returns-in-Ok-clause-file : goal.returns-in-Ok-clause-file
 returns-in-Ok-clause-file g c =
-    let agents = agents_by (g.N.Opens.has_opened c.args.net.now) (g.N.Opens.has_failed c.args.net.now) g.N.Wire.Wire.told in
+    let agents = agents_by (g.N.Opens.has_opened c.args.net.now) (g.N.Opens.has_failed c.args.net.now) g.N.Wire.Wire.log in
     let s = source_in c.args.input.now in
     let d = c.in-Ok.drafted in
     record {
@@ -32,6 +32,6 @@ returns-in-Ok-clause-file g c =
 
 pub returns-in-Err-clause-refused : goal.returns-in-Err-clause-refused
 returns-in-Err-clause-refused g c =
-    let agents = agents_by (g.N.Opens.has_opened c.args.net.now) (g.N.Opens.has_failed c.args.net.now) g.N.Wire.Wire.told in
+    let agents = agents_by (g.N.Opens.has_opened c.args.net.now) (g.N.Opens.has_failed c.args.net.now) g.N.Wire.Wire.log in
     let s = source_in c.args.input.now in
     inr (subst (λ (q : Seat). AreFitting agents s.asked (IsSeatSettings s q) (Err c.in-Err.failure)) c.seat-seat.ensures c.in-Err.ensures)

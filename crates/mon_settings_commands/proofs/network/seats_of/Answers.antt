@@ -15,7 +15,7 @@ use Rattle.mon_settings_commands.proofs.network.seats_of.Goals as goal
 
 pub loop-place-init : goal.loop-place-init
 loop-place-init g c =
-    let agents = agents_by (g.N.Opens.has_opened c.args.net.now) (g.N.Opens.has_failed c.args.net.now) g.N.Wire.Wire.told in
+    let agents = agents_by (g.N.Opens.has_opened c.args.net.now) (g.N.Opens.has_failed c.args.net.now) g.N.Wire.Wire.log in
     (ap length c.new-seats.ensures.items, subst (λ (xs : List Output). AreSeatFiles agents (source_in c.args.input.now) c.args.files.folder.now c.args.files.network 0 xs) (sym c.new-seats.ensures.items) tt)
 
 pub seat_output-requires-clause-seated : goal.seat_output-requires-clause-seated
@@ -26,13 +26,13 @@ seat_output-requires-clause-small g c = small_place c.args.files.network c.args.
 
 pub returns-in_err-seat-clause-refused : goal.returns-in_err-seat-clause-refused
 returns-in_err-seat-clause-refused g c =
-    let agents = agents_by (g.N.Opens.has_opened c.args.net.now) (g.N.Opens.has_failed c.args.net.now) g.N.Wire.Wire.told in
+    let agents = agents_by (g.N.Opens.has_opened c.args.net.now) (g.N.Opens.has_failed c.args.net.now) g.N.Wire.Wire.log in
     still (λ (f : Failure). IsMemory f ⊎ ((place : ℕ) × AreFitting agents c.args.input.now.asked (IsSeatSettings (source_in c.args.input.now) (seat_at c.args.files.network place)) (Err f))) c.in_err-seat.field-0.0 c.from_residual.result
     c.from_residual.ensures.1 (at_some_place (λ (k : ℕ). AreFitting agents c.args.input.now.asked (IsSeatSettings (source_in c.args.input.now) (seat_at c.args.files.network k)) (Err c.in_err-seat.field-0.0)) c.loop-place.place c.in_err-seat.ensures.refused)
 
 pub loop-place-preserved : goal.loop-place-preserved
 loop-place-preserved g c =
-    let agents = agents_by (g.N.Opens.has_opened c.args.net.now) (g.N.Opens.has_failed c.args.net.now) g.N.Wire.Wire.told in
+    let agents = agents_by (g.N.Opens.has_opened c.args.net.now) (g.N.Opens.has_failed c.args.net.now) g.N.Wire.Wire.log in
     one_file_more agents (source_in c.args.input.now) c.args.files.folder.now c.args.files.network c.loop-place.seats.items c.push.new.self.items c.loop-place.place c.in_ok-seat.seat
     c.loop-place.invariant.0 c.loop-place.invariant.1 c.in_ok-push.ensures.items c.in_ok-seat.ensures.file
 

@@ -7,4 +7,4 @@ use Rattle.mon_settings_commands.proofs.network.seats_of.Given as goal
 -- these are the files of the stations so far
 abbrev pub invariant-loop-place : goal.invariant-loop-place
 invariant-loop-place g l = (length l.seats.items ≡ l.place)
-    × AreSeatFiles (agents_by (g.N.Opens.has_opened l.fn.net) (g.N.Opens.has_failed l.fn.net) g.N.Wire.Wire.told) (source_in l.fn.input) l.fn.files.folder.now l.fn.files.network 0 l.seats.items
+    × AreSeatFiles (agents_by (g.N.Opens.has_opened l.fn.net) (g.N.Opens.has_failed l.fn.net) g.N.Wire.Wire.log) (source_in l.fn.input) l.fn.files.folder.now l.fn.files.network 0 l.seats.items

@@ -13,14 +13,14 @@ use Rattle.mon_settings_commands.proofs.network.write_network.Goals as goal
 
 pub returns-in_err-outputs : goal.returns-in_err-outputs
 returns-in_err-outputs g c =
-    let agents = agents_by (g.N.Opens.has_opened c.args.net.now) (g.N.Opens.has_failed c.args.net.now) g.N.Wire.Wire.told in
+    let agents = agents_by (g.N.Opens.has_opened c.args.net.now) (g.N.Opens.has_failed c.args.net.now) g.N.Wire.Wire.log in
     let s = source_in c.args.input.now in
     fails_quietly (AreFilesOf agents s c.args.files.folder.now c.args.files.network) (AfterFiles s) c.in_err-outputs.field-0.0 c.from_residual.result (g.H.Host.log c.args.host.now) c.from_residual.ensures.1
     c.in_err-outputs.ensures
 
 pub returns-in_err-require_free : goal.returns-in_err-require_free
 returns-in_err-require_free g c =
-    let agents = agents_by (g.N.Opens.has_opened c.args.net.now) (g.N.Opens.has_failed c.args.net.now) g.N.Wire.Wire.told in
+    let agents = agents_by (g.N.Opens.has_opened c.args.net.now) (g.N.Opens.has_failed c.args.net.now) g.N.Wire.Wire.log in
     let s = source_in c.args.input.now in
     let now = g.H.Host.log c.args.host.now in
     let looked = g.H.Host.log c.require_free.new.host in
@@ -33,7 +33,7 @@ returns-in_err-require_free g c =
 
 pub returns-in_err-write_labels : goal.returns-in_err-write_labels
 returns-in_err-write_labels g c =
-    let agents = agents_by (g.N.Opens.has_opened c.args.net.now) (g.N.Opens.has_failed c.args.net.now) g.N.Wire.Wire.told in
+    let agents = agents_by (g.N.Opens.has_opened c.args.net.now) (g.N.Opens.has_failed c.args.net.now) g.N.Wire.Wire.log in
     let s = source_in c.args.input.now in
     let now = g.H.Host.log c.args.host.now in
     let looked = g.H.Host.log c.require_free.new.host in
@@ -47,7 +47,7 @@ returns-in_err-write_labels g c =
 
 pub returns : goal.returns
 returns g c =
-    let agents = agents_by (g.N.Opens.has_opened c.args.net.now) (g.N.Opens.has_failed c.args.net.now) g.N.Wire.Wire.told in
+    let agents = agents_by (g.N.Opens.has_opened c.args.net.now) (g.N.Opens.has_failed c.args.net.now) g.N.Wire.Wire.log in
     let s = source_in c.args.input.now in
     let now = g.H.Host.log c.args.host.now in
     let looked = g.H.Host.log c.require_free.new.host in

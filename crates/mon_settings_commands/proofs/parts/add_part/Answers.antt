@@ -10,7 +10,7 @@ use Rattle.mon_settings_commands.proofs.Groups.{still}
 use Rattle.mon_settings_commands.proofs.parts.add_part.Goals as goal
 
 pub returns-in_err-part-clause-refused : goal.returns-in_err-part-clause-refused
-returns-in_err-part-clause-refused g c = still (λ (f : Failure). IsMemory f ⊎ AreFitting (agents_by (g.N.Opens.has_opened c.args.net.now) (g.N.Opens.has_failed c.args.net.now) g.N.Wire.Wire.told) c.args.input.now.asked (IsSettingsOf (source_in c.args.input.now) (Some c.args.group)) (Err f)) c.in_err-part.field-0.0 c.from_residual.result
+returns-in_err-part-clause-refused g c = still (λ (f : Failure). IsMemory f ⊎ AreFitting (agents_by (g.N.Opens.has_opened c.args.net.now) (g.N.Opens.has_failed c.args.net.now) g.N.Wire.Wire.log) c.args.input.now.asked (IsSettingsOf (source_in c.args.input.now) (Some c.args.group)) (Err f)) c.in_err-part.field-0.0 c.from_residual.result
     c.from_residual.ensures.1 (inr c.in_err-part.ensures)
 
 pub returns-clause-added : goal.returns-clause-added

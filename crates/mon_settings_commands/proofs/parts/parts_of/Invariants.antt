@@ -6,4 +6,4 @@ use Rattle.mon_settings_commands.proofs.parts.parts_of.Given as goal
 
 -- these are the settings of the groups so far
 abbrev pub invariant-loop-group : goal.invariant-loop-group
-invariant-loop-group g l = (length l.parts.items ≡ l.group) × AreGroupsFrom (agents_by (g.N.Opens.has_opened l.fn.net) (g.N.Opens.has_failed l.fn.net) g.N.Wire.Wire.told) (source_in l.fn.input) 0 l.parts.items
+invariant-loop-group g l = (length l.parts.items ≡ l.group) × AreGroupsFrom (agents_by (g.N.Opens.has_opened l.fn.net) (g.N.Opens.has_failed l.fn.net) g.N.Wire.Wire.log) (source_in l.fn.input) 0 l.parts.items

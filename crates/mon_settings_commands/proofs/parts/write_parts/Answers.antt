@@ -13,14 +13,14 @@ use Rattle.mon_settings_commands.proofs.parts.write_parts.Goals as goal
 
 pub returns-in_err-parts : goal.returns-in_err-parts
 returns-in_err-parts g c =
-    let agents = agents_by (g.N.Opens.has_opened c.args.net.now) (g.N.Opens.has_failed c.args.net.now) g.N.Wire.Wire.told in
+    let agents = agents_by (g.N.Opens.has_opened c.args.net.now) (g.N.Opens.has_failed c.args.net.now) g.N.Wire.Wire.log in
     let s = source_in c.args.input.now in
     fails_quietly (AreParted agents s) (AfterParts s c.args.folder.now) c.in_err-parts.field-0.0 c.from_residual.result (g.H.Host.log c.args.host.now) c.from_residual.ensures.1
     c.in_err-parts.ensures
 
 pub returns-in_err-require_absent : goal.returns-in_err-require_absent
 returns-in_err-require_absent g c =
-    let agents = agents_by (g.N.Opens.has_opened c.args.net.now) (g.N.Opens.has_failed c.args.net.now) g.N.Wire.Wire.told in
+    let agents = agents_by (g.N.Opens.has_opened c.args.net.now) (g.N.Opens.has_failed c.args.net.now) g.N.Wire.Wire.log in
     let s = source_in c.args.input.now in
     let folder = c.args.folder.now in
     let now = g.H.Host.log c.args.host.now in
@@ -34,7 +34,7 @@ returns-in_err-require_absent g c =
 
 pub returns-in_err-write_labels : goal.returns-in_err-write_labels
 returns-in_err-write_labels g c =
-    let agents = agents_by (g.N.Opens.has_opened c.args.net.now) (g.N.Opens.has_failed c.args.net.now) g.N.Wire.Wire.told in
+    let agents = agents_by (g.N.Opens.has_opened c.args.net.now) (g.N.Opens.has_failed c.args.net.now) g.N.Wire.Wire.log in
     let s = source_in c.args.input.now in
     let folder = c.args.folder.now in
     let now = g.H.Host.log c.args.host.now in
@@ -50,7 +50,7 @@ returns-in_err-write_labels g c =
 
 pub returns : goal.returns
 returns g c =
-    let agents = agents_by (g.N.Opens.has_opened c.args.net.now) (g.N.Opens.has_failed c.args.net.now) g.N.Wire.Wire.told in
+    let agents = agents_by (g.N.Opens.has_opened c.args.net.now) (g.N.Opens.has_failed c.args.net.now) g.N.Wire.Wire.log in
     let s = source_in c.args.input.now in
     let folder = c.args.folder.now in
     let now = g.H.Host.log c.args.host.now in

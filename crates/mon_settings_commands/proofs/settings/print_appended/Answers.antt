@@ -13,13 +13,13 @@ use Rattle.mon_settings_commands.proofs.settings.print_appended.Goals as goal
 
 pub returns-in_err-require_alone : goal.returns-in_err-require_alone
 returns-in_err-require_alone g c =
-    let agents = agents_by (g.N.Opens.has_opened c.args.net.now) (g.N.Opens.has_failed c.args.net.now) g.N.Wire.Wire.told in
+    let agents = agents_by (g.N.Opens.has_opened c.args.net.now) (g.N.Opens.has_failed c.args.net.now) g.N.Wire.Wire.log in
     fails_quietly (IsAlone c.args.addition.words.now) (AfterAlone agents c.args.addition.words.now c.args.asked c.args.addition.path.now) c.in_err-require_alone.field-0.0 c.from_residual.result
     (g.H.Host.log c.args.host.now) c.from_residual.ensures.1 c.in_err-require_alone.ensures
 
 pub returns-in_err-old : goal.returns-in_err-old
 returns-in_err-old g c =
-    let agents = agents_by (g.N.Opens.has_opened c.args.net.now) (g.N.Opens.has_failed c.args.net.now) g.N.Wire.Wire.told in
+    let agents = agents_by (g.N.Opens.has_opened c.args.net.now) (g.N.Opens.has_failed c.args.net.now) g.N.Wire.Wire.log in
     let words = c.args.addition.words.now in
     let asked = c.args.asked in
     let path = c.args.addition.path.now in
@@ -34,7 +34,7 @@ returns-in_err-old g c =
 
 pub returns-in_err-survey : goal.returns-in_err-survey
 returns-in_err-survey g c =
-    let agents = agents_by (g.N.Opens.has_opened c.args.net.now) (g.N.Opens.has_failed c.args.net.now) g.N.Wire.Wire.told in
+    let agents = agents_by (g.N.Opens.has_opened c.args.net.now) (g.N.Opens.has_failed c.args.net.now) g.N.Wire.Wire.log in
     let words = c.args.addition.words.now in
     let asked = c.args.asked in
     let path = c.args.addition.path.now in
@@ -52,7 +52,7 @@ returns-in_err-survey g c =
 
 pub returns-in_err-drafted : goal.returns-in_err-drafted
 returns-in_err-drafted g c =
-    let agents = agents_by (g.N.Opens.has_opened c.args.net.now) (g.N.Opens.has_failed c.args.net.now) g.N.Wire.Wire.told in
+    let agents = agents_by (g.N.Opens.has_opened c.args.net.now) (g.N.Opens.has_failed c.args.net.now) g.N.Wire.Wire.log in
     let words = c.args.addition.words.now in
     let asked = c.args.asked in
     let path = c.args.addition.path.now in
@@ -73,7 +73,7 @@ returns-in_err-drafted g c =
 
 pub returns : goal.returns
 returns g c =
-    let agents = agents_by (g.N.Opens.has_opened c.args.net.now) (g.N.Opens.has_failed c.args.net.now) g.N.Wire.Wire.told in
+    let agents = agents_by (g.N.Opens.has_opened c.args.net.now) (g.N.Opens.has_failed c.args.net.now) g.N.Wire.Wire.log in
     let words = c.args.addition.words.now in
     let asked = c.args.asked in
     let path = c.args.addition.path.now in

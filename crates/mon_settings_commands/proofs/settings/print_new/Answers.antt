@@ -13,7 +13,7 @@ use Rattle.mon_settings_commands.proofs.settings.print_new.Goals as goal
 
 pub returns : goal.returns
 returns g c =
-    let agents = agents_by (g.N.Opens.has_opened c.args.net.now) (g.N.Opens.has_failed c.args.net.now) g.N.Wire.Wire.told in
+    let agents = agents_by (g.N.Opens.has_opened c.args.net.now) (g.N.Opens.has_failed c.args.net.now) g.N.Wire.Wire.log in
     let words = c.args.words.now in
     let asked = c.args.asked in
     let before = g.H.Host.log c.args.host.now in
@@ -29,7 +29,7 @@ returns g c =
 
 pub returns-in_err-survey : goal.returns-in_err-survey
 returns-in_err-survey g c =
-    let agents = agents_by (g.N.Opens.has_opened c.args.net.now) (g.N.Opens.has_failed c.args.net.now) g.N.Wire.Wire.told in
+    let agents = agents_by (g.N.Opens.has_opened c.args.net.now) (g.N.Opens.has_failed c.args.net.now) g.N.Wire.Wire.log in
     let words = c.args.words.now in
     let asked = c.args.asked in
     let before = g.H.Host.log c.args.host.now in

@@ -10,7 +10,7 @@ use Rattle.mon_settings_commands.proofs.settings.print_settings.Goals as goal
 
 pub returns-in-Some : goal.returns-in-Some
 returns-in-Some g c =
-    let agents = agents_by (g.N.Opens.has_opened c.args.net.now) (g.N.Opens.has_failed c.args.net.now) g.N.Wire.Wire.told in
+    let agents = agents_by (g.N.Opens.has_opened c.args.net.now) (g.N.Opens.has_failed c.args.net.now) g.N.Wire.Wire.log in
     let words = c.args.words in
     let asked = c.in_ok-asked.asked in
     let now = g.H.Host.log c.args.host.now in
@@ -20,7 +20,7 @@ returns-in-Some g c =
 
 pub returns-in-None : goal.returns-in-None
 returns-in-None g c =
-    let agents = agents_by (g.N.Opens.has_opened c.args.net.now) (g.N.Opens.has_failed c.args.net.now) g.N.Wire.Wire.told in
+    let agents = agents_by (g.N.Opens.has_opened c.args.net.now) (g.N.Opens.has_failed c.args.net.now) g.N.Wire.Wire.log in
     let words = c.args.words in
     let asked = c.in_ok-asked.asked in
     let now = g.H.Host.log c.args.host.now in
@@ -30,6 +30,6 @@ returns-in-None g c =
 
 pub returns-in_err-asked : goal.returns-in_err-asked
 returns-in_err-asked g c =
-    let agents = agents_by (g.N.Opens.has_opened c.args.net.now) (g.N.Opens.has_failed c.args.net.now) g.N.Wire.Wire.told in
+    let agents = agents_by (g.N.Opens.has_opened c.args.net.now) (g.N.Opens.has_failed c.args.net.now) g.N.Wire.Wire.log in
     fails_quietly (IsAsked c.args.words) (λ (asked : AgentOptions). AreSettingsBy agents c.args.words asked (option_copied c.args.words.update)) c.in_err-asked.field-0.0 c.from_residual.result
     (g.H.Host.log c.args.host.now) c.from_residual.ensures.1 c.in_err-asked.ensures

@@ -12,14 +12,14 @@ use Rattle.mon_settings_commands.proofs.settings.print_whole.Goals as goal
 
 pub returns-in_err-drafted : goal.returns-in_err-drafted
 returns-in_err-drafted g c =
-    let agents = agents_by (g.N.Opens.has_opened c.args.net.now) (g.N.Opens.has_failed c.args.net.now) g.N.Wire.Wire.told in
+    let agents = agents_by (g.N.Opens.has_opened c.args.net.now) (g.N.Opens.has_failed c.args.net.now) g.N.Wire.Wire.log in
     let s = source_in c.args.input.now in
     fails_quietly (AreFitting agents s.asked (IsSettingsOf s None)) (λ (drafted : Drafted). Then (AreLabels s []) (λ done. IsDraftPrinted drafted)) c.in_err-drafted.field-0.0 c.from_residual.result
     (g.H.Host.log c.args.host.now) c.from_residual.ensures.1 c.in_err-drafted.ensures
 
 pub returns-in_err-write_labels : goal.returns-in_err-write_labels
 returns-in_err-write_labels g c =
-    let agents = agents_by (g.N.Opens.has_opened c.args.net.now) (g.N.Opens.has_failed c.args.net.now) g.N.Wire.Wire.told in
+    let agents = agents_by (g.N.Opens.has_opened c.args.net.now) (g.N.Opens.has_failed c.args.net.now) g.N.Wire.Wire.log in
     let s = source_in c.args.input.now in
     let now = g.H.Host.log c.args.host.now in
     let labelled = g.H.Host.log c.write_labels.new.host in
@@ -30,7 +30,7 @@ returns-in_err-write_labels g c =
 
 pub returns : goal.returns
 returns g c =
-    let agents = agents_by (g.N.Opens.has_opened c.args.net.now) (g.N.Opens.has_failed c.args.net.now) g.N.Wire.Wire.told in
+    let agents = agents_by (g.N.Opens.has_opened c.args.net.now) (g.N.Opens.has_failed c.args.net.now) g.N.Wire.Wire.log in
     let s = source_in c.args.input.now in
     let now = g.H.Host.log c.args.host.now in
     let labelled = g.H.Host.log c.write_labels.new.host in

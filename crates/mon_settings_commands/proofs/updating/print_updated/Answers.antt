@@ -13,13 +13,13 @@ use Rattle.mon_settings_commands.proofs.updating.print_updated.Goals as goal
 
 pub returns-in_err-require_apart : goal.returns-in_err-require_apart
 returns-in_err-require_apart g c =
-    let agents = agents_by (g.N.Opens.has_opened c.args.net.now) (g.N.Opens.has_failed c.args.net.now) g.N.Wire.Wire.told in
+    let agents = agents_by (g.N.Opens.has_opened c.args.net.now) (g.N.Opens.has_failed c.args.net.now) g.N.Wire.Wire.log in
     fails_quietly (IsApart c.args.addition.words.now) (AfterApart agents c.args.addition.words.now c.args.asked c.args.addition.path.now) c.in_err-require_apart.field-0.0 c.from_residual.result
     (g.H.Host.log c.args.host.now) c.from_residual.ensures.1 c.in_err-require_apart.ensures
 
 pub returns-in_err-labels : goal.returns-in_err-labels
 returns-in_err-labels g c =
-    let agents = agents_by (g.N.Opens.has_opened c.args.net.now) (g.N.Opens.has_failed c.args.net.now) g.N.Wire.Wire.told in
+    let agents = agents_by (g.N.Opens.has_opened c.args.net.now) (g.N.Opens.has_failed c.args.net.now) g.N.Wire.Wire.log in
     let words = c.args.addition.words.now in
     let asked = c.args.asked in
     let path = c.args.addition.path.now in
@@ -34,7 +34,7 @@ returns-in_err-labels g c =
 
 pub returns-in_err-survey : goal.returns-in_err-survey
 returns-in_err-survey g c =
-    let agents = agents_by (g.N.Opens.has_opened c.args.net.now) (g.N.Opens.has_failed c.args.net.now) g.N.Wire.Wire.told in
+    let agents = agents_by (g.N.Opens.has_opened c.args.net.now) (g.N.Opens.has_failed c.args.net.now) g.N.Wire.Wire.log in
     let words = c.args.addition.words.now in
     let asked = c.args.asked in
     let path = c.args.addition.path.now in
@@ -52,7 +52,7 @@ returns-in_err-survey g c =
 
 pub returns : goal.returns
 returns g c =
-    let agents = agents_by (g.N.Opens.has_opened c.args.net.now) (g.N.Opens.has_failed c.args.net.now) g.N.Wire.Wire.told in
+    let agents = agents_by (g.N.Opens.has_opened c.args.net.now) (g.N.Opens.has_failed c.args.net.now) g.N.Wire.Wire.log in
     let words = c.args.addition.words.now in
     let asked = c.args.asked in
     let path = c.args.addition.path.now in

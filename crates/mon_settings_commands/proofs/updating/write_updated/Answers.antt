@@ -12,7 +12,7 @@ use Rattle.mon_settings_commands.proofs.updating.write_updated.Goals as goal
 
 pub returns-in_err-known : goal.returns-in_err-known
 returns-in_err-known g c =
-    let agents = agents_by (g.N.Opens.has_opened c.args.net.now) (g.N.Opens.has_failed c.args.net.now) g.N.Wire.Wire.told in
+    let agents = agents_by (g.N.Opens.has_opened c.args.net.now) (g.N.Opens.has_failed c.args.net.now) g.N.Wire.Wire.log in
     let s = source_in c.args.input.now in
     let existing = c.args.old.existing.now in
     let old = c.args.old.labels.now in
@@ -21,7 +21,7 @@ returns-in_err-known g c =
 
 pub returns-in_err-lines : goal.returns-in_err-lines
 returns-in_err-lines g c =
-    let agents = agents_by (g.N.Opens.has_opened c.args.net.now) (g.N.Opens.has_failed c.args.net.now) g.N.Wire.Wire.told in
+    let agents = agents_by (g.N.Opens.has_opened c.args.net.now) (g.N.Opens.has_failed c.args.net.now) g.N.Wire.Wire.log in
     let s = source_in c.args.input.now in
     let existing = c.args.old.existing.now in
     let old = c.args.old.labels.now in
@@ -33,7 +33,7 @@ returns-in_err-lines g c =
 
 pub returns-in_err-drafted : goal.returns-in_err-drafted
 returns-in_err-drafted g c =
-    let agents = agents_by (g.N.Opens.has_opened c.args.net.now) (g.N.Opens.has_failed c.args.net.now) g.N.Wire.Wire.told in
+    let agents = agents_by (g.N.Opens.has_opened c.args.net.now) (g.N.Opens.has_failed c.args.net.now) g.N.Wire.Wire.log in
     let s = source_in c.args.input.now in
     let existing = c.args.old.existing.now in
     let old = c.args.old.labels.now in
@@ -48,7 +48,7 @@ returns-in_err-drafted g c =
 
 pub returns : goal.returns
 returns g c =
-    let agents = agents_by (g.N.Opens.has_opened c.args.net.now) (g.N.Opens.has_failed c.args.net.now) g.N.Wire.Wire.told in
+    let agents = agents_by (g.N.Opens.has_opened c.args.net.now) (g.N.Opens.has_failed c.args.net.now) g.N.Wire.Wire.log in
     let s = source_in c.args.input.now in
     let existing = c.args.old.existing.now in
     let old = c.args.old.labels.now in

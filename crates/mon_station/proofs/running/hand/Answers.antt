@@ -8,12 +8,12 @@ use Rattle.mon_station.proofs.running.hand.Goals as goal
 pub loop-out-preserved : goal.loop-out-preserved
 loop-out-preserved g c =
     let so_far = c.loop-out.invariant in
-    let start = g.O.Outbox.handed c.args.outbox.now in
+    let start = g.O.Outbox.log c.args.outbox.now in
     let sends : List Outgoing = c.args.sends.now in
     let k = c.loop-out.out-index in
     let out : Outgoing = c.out-item.result in
     record {
-      handed = c.send.ensures.handed
+      handed = c.send.ensures.log
           ∙ ap (λ (h : Option (List Outgoing)). extended h (out ∷ [])) so_far.handed
           ∙ extended_twice start (take k sends) (out ∷ [])
           ∙ ap (extended start) (ap (λ (o : Outgoing). take k sends ++ o ∷ []) c.out-item.is ∙ sym (take_more sends k out c.loop-out-test.true));

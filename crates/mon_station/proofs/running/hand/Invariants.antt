@@ -6,6 +6,6 @@ use Rattle.mon_station.proofs.running.hand.Given as goal
 -- the datagrams so far were handed
 abbrev pub invariant-loop-out : goal.invariant-loop-out
 invariant-loop-out g l = record {
-  handed : g.O.Outbox.handed l.outbox ≡ extended (g.O.Outbox.handed l.fn.outbox) (take l.out-index l.sends);
+  handed : g.O.Outbox.log l.outbox ≡ extended (g.O.Outbox.log l.fn.outbox) (take l.out-index l.sends);
   failed : (first : ℕ) → HasFailed first (g.O.Outbox.failures l.fn.outbox) l.fn.send_faults → HasFailed first (g.O.Outbox.failures l.outbox) l.send_faults;
 }

@@ -9,8 +9,8 @@ use Rattle.snmpmon.proofs.commands.start_with.Goals as goal
 
 pub returns-in-Ok : goal.returns-in-Ok
 returns-in-Ok g c =
-    let agents = agents_by (g.N.Opens.has_opened c.args.means.now.net) (g.N.Opens.has_failed c.args.means.now.net) g.N.Wire.Wire.told in
-    let ports = ports_by (g.N.Listens.has_opened c.args.means.now.net) (g.N.Listens.has_failed c.args.means.now.net) g.N.Port.Port.told g.N.Port.Port.failures in
+    let agents = agents_by (g.N.Opens.has_opened c.args.means.now.net) (g.N.Opens.has_failed c.args.means.now.net) g.N.Wire.Wire.log in
+    let ports = ports_by (g.N.Listens.has_opened c.args.means.now.net) (g.N.Listens.has_failed c.args.means.now.net) g.N.Port.Port.log g.N.Port.Port.failures in
     let saved = g.K.Saves.asked_save c.args.means.now.disks in
     let stations = stations_by (g.C.Connects.has_connected c.args.means.now.streams) (g.C.Connects.has_failed c.args.means.now.streams) g.C.Stream.Stream.log in
     let words = map string_bytes c.args.words.now in
@@ -22,8 +22,8 @@ returns-in-Ok g c =
 
 pub returns-in-Err : goal.returns-in-Err
 returns-in-Err g c =
-    let agents = agents_by (g.N.Opens.has_opened c.args.means.now.net) (g.N.Opens.has_failed c.args.means.now.net) g.N.Wire.Wire.told in
-    let ports = ports_by (g.N.Listens.has_opened c.args.means.now.net) (g.N.Listens.has_failed c.args.means.now.net) g.N.Port.Port.told g.N.Port.Port.failures in
+    let agents = agents_by (g.N.Opens.has_opened c.args.means.now.net) (g.N.Opens.has_failed c.args.means.now.net) g.N.Wire.Wire.log in
+    let ports = ports_by (g.N.Listens.has_opened c.args.means.now.net) (g.N.Listens.has_failed c.args.means.now.net) g.N.Port.Port.log g.N.Port.Port.failures in
     let saved = g.K.Saves.asked_save c.args.means.now.disks in
     let stations = stations_by (g.C.Connects.has_connected c.args.means.now.streams) (g.C.Connects.has_failed c.args.means.now.streams) g.C.Stream.Stream.log in
     let words = map string_bytes c.args.words.now in

@@ -27,10 +27,10 @@ returns g c =
     let put : ArePut (IsAnswerOf known (IsInView policy.families view) f.kind) f.list.now [] list =
     subst (λ old. ArePut (IsAnswerOf known (IsInView policy.families view) f.kind) f.list.now old list) c.clear.ensures.items
     (subst (λ s. ArePut (IsAnswerOf (known_in D.held s) (IsSeenIn s) f.kind) f.list.now c.clear.new.self.items list) c.in_ok-search.ensures.2 c.in_ok-put_answers.ensures) in
-    let limit_is : to_z w32 (of_z w32 c.settings.result.now.limit) ≡ mib.settings.limit = search rules in
+    let limit_is : to_z w32 (of_z w32 c.settings.result.now.max_message_size) ≡ mib.settings.max_message_size = search rules in
     let id_is : to_z w32 (of_z w32 f.request_id) ≡ f.request_id = search rules in
     let made : ℤ → Message = λ id. record { community = f.community.now; body = response_body id (pos 0) (pos 0) put.answers } in
-    both_mapped c.take_response.result (λ (octets : Vec _). octets.items ≡ written_message (made f.request_id)) (λ (octets : Vec _). length octets.items ≤ count_of mib.settings.limit) _
+    both_mapped c.take_response.result (λ (octets : Vec _). octets.items ≡ written_message (made f.request_id)) (λ (octets : Vec _). length octets.items ≤ count_of mib.settings.max_message_size) _
     (subst (λ id. IfSome c.take_response.result (λ octets. octets.items ≡ written_message (made id))) id_is (c.take_response.ensures.written put.answers put.put))
     (subst (λ (z : ℤ). IfSome c.take_response.result (λ octets. length octets.items ≤ count_of z)) limit_is c.take_response.ensures.within)
     (λ octets written within. (

@@ -34,10 +34,10 @@ returns-in-Err-clause-ready g c =
     c.access-access.ensures ∙ (λ i. access_of policy (c.as_slice.ensures i) (c.need_of-need.ensures i)) in
     let reply = c.make_return-denied.result in
     let told = passed_on m reply (pos 16) (pos 0) (pos 16) 0 (record { sfits = omega arith }) (omega arith) c.make_return-denied.ensures refl refl in
-    let limit_is : to_z w32 (of_z w32 c.settings.result.now.limit) ≡ mib.settings.limit = search rules in
+    let limit_is : to_z w32 (of_z w32 c.settings.result.now.max_message_size) ≡ mib.settings.max_message_size = search rules in
     let is_known : IsKnown policy m = λ unknown. c.in_default.ensures.none.0 (asked ∙ unknown) in
     ready_with (IsReadyFor D.held D.failed D.refuses policy known mib.device m) c.send.result c.make_answer.result c.make_answer.ensures
-    (denied_ready D.held D.failed D.refuses policy known mib.device m reply c.in-Err.field-0 (to_z w32 (of_z w32 c.settings.result.now.limit)) c.send.result is_known
+    (denied_ready D.held D.failed D.refuses policy known mib.device m reply c.in-Err.field-0 (to_z w32 (of_z w32 c.settings.result.now.max_message_size)) c.send.result is_known
     c.in_default.ensures.none.1 (sym asked ∙ ap granted c.in-Err.is) told limit_is c.send.ensures)
 
 pub returns-in-Err-clause-room : goal.returns-in-Err-clause-room

@@ -17,15 +17,15 @@ pub returns-in_default-clause-ready : goal.returns-in_default-clause-ready
 returns-in_default-clause-ready g c =
     let D = g.D.Device in
     let mib = c.args.self.now.mib in
-    let limit = mib.settings.limit in
+    let max_message_size = mib.settings.max_message_size in
     let m = c.args.message in
     let known = known_by D.held mib c.args.moment in
     let sees = IsInView c.args.self.now.policy.families c.args.access.view.now in
-    let limit_is : to_z w32 (of_z w32 c.settings.result.now.limit) ≡ limit = search rules in
-    let small : count_of limit < 2 ^ 31 = search rules in
-    let above : IsAboveLimit limit (greatest m) = omega (arith, c.counts.ensures (greatest m), c.in_default.ensures.none, small) in
+    let limit_is : to_z w32 (of_z w32 c.settings.result.now.max_message_size) ≡ max_message_size = search rules in
+    let small : count_of max_message_size < 2 ^ 31 = search rules in
+    let above : IsAboveLimit max_message_size (greatest m) = omega (arith, c.counts.ensures (greatest m), c.in_default.ensures.none, small) in
     ready_with (IsReadyToSet D.held D.failed D.refuses known sees mib.device m) c.send_too_big.result c.make_answer.result c.make_answer.ensures
-    (oversized D.held D.failed D.refuses known mib.device sees m m (to_z w32 (of_z w32 c.settings.result.now.limit)) c.send_too_big.result limit_is refl above c.send_too_big.ensures)
+    (oversized D.held D.failed D.refuses known mib.device sees m m (to_z w32 (of_z w32 c.settings.result.now.max_message_size)) c.send_too_big.result limit_is refl above c.send_too_big.ensures)
 
 pub returns-in_default-clause-room : goal.returns-in_default-clause-room
 returns-in_default-clause-room g c = roomy_with c.send_too_big.result c.make_answer.result c.make_answer.ensures
@@ -34,17 +34,17 @@ pub returns-in_default-size_within-clause-ready : goal.returns-in_default-size_w
 returns-in_default-size_within-clause-ready g c =
     let D = g.D.Device in
     let mib = c.args.self.now.mib in
-    let limit = mib.settings.limit in
+    let max_message_size = mib.settings.max_message_size in
     let m = c.args.message in
     let known = known_by D.held mib c.args.moment in
     let sees = IsInView c.args.self.now.policy.families c.args.access.view.now in
-    let limit_is : to_z w32 (of_z w32 c.settings.result.now.limit) ≡ limit = search rules in
+    let limit_is : to_z w32 (of_z w32 c.settings.result.now.max_message_size) ≡ max_message_size = search rules in
     let response = c.make_return-response.result in
     let told = greatest_is m response c.in-Some.count c.in-Some.ensures.few c.in-Some.ensures.some c.make_return-response.ensures in
-    let above : IsAboveLimit limit response = subst (λ (z : ℤ). IsAboveLimit z response) limit_is c.in_default-size_within.ensures.above in
+    let above : IsAboveLimit max_message_size response = subst (λ (z : ℤ). IsAboveLimit z response) limit_is c.in_default-size_within.ensures.above in
     ready_with (IsReadyToSet D.held D.failed D.refuses known sees mib.device m) c.send_too_big-in_default-size_within.result c.make_answer-in_default-size_within.result c.make_answer-in_default-size_within.ensures
-    (oversized D.held D.failed D.refuses known mib.device sees m response (to_z w32 (of_z w32 c.settings.result.now.limit)) c.send_too_big-in_default-size_within.result limit_is (ap too_big told)
-    (subst (IsAboveLimit limit) told above) c.send_too_big-in_default-size_within.ensures)
+    (oversized D.held D.failed D.refuses known mib.device sees m response (to_z w32 (of_z w32 c.settings.result.now.max_message_size)) c.send_too_big-in_default-size_within.result limit_is (ap too_big told)
+    (subst (IsAboveLimit max_message_size) told above) c.send_too_big-in_default-size_within.ensures)
 
 pub returns-in_default-size_within-clause-room : goal.returns-in_default-size_within-clause-room
 returns-in_default-size_within-clause-room g c = roomy_with c.send_too_big-in_default-size_within.result c.make_answer-in_default-size_within.result c.make_answer-in_default-size_within.ensures
@@ -53,17 +53,17 @@ pub returns-in-Ok-clause-ready : goal.returns-in-Ok-clause-ready
 returns-in-Ok-clause-ready g c =
     let D = g.D.Device in
     let mib = c.args.self.now.mib in
-    let limit = mib.settings.limit in
+    let max_message_size = mib.settings.max_message_size in
     let m = c.args.message in
     let known = known_by D.held mib c.args.moment in
     let sees = IsInView c.args.self.now.policy.families c.args.access.view.now in
     let response = c.make_return-response.result in
     let told = greatest_is m response c.in-Some.count c.in-Some.ensures.few c.in-Some.ensures.some c.make_return-response.ensures in
-    let limit_is : to_z w32 (of_z w32 c.settings.result.now.limit) ≡ limit = search rules in
-    let fits : IsWithinLimit limit response = subst (λ (z : ℤ). IsWithinLimit z response) limit_is c.in-Some-size_within.ensures.within in
+    let limit_is : to_z w32 (of_z w32 c.settings.result.now.max_message_size) ≡ max_message_size = search rules in
+    let fits : IsWithinLimit max_message_size response = subst (λ (z : ℤ). IsWithinLimit z response) limit_is c.in-Some-size_within.ensures.within in
     let same : c.bindings-bindings.result.now ≡ bindings_of m.body = c.bindings-bindings.ensures ∙ ap (λ (r : Message). bindings_of r.body) told in
     planned D.held D.failed D.refuses known mib.device sees m c.in-Ok.plan response c.in-Some-size_within.size c.make_assigning.result told
-    (subst (IsWithinLimit limit) told fits) (subst (All (IsAccepted known sees)) same c.in-Ok.ensures.accepted)
+    (subst (IsWithinLimit max_message_size) told fits) (subst (All (IsAccepted known sees)) same c.in-Ok.ensures.accepted)
     (subst (λ bs. IsSetPlan known bs c.in-Ok.plan) same c.in-Ok.ensures.plan) c.make_assigning.ensures
 
 pub returns-in-Ok-clause-room : goal.returns-in-Ok-clause-room
@@ -82,18 +82,18 @@ pub returns-in-Err-clause-ready : goal.returns-in-Err-clause-ready
 returns-in-Err-clause-ready g c =
     let D = g.D.Device in
     let mib = c.args.self.now.mib in
-    let limit = mib.settings.limit in
+    let max_message_size = mib.settings.max_message_size in
     let m = c.args.message in
     let known = known_by D.held mib c.args.moment in
     let sees = IsInView c.args.self.now.policy.families c.args.access.view.now in
     let response = c.make_return-response.result in
     let told = greatest_is m response c.in-Some.count c.in-Some.ensures.few c.in-Some.ensures.some c.make_return-response.ensures in
-    let limit_is : to_z w32 (of_z w32 c.settings.result.now.limit) ≡ limit = search rules in
-    let fits : IsWithinLimit limit response = subst (λ (z : ℤ). IsWithinLimit z response) limit_is c.in-Some-size_within.ensures.within in
+    let limit_is : to_z w32 (of_z w32 c.settings.result.now.max_message_size) ≡ max_message_size = search rules in
+    let fits : IsWithinLimit max_message_size response = subst (λ (z : ℤ). IsWithinLimit z response) limit_is c.in-Some-size_within.ensures.within in
     let same : c.bindings-bindings.result.now ≡ bindings_of m.body = c.bindings-bindings.ensures ∙ ap (λ (r : Message). bindings_of r.body) told in
     ready_with (IsReadyToSet D.held D.failed D.refuses known sees mib.device m) c.make_refusal.result c.make_answer-in-Err.result c.make_answer-in-Err.ensures
     (refused D.held D.failed D.refuses known mib.device sees m c.args.self.now.policy response c.in-Err.fault c.make_refusal.result
-    (refused_shorter c.shrinks.ensures (greatest m) refl) told (subst (IsWithinLimit limit) told fits)
+    (refused_shorter c.shrinks.ensures (greatest m) refl) told (subst (IsWithinLimit max_message_size) told fits)
     (subst (λ bs. IsSetFault known sees bs c.in-Err.fault) same c.in-Err.ensures.refused) c.make_refusal.ensures)
 
 pub returns-in-Err-clause-room : goal.returns-in-Err-clause-room

@@ -10,14 +10,14 @@ use Rattle.mon_poller.proofs.Changes.{ended_open, are_ended}
 use Rattle.mon_poller.proofs.Verdicts.{ended_by, fails_early, gives_answer}
 use Rattle.mon_poller.proofs.poller.Poller.close_answered.Goals as goal
 
-pub returns-in_err-key-clause-told : goal.returns-in_err-key-clause-told
-returns-in_err-key-clause-told c =
+pub returns-in_err-key-clause-verdict : goal.returns-in_err-key-clause-verdict
+returns-in_err-key-clause-verdict c =
     let e = c.in_err-key.field-0.0 in
     let slots = c.self.inside.polls.slots in
     let read = Some c.args.message.now in
     let p = err_from_is_err_and c.from_residual.result c.from_residual.ensures.1 in
     let told : Fails e (awaited c.self.inside.targets (open_of slots) c.args.from read) =
-    subst (λ (ts : List Target). Fails e (awaited ts (open_of slots) c.args.from read)) c.as_slice.ensures c.in_err-key.ensures.told in
+    subst (λ (ts : List Target). Fails e (awaited ts (open_of slots) c.args.from read)) c.as_slice.ensures c.in_err-key.ensures.verdict in
     let early : Fails e (response_verdict c.args.self.now.targets c.args.self.now.polls.open_polls c.args.from read) =
     subst (λ (b : Poller). Fails e (response_verdict b.targets b.polls.open_polls c.args.from read)) c.self.view_is (fails_early c.self.inside.targets (open_of slots) c.args.from read e told) in
     rw (p.1, p.2) early
@@ -27,20 +27,20 @@ invariant_of-self c =
     are_ended c.self.inside.targets c.self.inside.started c.self.inside.polls c.remove.new.self c.self.invariant c.in_ok-key.key c.in_ok-key.poll
     c.in_ok-key.ensures.slot c.remove.ensures.updates c.remove.ensures.len c.remove.ensures.capacity
 
-pub returns-then-ends_poll-clause-told : goal.returns-then-ends_poll-clause-told
-returns-then-ends_poll-clause-told c =
+pub returns-then-ends_poll-clause-verdict : goal.returns-then-ends_poll-clause-verdict
+returns-then-ends_poll-clause-verdict c =
     let slots = c.self.inside.polls.slots in
     subst (λ (b : Poller). Gives (λ o. o) c.poll_answer-answered.result (response_verdict b.targets b.polls.open_polls c.args.from (Some c.args.message.now))) c.self.view_is
     (gives_answer c.self.inside.targets (open_of slots) c.args.from (Some c.args.message.now) (poll_in c.in_ok-key.poll) c.in_ok-key.pdu.now _ c.poll_answer-answered.result
-    (ap (λ (ts : List Target). awaited ts (open_of slots) c.args.from (Some c.args.message.now)) (sym c.as_slice.ensures) ∙ c.in_ok-key.ensures.told)
+    (ap (λ (ts : List Target). awaited ts (open_of slots) c.args.from (Some c.args.message.now)) (sym c.as_slice.ensures) ∙ c.in_ok-key.ensures.verdict)
     (c.at-target.ensures ∙ ap (target_at c.self.inside.targets) c.from.ensures) c.poll_answer-answered.ensures)
 
-pub returns-else-ends_poll-clause-told : goal.returns-else-ends_poll-clause-told
-returns-else-ends_poll-clause-told c =
+pub returns-else-ends_poll-clause-verdict : goal.returns-else-ends_poll-clause-verdict
+returns-else-ends_poll-clause-verdict c =
     let slots = c.self.inside.polls.slots in
     subst (λ (b : Poller). Gives (λ o. o) c.poll_answer-answered.result (response_verdict b.targets b.polls.open_polls c.args.from (Some c.args.message.now))) c.self.view_is
     (gives_answer c.self.inside.targets (open_of slots) c.args.from (Some c.args.message.now) (poll_in c.in_ok-key.poll) c.in_ok-key.pdu.now _ c.poll_answer-answered.result
-    (ap (λ (ts : List Target). awaited ts (open_of slots) c.args.from (Some c.args.message.now)) (sym c.as_slice.ensures) ∙ c.in_ok-key.ensures.told)
+    (ap (λ (ts : List Target). awaited ts (open_of slots) c.args.from (Some c.args.message.now)) (sym c.as_slice.ensures) ∙ c.in_ok-key.ensures.verdict)
     (c.at-target.ensures ∙ ap (target_at c.self.inside.targets) c.from.ensures) c.poll_answer-answered.ensures)
 
 pub returns-then-ends_poll-clause-polls : goal.returns-then-ends_poll-clause-polls

@@ -13,8 +13,8 @@ use Rattle.mon_poller.proofs.Changes.{ended_open, are_ended, resent_open, are_re
 use Rattle.mon_poller.proofs.Slots.{in_none, in_slot}
 use Rattle.mon_poller.proofs.poller.Poller.time_out.Goals as goal
 
-pub returns-in_default-clause-told : goal.returns-in_default-clause-told
-returns-in_default-clause-told c =
+pub returns-in_default-clause-verdict : goal.returns-in_default-clause-verdict
+returns-in_default-clause-verdict c =
     let slots = c.self.inside.polls.slots in
     let p : Polls = record { open_polls = open_of slots; started = c.self.inside.started } in
     subst (λ (b : Poller). NotOpen ≡ timeout_verdict b.targets b.polls c.args.id) c.self.view_is (sym (not_open c.self.inside.targets p c.args.id (in_none slots c.args.id c.in_default.ensures.absent)).0)
@@ -31,8 +31,8 @@ invariant_of-self c =
     are_ended c.self.inside.targets c.self.inside.started c.self.inside.polls c.remove.new.self c.self.invariant c.in-Some.key c.in-Some.poll
     c.in-Some.ensures.found c.remove.ensures.updates c.remove.ensures.len c.remove.ensures.capacity
 
-pub returns-then-poll-at-clause-told : goal.returns-then-poll-at-clause-told
-returns-then-poll-at-clause-told c =
+pub returns-then-poll-at-clause-verdict : goal.returns-then-poll-at-clause-verdict
+returns-then-poll-at-clause-verdict c =
     let targets = c.self.inside.targets in
     let slots = c.self.inside.polls.slots in
     let poll = c.in-Some.poll in
@@ -88,8 +88,8 @@ invariant_of-self-2 c =
     are_resent targets n c.self.inside.polls c.self.invariant c.in-Some.key poll q c.in-Some.ensures.found (ap (λ (x : OpenPoll). x.id) same) (ap (λ (x : OpenPoll). x.target) same)
     (omega (arith, more, ap (λ (x : OpenPoll). x.sends) same))
 
-pub returns-clause-told : goal.returns-clause-told
-returns-clause-told c =
+pub returns-clause-verdict : goal.returns-clause-verdict
+returns-clause-verdict c =
     let targets = c.self.inside.targets in
     let slots = c.self.inside.polls.slots in
     let poll = c.in-Some.poll in

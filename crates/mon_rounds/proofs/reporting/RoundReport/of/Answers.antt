@@ -18,7 +18,7 @@ returns c =
       given_up = c.count_given_up-given_up.ensures ∙ ap gave_up c.as_slice.ensures.value;
       failed_saves = c.count_failed_saves-failed_saves.ensures ∙ ap unsaved c.as_slice-2.ensures.value;
       answered = c.in_ok-answered_of.ensures ∙ ap answered_of answers;
-      heard = c.in_ok-heard_of.ensures ∙ (λ i. heard_of (c.peer_addresses.ensures i) (events i));
+      peers = c.in_ok-heard_of.ensures ∙ (λ i. heard_of (c.peer_addresses.ensures i) (events i));
     }
 
 pub returns-in_err-notices : goal.returns-in_err-notices
@@ -34,7 +34,7 @@ returns-in_err-notices c =
       given_up = IfOk-from_err r.result _ r.ensures.0;
       failed_saves = IfOk-from_err r.result _ r.ensures.0;
       answered = IfOk-from_err r.result _ r.ensures.0;
-      heard = IfOk-from_err r.result _ r.ensures.0;
+      peers = IfOk-from_err r.result _ r.ensures.0;
     }
 
 pub returns-in_err-answered_of : goal.returns-in_err-answered_of
@@ -50,7 +50,7 @@ returns-in_err-answered_of c =
       given_up = IfOk-from_err r.result _ r.ensures.0;
       failed_saves = IfOk-from_err r.result _ r.ensures.0;
       answered = IfOk-from_err r.result _ r.ensures.0;
-      heard = IfOk-from_err r.result _ r.ensures.0;
+      peers = IfOk-from_err r.result _ r.ensures.0;
     }
 
 pub returns-in_err-heard_of : goal.returns-in_err-heard_of
@@ -66,5 +66,5 @@ returns-in_err-heard_of c =
       given_up = IfOk-from_err r.result _ r.ensures.0;
       failed_saves = IfOk-from_err r.result _ r.ensures.0;
       answered = IfOk-from_err r.result _ r.ensures.0;
-      heard = IfOk-from_err r.result _ r.ensures.0;
+      peers = IfOk-from_err r.result _ r.ensures.0;
     }

@@ -10,4 +10,4 @@ invariant_of-self c =
     let at : IsTiming r.phase = search rules in
     let later : timed_out r.phase < c.args.id = search rules in
     let may : may_time_out r.phase r ≡ true = search rules in
-    after_timeout _ _ r c.args.id _ _ _ c.self.invariant at later may c.quiets_left-self-inside.ensures c.push_reserved.ensures.items c.push_reserved.ensures.capacity
+    after_timeout _ _ r c.args.id _ _ _ c.self.invariant at later may (search rules) c.push_reserved.ensures.items c.push_reserved.ensures.capacity

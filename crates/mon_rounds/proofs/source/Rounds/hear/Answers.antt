@@ -1,4 +1,4 @@
-use Rattle.std.proofs.Common.{◌≡◌, ap, ◌∙◌}
+use Rattle.std.proofs.Common.{ap, ◌∙◌}
 use Rattle.mon_rounds.specs.Given.{with_octets}
 use Rattle.mon_rounds.specs.Kept.{kept_in}
 use Rattle.mon_rounds.specs.Next.{RoundState, event_from}

@@ -1,9 +1,24 @@
-use Rattle.std.proofs.Common.{◌≡◌, ◌≤◌, List, ℕ, take, Option, Some, None, Bor, ap, sym, subst, ◌∙◌, arith}
+use Rattle.std.proofs.Common.{◌≡◌, ◌≤◌, ◌⊎◌, inl, inr, ⊎_elim, length, List, ℕ, take, Option, Some, None, Bor, ap, sym, subst, ◌∙◌, arith}
 use Rattle.std.specs.Option.{option_copied, option_map}
 use Rattle.mon_smi.specs.declared.definition.Definition.{Definition}
 use Rattle.mon_smi.specs.Labels.{AreLabels, found_at, label_of}
-use Rattle.mon_smi.proofs.Labelled.{begins, longest_here, longest_less, longest_none}
+use Rattle.std.proofs.lemmas.Bool.{cases_lt}
+use Rattle.mon_smi.proofs.Labelled.{begins, longest_here, longest_less, longest_none, within_map}
 use Rattle.mon_smi.proofs.labels.Labels.nearest.Goals as goal
+
+pub loop-len-init : goal.loop-len-init
+loop-len-init c =
+    let parts = c.args.parts.now in
+    let len = c.min-len.result in
+    let bound = c.self.inside.longest in
+    let le : len ≤ length parts = omega (arith, c.min-len.ensures) in
+    let reach : (bound ≤ len) ⊎ (length parts ≤ len) =
+    ⊎_elim (λ less. inr (omega (arith, less, c.min-len.ensures))) (λ more. inl (omega (arith, more, c.min-len.ensures))) (cases_lt (length parts) bound) in
+    let labels : AreLabels c.args.self.now c.args.self.now c.self.inside.by_identifier = subst (λ (defs : List Definition). AreLabels defs defs c.self.inside.by_identifier) c.self.view_is c.self.invariant.1 in
+    record {
+      within = le;
+      rest = within_map c.args.self.now c.self.inside.by_identifier parts bound len labels c.self.invariant.2 c.requires le reach;
+    }
 
 pub returns-in-Some-clause-longest : goal.returns-in-Some-clause-longest
 returns-in-Some-clause-longest c =

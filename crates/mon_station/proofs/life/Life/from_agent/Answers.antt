@@ -12,18 +12,18 @@ take_pairs-requires-clause-instances c =
     let n = length s.board.watch.instances in
     let r = c.in-Ok.ensures.read in
     subst (λ (l : List (ℕ × ℕ)). All (λ pair. pair.0 < n) l) (sym c.as_slice.ensures)
-    (c.offered.ensures n s.poller.targets s.poller.polls.open_polls c.args.from r.0 c.in-Ok.offered s.watched (c.in-Ok.ensures.told r.0 r.1))
+    (c.offered.ensures n s.poller.targets s.poller.polls.open_polls c.args.from r.0 c.in-Ok.offered s.watched (c.in-Ok.ensures.verdict r.0 r.1))
 
 pub returns-in-Ok-clause-answered : goal.returns-in-Ok-clause-answered
 returns-in-Ok-clause-answered c = λ r reads.
     let told = c.tell_taken.ensures in
     let taken = c.take_pairs.ensures in
     response_taken (state_of c.args.self.now) c.settled.ensures.settled c.args.from r c.in-Ok.offered _ c.take_pairs.new.board c.tell_taken.result c.as_slice.result.now
-    (c.in-Ok.ensures.told r reads) (c.in-Ok.ensures.polls r reads) c.as_slice.ensures taken.watch taken.windows taken.marks told.taken told.sends told.noted told.given_up told.answered
+    (c.in-Ok.ensures.verdict r reads) (c.in-Ok.ensures.polls r reads) c.as_slice.ensures taken.watch taken.windows taken.marks told.taken told.sends told.noted told.given_up told.answered
 
 pub returns-in-Err-clause-answered : goal.returns-in-Err-clause-answered
 returns-in-Err-clause-answered c = λ r reads.
-    response_refused (state_of c.args.self.now) c.settled.ensures.settled c.args.from r c.in-Err.fault c.from.result _ c.from.ensures (c.in-Err.ensures.polls r reads) (c.in-Err.ensures.told r reads)
+    response_refused (state_of c.args.self.now) c.settled.ensures.settled c.args.from r c.in-Err.fault c.from.result _ c.from.ensures (c.in-Err.ensures.polls r reads) (c.in-Err.ensures.verdict r reads)
 
 pub returns-in-Err-clause-refused : goal.returns-in-Err-clause-refused
 returns-in-Err-clause-refused c =

@@ -18,4 +18,4 @@ returns-in_err-timed_out-clause-answered c =
 pub returns-clause-answered : goal.returns-clause-answered
 returns-clause-answered c =
     let told = c.told_timeout.ensures in
-    timed_out (state_of c.args.self.now) c.settled.ensures.settled c.args.id _ c.told_timeout.result c.in_ok-timed_out.timed_out c.in_ok-timed_out.ensures.polls told.taken told.sends told.noted told.given_up told.answered c.in_ok-timed_out.ensures.told
+    timed_out (state_of c.args.self.now) c.settled.ensures.settled c.args.id _ c.told_timeout.result c.in_ok-timed_out.timed_out c.in_ok-timed_out.ensures.polls told.taken told.sends told.noted told.given_up told.answered c.in_ok-timed_out.ensures.verdict

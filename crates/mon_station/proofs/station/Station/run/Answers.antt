@@ -19,8 +19,8 @@ loop-turn-init g c =
       ran = so_far_none g.D.Disk g.S.Source.gives (λ disk t h left. g.met.D.Disk.only_now disk t h left) _ _ begun;
     }
 
-pub take_turn-requires-clause-room : goal.take_turn-requires-clause-room
-take_turn-requires-clause-room g c =
+pub take_turn-requires-clause-capacity : goal.take_turn-requires-clause-capacity
+take_turn-requires-clause-capacity g c =
     let so_far = c.loop-turn.invariant in
     omega (arith, few_told c.loop-turn.run so_far.ran.calls so_far.ran.told, so_far.turns, so_far.room, c.loop-turn-test.true)
 
@@ -41,9 +41,9 @@ returns-then-not-take_turn-clause-ran g c =
     let so_far = c.loop-turn.invariant in
     let S = g.S.Source in
     let O = g.O.Outbox in
-    let first = seen c.args.self.now (S.view c.args.source.now) (O.handed c.args.outbox.now) in
-    let last = seen c.take_turn.new.self (S.view c.take_turn.new.source) (O.handed c.take_turn.new.outbox) in
-    let more = so_far_more g.D.Disk S.gives first (seen c.loop-turn.self (S.view c.loop-turn.source) (O.handed c.loop-turn.outbox)) last c.loop-turn.run (with_turns c.loop-turn.run (c.loop-turn.turn + 1)) c.take_turn.new.run c.loop-turn.last c.take_turn.new.last c.take_turn.result
+    let first = seen c.args.self.now (S.view c.args.source.now) (O.log c.args.outbox.now) in
+    let last = seen c.take_turn.new.self (S.view c.take_turn.new.source) (O.log c.take_turn.new.outbox) in
+    let more = so_far_more g.D.Disk S.gives first (seen c.loop-turn.self (S.view c.loop-turn.source) (O.log c.loop-turn.outbox)) last c.loop-turn.run (with_turns c.loop-turn.run (c.loop-turn.turn + 1)) c.take_turn.new.run c.loop-turn.last c.take_turn.new.last c.take_turn.result
     so_far.ran c.take_turn.ensures.called refl refl (ap (λ n. n + 1) (sym so_far.turns)) in
     ran_of g.D.Disk S.gives first last c.args.turns c.take_turn.new.run c.take_turn.new.last c.take_turn.result more
     (inr (omega (arith, so_far.ran.told.turns, so_far.turns, c.loop-turn-test.true), more.going_is ∙ c.if-not-take_turn.true))
@@ -53,8 +53,8 @@ loop-turn-preserved g c =
     let so_far = c.loop-turn.invariant in
     let S = g.S.Source in
     let O = g.O.Outbox in
-    let first = seen c.args.self.now (S.view c.args.source.now) (O.handed c.args.outbox.now) in
-    let last = seen c.take_turn.new.self (S.view c.take_turn.new.source) (O.handed c.take_turn.new.outbox) in
+    let first = seen c.args.self.now (S.view c.args.source.now) (O.log c.args.outbox.now) in
+    let last = seen c.take_turn.new.self (S.view c.take_turn.new.source) (O.log c.take_turn.new.outbox) in
     let called = c.take_turn.ensures.called in
     record {
       room = omega (arith, called.counted.room, so_far.room);
@@ -63,7 +63,7 @@ loop-turn-preserved g c =
       outbox = c.take_turn.ensures.outbox _ so_far.outbox;
       refused = called.counted.refused so_far.refused;
       ran = subst (RanSoFar S.gives first last c.take_turn.new.run c.take_turn.new.last) c.if-not-take_turn.false
-          (so_far_more g.D.Disk S.gives first (seen c.loop-turn.self (S.view c.loop-turn.source) (O.handed c.loop-turn.outbox)) last c.loop-turn.run (with_turns c.loop-turn.run (c.loop-turn.turn + 1)) c.take_turn.new.run c.loop-turn.last c.take_turn.new.last c.take_turn.result
+          (so_far_more g.D.Disk S.gives first (seen c.loop-turn.self (S.view c.loop-turn.source) (O.log c.loop-turn.outbox)) last c.loop-turn.run (with_turns c.loop-turn.run (c.loop-turn.turn + 1)) c.take_turn.new.run c.loop-turn.last c.take_turn.new.last c.take_turn.result
           so_far.ran called refl refl (ap (λ n. n + 1) (sym so_far.turns)));
     }
 

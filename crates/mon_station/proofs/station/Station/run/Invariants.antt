@@ -12,5 +12,5 @@ invariant-loop-turn g l = record {
   source : g.S.Source.failures l.source ≡ failures_after l.run.source_faults (g.S.Source.failures l.fn.source);
   outbox : HasFailed (g.O.Outbox.failures l.fn.outbox) (g.O.Outbox.failures l.outbox) l.run.send_faults;
   refused : l.run.refused ≡ faults_in l.run.answers.items;
-  ran : RanSoFar g.S.Source.gives (seen l.fn.self (g.S.Source.view l.fn.source) (g.O.Outbox.handed l.fn.outbox)) (seen l.self (g.S.Source.view l.source) (g.O.Outbox.handed l.outbox)) l.run l.last true;
+  ran : RanSoFar g.S.Source.gives (seen l.fn.self (g.S.Source.view l.fn.source) (g.O.Outbox.log l.fn.outbox)) (seen l.self (g.S.Source.view l.source) (g.O.Outbox.log l.outbox)) l.run l.last true;
 }

@@ -23,7 +23,7 @@ returns-in-Ok-Some-clause-called g c =
     let turned = c.turn-answer.ensures.turned in
     record {
       call = record { gave = ran.Event turned.turn; view = S.view c.next.new.self };
-      did = did_event g.D.Disk (told_of last S.gives) (state_of station.life) (state_of c.turn-answer.new.self.life) (S.view c.args.source.now) (S.view c.next.new.self) (g.O.Outbox.handed c.args.outbox.now) (g.O.Outbox.handed c.turn-answer.new.outbox) (device_of station.keeper) (device_of c.turn-answer.new.self.keeper) (last_body station.keeper) (last_body c.turn-answer.new.self.keeper)
+      did = did_event g.D.Disk (told_of last S.gives) (state_of station.life) (state_of c.turn-answer.new.self.life) (S.view c.args.source.now) (S.view c.next.new.self) (g.O.Outbox.log c.args.outbox.now) (g.O.Outbox.log c.turn-answer.new.outbox) (device_of station.keeper) (device_of c.turn-answer.new.self.keeper) (last_body station.keeper) (last_body c.turn-answer.new.self.keeper)
           c.in-Ok-Some.event answer turned (subst (λ (o : Option OwnedEvent). S.gives (S.view c.args.source.now) polls last (Ok o) (S.view c.next.new.self)) c.in-Ok-Some.field-0-is c.in-Ok-Some.ensures.gives);
       counted = record {
         turns = refl;
@@ -44,7 +44,7 @@ returns-in-Ok-None-clause-called g c =
     let last : Option Answer = c.args.last.now in
     record {
       call = record { gave = ran.End; view = S.view c.next.new.self };
-      did = did_none g.D.Disk (told_of last S.gives) (λ disk t h left. g.met.D.Disk.only_now disk t h left) (state_of station.life) (S.view c.args.source.now) (S.view c.next.new.self) (g.O.Outbox.handed c.args.outbox.now) (device_of station.keeper) (last_body station.keeper) ran.End refl tt
+      did = did_none g.D.Disk (told_of last S.gives) (λ disk t h left. g.met.D.Disk.only_now disk t h left) (state_of station.life) (S.view c.args.source.now) (S.view c.next.new.self) (g.O.Outbox.log c.args.outbox.now) (device_of station.keeper) (last_body station.keeper) ran.End refl tt
           (subst (λ (o : Option OwnedEvent). S.gives (S.view c.args.source.now) polls last (Ok o) (S.view c.next.new.self)) c.in-Ok-None.field-0-is c.in-Ok-None.ensures.gives);
       counted = record { turns = refl; answers = sym (append_nil _); faults = omega arith; room = omega arith; refused = λ was. was };
       last_is = refl;
@@ -59,7 +59,7 @@ returns-in-Err-clause-called g c =
     let last : Option Answer = c.args.last.now in
     record {
       call = record { gave = ran.Fault c.in-Err.field-0; view = S.view c.next.new.self };
-      did = did_none g.D.Disk (told_of last S.gives) (λ disk t h left. g.met.D.Disk.only_now disk t h left) (state_of station.life) (S.view c.args.source.now) (S.view c.next.new.self) (g.O.Outbox.handed c.args.outbox.now) (device_of station.keeper) (last_body station.keeper) (ran.Fault c.in-Err.field-0) refl tt
+      did = did_none g.D.Disk (told_of last S.gives) (λ disk t h left. g.met.D.Disk.only_now disk t h left) (state_of station.life) (S.view c.args.source.now) (S.view c.next.new.self) (g.O.Outbox.log c.args.outbox.now) (device_of station.keeper) (last_body station.keeper) (ran.Fault c.in-Err.field-0) refl tt
           c.in-Err.ensures.gives;
       counted = record { turns = refl; answers = sym (append_nil _); faults = refl; room = omega arith; refused = λ was. was };
       last_is = refl;

@@ -22,7 +22,7 @@ returns-in-Ok-clause-turned g c =
     turned_told D s (state_of c.step.new.self.life) c.args.event old new (last_body before) (last_body after) c.in-Ok.ensures.honest c.in-Ok.told _ _ _
     (λ e reads. c.in-Ok.ensures.answered e (subst (λ (a : OwnedEvent). ReadsAs s.board.watch a e) (sym is) reads))
     (subst (λ (a : OwnedEvent). (e : ReadEvent) × ReadsAs s.board.watch a e) is c.in-Ok.ensures.read)
-    (c.hand.ensures.handed ∙ ap (λ (l : List Outgoing). extended (g.O.Outbox.handed c.args.outbox.now) l) c.as_slice.ensures.value) c.answer_of.ensures c.in-Ok.ensures.count
+    (c.hand.ensures.log ∙ ap (λ (l : List Outgoing). extended (g.O.Outbox.log c.args.outbox.now) l) c.as_slice.ensures.value) c.answer_of.ensures c.in-Ok.ensures.count
     (λ honest. file_told may_meet s before after c.args.event (λ other. c.in-Ok.ensures.disk (not_save event (λ e. other (sym is ∙ e))))
     (λ e. saved_or_last (D.may_leave new) (last_body after) s (c.in-Ok.ensures.saved honest (is_save event (is ∙ e))) (c.in-Ok.ensures.last honest (is_save event (is ∙ e)))))
     (λ honest. amid D s old new (last_body before) (λ disk t h left. g.met.D.Disk.only_now disk t h left) honest c.args.event (λ other. ap device_of (c.in-Ok.ensures.disk (not_save event (λ e. other (sym is ∙ e)))))

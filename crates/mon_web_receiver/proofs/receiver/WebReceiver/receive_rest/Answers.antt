@@ -31,7 +31,7 @@ loop-preserved g c =
       kept.timer ∙ stays.0,
       kept.by.0 ∙ stays.1,
       kept.by.1 ∙ stays.2,
-      kept.room ∙ stays.3,
+      kept.buffer ∙ stays.3,
       kept.pages ∙ stays.4,
       kept.origin ∙ stays.5,
       kept.by.2 ∙ stays.6,

@@ -1,0 +1,12 @@
+use Rattle.std.proofs.Common.{◌≡◌, true, rules}
+use Rattle.mon_rounds.specs.Next.{RoundState}
+use Rattle.mon_rounds.specs.Orderly.{IsSaving}
+use Rattle.mon_rounds.proofs.Onward.{after_save}
+use Rattle.mon_rounds.proofs.round.Round.finish.Goals as goal
+
+pub invariant_of-self : goal.invariant_of-self
+invariant_of-self c =
+    let r : RoundState = record { targets = c.self.inside.addresses.targets.items; peers = c.self.inside.addresses.peers.items; peer_addresses = c.self.inside.addresses.peer_addresses.items; wait_ms = c.self.inside.wait_ms; tries = c.self.inside.tries; saves = c.self.inside.saves; saving = c.self.inside.saving; phase = c.self.inside.phase; wait = c.self.inside.wait; datagrams = c.self.inside.datagrams; quiets = c.self.inside.quiets; timeouts = c.self.inside.timeouts; failures = c.self.inside.failures; events = c.self.inside.events.items } in
+    let at : IsSaving r.phase r.peers = search rules in
+    let saves : r.saving ≡ true = search rules in
+    after_save _ _ r _ _ c.self.invariant at saves c.push_reserved.ensures.items c.push_reserved.ensures.capacity
