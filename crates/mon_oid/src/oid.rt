@@ -116,7 +116,8 @@ impl Oid {
         ensures { IfOk result (λ text. string_bytes text ≡ dotted self.now) }
     {
         let parts = self.parts();
-        let mut text = String::new(alloc);
+        // Most numbers have up to three digits, and a dot each.
+        let mut text = String::with_capacity(alloc, 4 * parts.len())?;
         for (i, part) in parts.iter().enumerate() {
             if i > 0 {
                 text.push('.')?;

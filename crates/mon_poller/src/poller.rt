@@ -181,7 +181,8 @@ impl Poller {
     /// target again, or, if that was tried as often as it may be, the poll is closed. Only a
     /// datagram is allocated, so `GivenUp` and `NotOpen` allocate nothing.
     pub fn time_out(&mut self, alloc: Global, id: u32) -> Result<TimedOut, AllocError>
-        ensures verdict { IfOk result (λ t. t ≡ timeout_verdict self.old.targets self.old.polls id) }
+        ensures verdict { IfOk result (λ t. t ≡ timeout_verdict self.old.targets self.old.polls
+            id) }
         ensures polls { OnOk result (self.new ≡ record self.old
             { polls = timed (tries_of self.old.targets) id self.old.polls }) }
         // Memory is taken for a datagram that is sent again, and for nothing else.

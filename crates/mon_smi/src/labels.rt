@@ -40,8 +40,8 @@ impl<'a> Model for Labels<'a> {
 
     ghost view = { λ l. l.defs.now };
 
-    ghost invariant = { λ l. AreDistinct l.defs.now × AreLabels l.defs.now l.defs.now l.by_identifier
-        × AreWithin l.longest l.by_identifier };
+    ghost invariant = { λ l. AreDistinct l.defs.now
+        × AreLabels l.defs.now l.defs.now l.by_identifier × AreWithin l.longest l.by_identifier };
 }
 
 impl<'a> Labels<'a> {
