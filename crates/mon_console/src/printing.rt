@@ -7,18 +7,20 @@ ghost use Rattle.mon_console.specs.Printing.{IsPrinting, aged, numbered, present
 ghost use Rattle.mon_console.specs.Shown.{shown_by};
 ghost use Rattle.mon_host.specs.Log.{GoesOnBy};
 ghost use Rattle.mon_formats.specs.Changes.{change_line, instance_text};
+ghost use Rattle.mon_board.specs.Instance.{instances_of};
 ghost use Rattle.mon_formats.specs.Formats.{formatted, report_in};
+ghost use Rattle.mon_formats.specs.Series.{AreSeries};
 ghost use Rattle.mon_formats.specs.declared.format.Format.TheVariants.{Text};
 
 use crate::failure::Failure;
 use crate::naming::{KnownNames, add_others};
 use crate::seen::{DeviceSeen, Seen};
 use mon_alarms::AlarmChange;
-use mon_board::{Board, Instance};
+use mon_board::{Board, Instance, Watched};
 use mon_cli::Printed;
 use mon_formats::{
-    Extras, Figures, Format, InstanceLabels, Presentation, Sort, alarm_line, format_report,
-    instance_text,
+    Extras, Figures, Format, InstanceLabels, Presentation, SeriesLabels, Sort, alarm_line,
+    format_report, instance_text,
 };
 use mon_host::Host;
 use mon_notify::{Scene, alarm_message, device_message};
@@ -154,16 +156,46 @@ impl Printing {
             (option_map (λ f. f.now) station.entry) self.now.labels.items
             self.now.presentation) }
     {
-        let extras = Extras {
-            station,
-            labels: self.labels.as_slice(),
-            presentation: &self.presentation,
-        };
+        let extras = self.extras(station);
         match &self.names {
             None => format_report(buffer, format, &InNumbers, entries, extras),
             Some(names) => {
                 let labels = names.labels(*buffer.allocator())?;
                 format_report(buffer, format, &labels, entries, extras)
+            }
+        }
+    }
+
+    /// Returns what a report has besides the windows of its instances.
+    pub(crate) fn extras<'a>(&'a self, station: Option<&'a Figures>) -> Extras<'a>
+        ensures labels { result.labels.now ≡ self.now.labels.items }
+        ensures presentation { result.presentation.now ≡ self.now.presentation }
+        ensures station { option_map (λ f. f.now) result.station
+            ≡ option_map (λ f. f.now) station.entry }
+    {
+        Extras {
+            station,
+            labels: self.labels.as_slice(),
+            presentation: &self.presentation,
+        }
+    }
+
+    /// Makes the labels of the series of these instances.
+    pub(crate) fn series_of(
+        &self,
+        alloc: Global,
+        watched: &[Watched],
+    ) -> Result<SeriesLabels, AllocError>
+        ensures instances { IfOk result (λ s. s.instances ≡ instances_of watched.now) }
+        ensures labels { IfOk result (AreSeries self.now.presentation.station
+            (shown_by self.now.names) self.now.labels.items) }
+    {
+        let given = self.labels.as_slice();
+        let station = self.presentation.station;
+        match &self.names {
+            None => SeriesLabels::new(alloc, &InNumbers, watched, given, station),
+            Some(names) => {
+                SeriesLabels::new(alloc, &names.labels(alloc)?, watched, given, station)
             }
         }
     }

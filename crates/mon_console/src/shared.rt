@@ -12,8 +12,8 @@ ghost use Rattle.mon_host.specs.Log.{GoesOnBy};
 use crate::printing::Printing;
 use crate::seen::{DeviceSeen, Seen};
 use mon_alarms::AlarmChange;
-use mon_board::{Board, Instance};
-use mon_formats::{Figures, Format};
+use mon_board::{Board, Instance, Watched};
+use mon_formats::{Figures, Format, SeriesLabels};
 use mon_host::Host;
 use mon_report::Entry;
 use std::alloc::{AllocError, Global};
@@ -25,28 +25,42 @@ use std::rc::Rc;
 #[derive(Drop)]
 pub struct SharedPrinting {
     shared: Rc<Printing>,
+    // The labels of the series of some instances, by the names and labels that are shared.
+    series: Rc<SeriesLabels>,
     format: Format,
 }
 
 impl Model for SharedPrinting {
+    ghost use Rattle.mon_console.specs.Shown.{shown_by};
     ghost use Rattle.mon_console.specs.declared.printing.Printing.{Printing};
+    ghost use Rattle.mon_formats.specs.Series.{AreSeries};
 
     ghost Value = { Printing };
 
     ghost view = { λ s. record s.shared.value { format = s.format } };
+
+    ghost invariant = { λ s. AreSeries s.shared.value.presentation.station
+        (shown_by s.shared.value.names) s.shared.value.labels.items s.series.value };
 }
 
 impl SharedPrinting {
-    /// Returns its first owner.
+    /// Returns its first owner. The labels of the series of these instances are made now, once for
+    /// all texts that Prometheus reads.
     ///
     /// # Errors
     /// `AllocError` if there is no memory for it.
-    pub fn new(alloc: Global, printing: Printing) -> Result<Self, AllocError>
+    pub fn new(
+        alloc: Global,
+        printing: Printing,
+        instances: &[Watched],
+    ) -> Result<Self, AllocError>
         ensures { IfOk result (λ shared. shared ≡ printing) }
     {
         let format = printing.format;
+        let series = printing.series_of(alloc, instances)?;
         Ok(SharedPrinting {
             shared: Rc::new(alloc, printing)?,
+            series: Rc::new(alloc, series)?,
             format,
         })
     }
@@ -60,6 +74,7 @@ impl SharedPrinting {
     {
         Ok(SharedPrinting {
             shared: self.shared.clone()?,
+            series: self.series.clone()?,
             format: self.format,
         })
     }
@@ -96,8 +111,7 @@ impl SharedPrinting {
             (option_map (λ f. f.now) station.entry) self.now.labels.items
             self.now.presentation) }
     {
-        self.shared
-            .text_in(Vec::new(alloc), self.format, entries, station)
+        self.text_in(Vec::new(alloc), self.format, entries, station)
     }
 
     /// The report of these instances in this format, and for Prometheus of what the station says of
@@ -114,6 +128,10 @@ impl SharedPrinting {
             (option_map (λ f. f.now) station.entry) self.now.labels.items
             self.now.presentation) }
     {
+        if self.series.fit(format, entries) {
+            let extras = self.shared.extras(station);
+            return self.series.report(buffer, format, entries, extras);
+        }
         self.shared.text_in(buffer, format, entries, station)
     }
 

@@ -15,6 +15,6 @@ pub record HaveLabels (labels : Labelled → List ℕ) (all : List Labelled) (en
 
 -- the labels of these entries with what is given for them, by texts that were made
 abbrev pub AreLabelTexts : (labels : Labelled → List ℕ) → List Entry → (given : List InstanceLabels)
-    → Vec (Vec ℕ) → Type 0
+    → List (Vec ℕ) → Type 0
 AreLabelTexts labels entries given texts = HaveLabels labels (labelled given entries) entries given
-    texts.items
+    texts

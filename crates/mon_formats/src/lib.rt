@@ -16,6 +16,7 @@ pub use format::{Format, format_report};
 pub use mon_page::{
     Extras, Figures, InstanceLabels, PeerFigures, Presentation, Sort, TargetFigures,
 };
+pub use prometheus::series::SeriesLabels;
 
 /// The program's version, as Prometheus' text has it.
 pub const VERSION: &str = "0.1.0";

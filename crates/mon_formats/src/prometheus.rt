@@ -10,7 +10,7 @@ ghost use Rattle.mon_page.specs.Freshness.{fresh, is_fresh};
 ghost use Rattle.mon_page.specs.Labelled.{Labelled as AnyLabelled, labelled};
 ghost use Rattle.mon_formats.specs.LabelTexts.{AreLabelTexts, HaveLabels};
 ghost use Rattle.mon_formats.specs.declared.prometheus.station.StationMetric.TheVariants.{Age};
-ghost use Rattle.mon_formats.specs.Prometheus.{ages_text, alarm_labels, alarm_line};
+ghost use Rattle.mon_formats.specs.Prometheus.{ages_text, alarm_labels, alarm_line, end_text};
 ghost use Rattle.mon_formats.specs.Prometheus.{counted_line, instance_labels, instances_text, lines_of};
 ghost use Rattle.mon_formats.specs.Prometheus.{metric_line, metric_text, name_of, number_line};
 ghost use Rattle.mon_formats.specs.Prometheus.{prometheus_report, rate_line, report_by, samples_line};
@@ -19,6 +19,7 @@ ghost use Rattle.mon_formats.specs.Prometheus.{speed_line, state_digit, station_
 pub(crate) mod instance;
 mod metric;
 mod peer;
+pub(crate) mod series;
 mod station;
 mod target;
 pub(crate) mod text;
@@ -106,11 +107,30 @@ fn put_report<S: NameTexts>(
     let alloc = *text.allocator();
     let station = extras.presentation.station;
     let labels = label_texts(alloc, names, entries, extras.labels, station)?;
+    put_by(format, text, entries, labels.as_slice(), extras)
+}
+
+/// Adds the report and the end, by the texts of the labels of all instances.
+pub(crate) fn put_by(
+    format: Exposition,
+    text: &mut Vec<u8>,
+    entries: &[Entry],
+    labels: &[Vec<u8>],
+    extras: Extras<'_>,
+) -> Result<(), AllocError>
+    requires { length labels.now ≡ length entries.now }
+    ensures { (by : AnyLabelled → List ℕ)
+        → AreLabelTexts by entries.now extras.entry.labels.now labels.now
+        → OnOk result (text.new.items ≡ text.old.items
+        ++ report_by format by (labelled extras.entry.labels.now entries.now)
+        (option_map (λ f. f.now) extras.entry.station) ++ end_text format) }
+{
+    let alloc = *text.allocator();
     let plain = Listing {
         format,
         entries,
         given: extras.labels,
-        labels: labels.as_slice(),
+        labels,
         ages: &[],
         limit: 0,
     };
@@ -139,15 +159,15 @@ fn put_listing(
 }
 
 /// Returns the texts of the labels of these instances.
-fn label_texts<S: NameTexts>(
+pub(crate) fn label_texts<S: NameTexts>(
     alloc: Global,
     names: &S,
     entries: &[Entry],
     labels: &[InstanceLabels],
     station: Option<u32>,
 ) -> Result<Vec<Vec<u8>>, AllocError>
-    ensures texts { IfOk result (AreLabelTexts (instance_labels station (S.shown names.now))
-        entries.now labels.now) }
+    ensures texts { IfOk result (λ texts. AreLabelTexts
+        (instance_labels station (S.shown names.now)) entries.now labels.now texts.items) }
     ensures as_many { IfOk result (λ texts. length texts.items ≡ length entries.now) }
 {
     let mut texts = Vec::with_capacity(alloc, entries.len())?;

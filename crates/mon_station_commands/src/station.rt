@@ -139,9 +139,12 @@ fn reports_of(
 ) -> Result<Reports, Failure>
     ensures { OrMemory (AreReports words.entry settings.now printing) result }
 {
-    let printing = SharedPrinting::new(alloc, printing)?;
-    let instances = if printing.is_plain() {
-        settings.core.watch().instances().len()
+    let instances = settings.core.watch().instances();
+    // A station that serves HTTP is asked for series again and again.
+    let series = if words.http.is_some() { instances } else { &[] };
+    let printing = SharedPrinting::new(alloc, printing, series)?;
+    let lines = if printing.is_plain() {
+        instances.len()
     } else {
         0
     };
@@ -152,7 +155,7 @@ fn reports_of(
         stale_after: words.stale_after,
         alarm_after: words.alarm_after,
         interval: words.timing.interval,
-        lines: Vec::with_capacity(alloc, instances * LINE_SIZE)?,
+        lines: Vec::with_capacity(alloc, lines * LINE_SIZE)?,
     })
 }
 

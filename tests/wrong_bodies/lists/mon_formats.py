@@ -1,6 +1,66 @@
 """Bugs for planted_bugs to plant in mon_formats: a file, what stands in it once, and what stands there then."""
 
 BUGS = {
+    "labels_of_series_in_numbers": (
+        "src/prometheus/series.rt",
+        "        let texts = label_texts(alloc, names, entries.as_slice(), given, station)?;",
+        "        let texts = label_texts(alloc, &mon_smi::InNumbers, entries.as_slice(), given, station)?;",
+    ),
+    "series_without_their_station": (
+        "src/prometheus/series.rt",
+        "entries.as_slice(), given, station)?;",
+        "entries.as_slice(), given, None)?;",
+    ),
+    "series_without_given_labels": (
+        "src/prometheus/series.rt",
+        "entries.as_slice(), given, station)?;",
+        "entries.as_slice(), &[], station)?;",
+    ),
+    "series_of_no_instance": (
+        "src/prometheus/series.rt",
+        "        let instances = copies_of(alloc, watched)?;",
+        "        let instances = copies_of(alloc, &[])?;",
+    ),
+    "series_fit_each_format": (
+        "src/prometheus/series.rt",
+        "        has_series(format) && are_of(",
+        "        are_of(",
+    ),
+    "series_fit_all_entries": (
+        "src/prometheus/series.rt",
+        "        has_series(format) && are_of(self.instances.as_slice(), entries)",
+        "        has_series(format) && self.instances.len() == entries.len()",
+    ),
+    "series_never_fit": (
+        "src/prometheus/series.rt",
+        "        has_series(format) && are_of(self.instances.as_slice(), entries)",
+        "        false",
+    ),
+    "open_metrics_as_prometheus_by_series": (
+        "src/prometheus/series.rt",
+        "            Format::OpenMetrics => Exposition::OpenMetrics,",
+        "            Format::OpenMetrics => Exposition::Prometheus,",
+    ),
+    "series_after_the_last_text": (
+        "src/prometheus/series.rt",
+        "        text.clear();\n        put_by(",
+        "        put_by(",
+    ),
+    "series_of_one_engine": (
+        "src/prometheus/series.rt",
+        "    instance.engine.as_slice() == entry.engine() && instance.name == *entry.name()",
+        "    instance.engine.as_slice() == entry.engine()",
+    ),
+    "series_by_their_names_alone": (
+        "src/prometheus/series.rt",
+        "    instance.engine.as_slice() == entry.engine() && instance.name == *entry.name()",
+        "    instance.name == *entry.name()",
+    ),
+    "the_first_instances_are_all": (
+        "src/prometheus/series.rt",
+        "        return entries.is_empty();",
+        "        return true;",
+    ),
     "no_metric_of_dropped_notifications": (
         "src/prometheus/station.rt",
         "    put_dropped(format, text, station, figures.notifications_dropped)?;\n",
