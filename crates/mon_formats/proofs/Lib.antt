@@ -11,3 +11,4 @@ pub mod Pushed
 pub mod Samples
 pub mod Sound
 mod LabelTexts
+mod Series

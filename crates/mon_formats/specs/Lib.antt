@@ -4,5 +4,6 @@ pub mod Json
 pub mod Sound
 pub mod Prometheus
 pub mod LabelTexts
+pub mod Series
 pub mod FormatWord
 pub mod Formats

@@ -19,7 +19,7 @@ use Rattle.mon_rates.specs.Part.{is_counter}
 use Rattle.mon_alarms.specs.Rule.{Rule}
 use Rattle.mon_alarms.specs.declared.alarm.AlarmState.{AlarmState}
 use Rattle.mon_alarms.specs.declared.alarm.AlarmState.TheVariants.{Clear, Raised}
-use Rattle.mon_report.specs.Report.{Entry, rate_text}
+use Rattle.mon_report.specs.Report.{rate_text}
 use Rattle.mon_report.specs.declared.alarms.Alarm.{Alarm as AnAlarm}
 use Rattle.mon_page.specs.Freshness.{fresh}
 use Rattle.mon_page.specs.Labelled.{Labelled}

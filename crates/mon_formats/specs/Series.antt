@@ -7,6 +7,8 @@ use Rattle.mon_page.specs.declared.extras.InstanceLabels.{InstanceLabels}
 use Rattle.mon_page.specs.Labelled.{labelled}
 use Rattle.mon_formats.specs.declared.format.Format.{Format}
 use Rattle.mon_formats.specs.declared.format.Format.TheVariants.{Prometheus, OpenMetrics}
+use Rattle.mon_formats.specs.declared.prometheus.text.Exposition.{Exposition}
+use Rattle.mon_formats.specs.declared.prometheus.text.Exposition.TheVariants as expositions
 use Rattle.mon_formats.specs.Prometheus.{instance_labels}
 
 -- instances, and of each the labels of its series
@@ -30,3 +32,9 @@ abbrev pub HasSeries : Format → Type 0
 HasSeries Prometheus = Unit {0}
 HasSeries OpenMetrics = Unit {0}
 HasSeries other = ⊥
+
+-- which of the formats that Prometheus reads it is
+abbrev pub IsExposition : Format → Exposition → Type 0
+IsExposition Prometheus e = e ≡ expositions.Prometheus
+IsExposition OpenMetrics e = e ≡ expositions.OpenMetrics
+IsExposition other e = ⊥

@@ -60,7 +60,7 @@ impl Format {
 /// | `labels` | Prometheus' text, OpenMetrics, a table and a page |
 /// | `presentation.label`, `presentation.file_age` | a page |
 /// | `presentation.sort` | a table |
-/// | `presentation.station` | Prometheus' text, OpenMetrics: each series of an instance has it as a label |
+/// | `presentation.station` | Prometheus' text, OpenMetrics: a label of each series of an instance |
 ///
 /// # Errors
 /// `AllocError` if there is no memory for it.

@@ -3,7 +3,7 @@
 ghost use Rattle.std.specs.Prelude.{◌≡◌, ◌↔◌, ℕ, IfOk, IsTrue, List, map, option_map};
 ghost use Rattle.mon_board.specs.Instance.{instances_of, named};
 ghost use Rattle.mon_formats.specs.Formats.{formatted};
-ghost use Rattle.mon_formats.specs.Series.{AreOf, AreSeries, HasSeries};
+ghost use Rattle.mon_formats.specs.Series.{AreOf, AreSeries, HasSeries, IsExposition};
 
 use crate::format::Format;
 use crate::prometheus::text::Exposition;
@@ -34,7 +34,7 @@ impl Drop for SeriesLabels {
 }
 
 impl Model for SeriesLabels {
-    ghost use Rattle.std.specs.Prelude.{map};
+    ghost use Rattle.std.specs.Prelude.{◌≡◌, length, map};
     ghost use Rattle.mon_formats.specs.Series.{Series};
 
     ghost Value = { Series };
@@ -43,6 +43,8 @@ impl Model for SeriesLabels {
       instances = s.instances.items;
       texts = map (λ t. t.items) s.texts.items;
     } };
+
+    ghost invariant = { λ s. length s.texts.items ≡ length s.instances.items };
 }
 
 impl SeriesLabels {
@@ -93,13 +95,10 @@ impl SeriesLabels {
             ≡ formatted format shown entries.now (option_map (λ f. f.now) extras.entry.station)
             extras.entry.labels.now extras.entry.presentation.now) }
     {
-        let exposition = match format {
-            Format::OpenMetrics => Exposition::OpenMetrics,
-            _ => Exposition::Prometheus,
-        };
         let mut text = buffer;
         text.clear();
-        put_by(exposition, &mut text, entries, self.texts.as_slice(), extras)?;
+        let texts = self.texts.as_slice();
+        put_by(exposition_of(format), &mut text, entries, texts, extras)?;
         Ok(text)
     }
 }
@@ -138,6 +137,17 @@ fn copies_of(alloc: Global, watched: &[Watched]) -> Result<Vec<Instance>, AllocE
         copies.push(Instance { engine, name })?;
     }
     Ok(copies)
+}
+
+/// Returns which of the formats that Prometheus reads this one is.
+fn exposition_of(format: Format) -> Exposition
+    requires { HasSeries format }
+    ensures { IsExposition format result }
+{
+    match format {
+        Format::OpenMetrics => Exposition::OpenMetrics,
+        _ => Exposition::Prometheus,
+    }
 }
 
 /// Returns `true` if instances have series in this format.

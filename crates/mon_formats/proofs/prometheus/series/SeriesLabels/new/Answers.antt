@@ -1,4 +1,5 @@
-use Rattle.std.proofs.Common.{◌≡◌, ◌∙◌, sym}
+use Rattle.std.proofs.Common.{◌∙◌, sym, ap, map}
+use Rattle.mon_board.specs.Instance.{named}
 use Rattle.mon_formats.proofs.Series.{same_labels}
 use Rattle.mon_formats.proofs.prometheus.series.SeriesLabels.new.Goals as goal
 
@@ -6,7 +7,11 @@ pub returns : goal.returns
 returns g c =
     let shown = g.S.NameTexts.shown c.args.names.now in
     let given = c.args.given.now in
+    let bare = c.as_slice.result.now in
     record {
-      instances = c.in_ok-copies_of.ensures;
-      labels = λ entries are. same_labels c.args.station shown given entries c.in_ok-bare_entries.field-0.items (are ∙ c.in_ok-copies_of.ensures ∙ sym c.in_ok-bare_entries.ensures) ∙ c.in_ok-label_texts.ensures.texts.texts_are;
+      instances = c.in_ok-instances.ensures;
+      labels = λ entries are.
+          same_labels c.args.station shown given entries bare
+          (are ∙ c.in_ok-instances.ensures ∙ sym c.in_ok-entries.ensures ∙ ap (map (λ e. named e.engine e.name)) (sym c.as_slice.ensures.value))
+          ∙ c.in_ok-texts.ensures.texts.texts_are;
     }
