@@ -1,7 +1,6 @@
 """A lab: an agent and two stations of examples/ on free ports of loopback, in a folder of their own."""
 import re
 import signal
-import socket
 import subprocess
 import tempfile
 import time
@@ -9,17 +8,12 @@ from pathlib import Path
 
 from library.cases import Case
 from library.crates import TOP
+from library.ports import free_port
 
 # How long a process may take for what is waited for.
 SECONDS = 180
 # What `report` says of a file's age.
 AGE = re.compile(r"^snmpmon: \S+ was saved \d+ s ago\n")
-
-
-def free_port():
-    with socket.socket(socket.AF_INET, socket.SOCK_DGRAM) as port:
-        port.bind(("127.0.0.1", 0))
-        return port.getsockname()[1]
 
 
 class Lab:

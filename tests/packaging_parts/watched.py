@@ -1,5 +1,4 @@
 """Two stations that are peers, their agents, and Prometheus with the installed rules."""
-import contextlib
 import json
 import shutil
 import socket
@@ -8,7 +7,7 @@ import time
 import urllib.parse
 import urllib.request
 
-from library.lab import free_port
+from library.ports import free_port
 from packaging_parts.common import PACKAGING, TOP, holds, same
 
 FOLDER = PACKAGING / "prometheus"
@@ -42,22 +41,6 @@ def replace(path, *changes):
     path.write_text(text)
 
 
-def free_ports(count):
-    """Ports from 20100 on that nobody has, each another one."""
-    found = []
-    with contextlib.ExitStack() as held:
-        for port in range(20100, 32000):
-            tried = held.enter_context(socket.socket())
-            try:
-                tried.bind(("127.0.0.1", port))
-            except OSError:
-                continue
-            found.append(port)
-            if len(found) == count:
-                return found
-    raise AssertionError("no port is free")
-
-
 def asked(port, path, **query):
     with urllib.request.urlopen(
         f"http://127.0.0.1:{port}/api/v1/{path}?{urllib.parse.urlencode(query, doseq=True)}",
@@ -81,7 +64,7 @@ class Watched:
 
     def __init__(self, lab, stack):
         self.lab, self.stack, self.folder = lab, stack, lab.folder / "prometheus"
-        self.ports = free_ports(4)
+        self.ports = [free_port() for _ in range(4)]
         self.agent, self.stations = lab.agent(), {}
         self.device = f"127.0.0.1:{lab.ports['16110']}"
 
