@@ -144,7 +144,7 @@ def figures_of_run(root, sandbox):
     prom.unlink(missing_ok=True)
     station = sandbox.start(log)
     try:
-        for _ in range(200):
+        for _ in range(1800):
             if prom.is_file() or station.poll() is not None:
                 break
             time.sleep(0.1)
@@ -152,7 +152,7 @@ def figures_of_run(root, sandbox):
         holds(f"the station ended: {log.read_text()[-400:]}", station.poll() is None)
         figures = prom.read_text()
         station.terminate()
-        same("how the station ended at SIGTERM", station.wait(timeout=20), -signal.SIGTERM)
+        same("how the station ended at SIGTERM", station.wait(timeout=60), -signal.SIGTERM)
     finally:
         station.kill()
         station.wait()

@@ -8,6 +8,7 @@ import urllib.parse
 import urllib.request
 
 from library.ports import free_port
+from library.web import get
 from packaging_parts.common import PACKAGING, TOP, holds, same
 
 FOLDER = PACKAGING / "prometheus"
@@ -47,6 +48,14 @@ def asked(port, path, **query):
         timeout=60,
     ) as reply:
         return json.load(reply)["data"]
+
+
+def is_healthy(port):
+    """Returns True if a station has ended a round."""
+    try:
+        return get(("127.0.0.1", port), "/healthz")[0].startswith("HTTP/1.1 200 ")
+    except OSError:
+        return False
 
 
 def silent_address(stack):
@@ -92,6 +101,7 @@ class Watched:
             file.write(PEER.format(silent_address(self.stack)))
 
     def start_stations(self):
+        """Starts both, and waits until each has ended a round."""
         lab = self.lab
         names = ("--names", "-m", str(TOP / "examples/served.mib"), "--station-label")
         end = time.monotonic() + SECONDS
@@ -104,6 +114,8 @@ class Watched:
             http_words = ("--labels", "labels.toml", "--http", f"127.0.0.1:{port}")
             words = ("--interval", "1", *names, *http_words)
             self.stations[which] = lab.station(which, 100000, *words)
+        for port in self.ports[:2]:
+            self.wait_for("a round", lambda port=port: is_healthy(port))
 
     def write_settings(self):
         """The installed files, with ports of this lab and shorter times."""
