@@ -1,7 +1,6 @@
 """Agents on loopback that serve interfaces, settings of stations that poll them, and the processor time of processes."""
 import os
 import resource
-import socket
 import subprocess
 import sys
 import time
@@ -10,6 +9,7 @@ from pathlib import Path
 
 TOP = Path(__file__).resolve().parent.parent
 sys.path.append(str(TOP / "tests"))
+from library.ports import free_port  # noqa: E402
 from models import images  # noqa: E402
 from models import slots  # noqa: E402
 
@@ -64,9 +64,7 @@ class Net:
 
     def __init__(self, folder, agents, each):
         self.folder, self.agents, self.processes = Path(folder), [], []
-        with socket.socket(socket.AF_INET, socket.SOCK_DGRAM) as free:
-            free.bind(("127.0.1.1", 0))
-            port = free.getsockname()[1]
+        port = free_port()
         for number in range(agents):
             host = f"127.0.{1 + number // 250}.{1 + number % 250}"
             self.start(f"{host}:{port}", f"80000000{number + 1:04x}", range(number * each + 1, (number + 1) * each + 1))

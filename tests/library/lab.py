@@ -1,14 +1,18 @@
 """A lab: an agent and two stations of examples/ on free ports of loopback, in a folder of their own."""
 import re
 import signal
-import socket
 import subprocess
 import tempfile
 import time
+import tomllib
 from pathlib import Path
 
 from library.cases import Case
 from library.crates import TOP
+from library.ports import free_port
+from models import images
+from models import slots
+from models import watches
 
 # How long a process may take for what is waited for.
 SECONDS = 180
@@ -16,10 +20,15 @@ SECONDS = 180
 AGE = re.compile(r"^snmpmon: \S+ was saved \d+ s ago\n")
 
 
-def free_port():
-    with socket.socket(socket.AF_INET, socket.SOCK_DGRAM) as port:
-        port.bind(("127.0.0.1", 0))
-        return port.getsockname()[1]
+def wait_until(what, lasting=0):
+    """Waits until this has been true for so many seconds. Returns False if that takes too long."""
+    end, since = time.monotonic() + SECONDS, None
+    while time.monotonic() < end:
+        since = (since or time.monotonic()) if what() else None
+        if since and time.monotonic() - since >= lasting:
+            return True
+        time.sleep(0.1)
+    return False
 
 
 class Lab:
@@ -83,6 +92,15 @@ class Lab:
         """What `report` prints, what else it says than how old the file is, and its status."""
         out, err, status = self.run("report", *words)
         return out, AGE.sub("", err, count=1), status
+
+    def windows(self, settings):
+        """The windows in the file of a station, by instance, as models read it; none while they can't, as within a save."""
+        path = self.folder / settings
+        watch, file = watches.watch_of(path), self.folder / tomllib.loads(path.read_text())["file"]
+        try:
+            return {(it.engine, it.name): records for it, records in zip(watch, watches.saved(file, watch)[1])}
+        except (images.Refused, slots.Refused):
+            return {}
 
     def close(self):
         for process, *streams in self.running:

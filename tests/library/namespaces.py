@@ -12,6 +12,8 @@ import socket
 import subprocess
 from contextlib import contextmanager, nullcontext
 
+from library.ports import free_port
+
 LIBC = ctypes.CDLL(None, use_errno=True)
 NEW_NETWORK = 0x40000000
 # SO_TIMESTAMPNS: the system tells of each datagram when it came.
@@ -117,14 +119,15 @@ class Loopback:
     """The same on loopback."""
 
     def __init__(self, count, reason):
-        self.count, self.first, self.name = count, 0, f"on loopback: no network namespaces here ({reason})"
+        self.name = f"on loopback: no network namespaces here ({reason})"
+        self.ports, self.before = ([free_port() for _ in range(count)] for _ in range(2))
 
-    def of_world(self, seed):
-        """The hosts' ports are below those that the system gives away, so that nobody takes one while its host is dead."""
-        self.first = 12000 + seed * self.count % 20000
+    def of_world(self, _seed):
+        """From now on the hosts are at other ports than in the world before."""
+        self.ports, self.before = self.before, self.ports
 
     def address(self, host):
-        return "127.0.0.1", self.first + host
+        return "127.0.0.1", self.ports[host - 1]
 
     def listening(self, host):
         return bound(self.address(host))

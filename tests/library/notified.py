@@ -8,7 +8,6 @@ import time
 from pathlib import Path
 from typing import NamedTuple
 
-from library.lab import free_port
 from library.logged import Logged
 from library.namespaces import TIMESTAMP
 from library.responder import UdpThread, response_to, stamp
@@ -105,9 +104,9 @@ class Rules(NamedTuple):
     devices: dict
 
 
-def settings(folder, devices, number=1, name="station", wait=200, listen=None, peers=()):
-    """Writes settings of a station, with an alarm on each gauge. Its rules."""
-    text = STATION.format(number=number, listen=listen or free_port(), name=name, wait=wait)
+def settings(folder, devices, number=1, name="station", wait=200, listen=0, peers=()):
+    """Writes settings of a station, with an alarm on each gauge. It takes a free port if it is given none. Its rules."""
+    text = STATION.format(number=number, listen=listen, name=name, wait=wait)
     alarms, targets, rules = {}, {}, ""
     for device in devices:
         label = "" if device.label is None else f'label = "{device.label}"\n'

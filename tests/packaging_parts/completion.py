@@ -37,8 +37,8 @@ def lines():
 
 
 def read_until(terminal, wanted):
-    """What a terminal shows until this text comes, at most for thirty seconds."""
-    shown, end = "", time.monotonic() + 30
+    """What a terminal shows until this text comes, at most for three minutes."""
+    shown, end = "", time.monotonic() + 180
     while wanted not in shown and select.select([terminal], [], [], end - time.monotonic())[0]:
         # A space that is taken back, as zsh's after a word, is not shown.
         shown = (shown + os.read(terminal, 4096).decode(errors="replace")).replace(" \x08", "")

@@ -12,11 +12,12 @@ import time
 from pathlib import Path
 
 from library.lab import Lab
+from library.ports import free_port
 from library.web import get
 from packaging_parts import manifests
 from packaging_parts.common import PACKAGING, TOP, LeftOut, holds, need, ran, run, same
 from packaging_parts.packages import digest
-from packaging_parts.watched import free_ports, replace
+from packaging_parts.watched import replace
 from packaging_parts.service import need_root
 
 NAME = "snmpmon:tested"
@@ -261,7 +262,7 @@ class Edge:
     def __init__(self, podman, lab):
         self.podman, self.lab = podman, lab
         self.prefix, self.more = self.find_way()
-        self.address = "127.0.0.1", free_ports(1)[0]
+        self.address = "127.0.0.1", free_port()
         self.write_settings(lab.ports["16110"], lab.ports["16102"])
 
     def write_settings(self, first, second):

@@ -16,6 +16,7 @@ import tempfile
 import time
 from pathlib import Path
 
+from library.ports import free_port
 from packaging_parts.common import PACKAGING, LeftOut, holds, need, ran, same
 from packaging_parts.dashboard import SAMPLE, metrics_of
 from packaging_parts.packages import digest
@@ -101,24 +102,10 @@ def within(root, words, cwd="/"):
     ).stdout
 
 
-def free_port():
-    for port in range(20500, 32000):
-        with socket.socket(socket.AF_INET, socket.SOCK_DGRAM) as tried:
-            try:
-                tried.bind(("127.0.0.1", port))
-                return port
-            except OSError:
-                pass
-    raise AssertionError("no port is free")
-
-
 def write_settings(root):
     """Writes the settings of an agent and of a station over it, by the package's examples."""
     examples = root.folder / "usr/share/doc/snmpmon/examples"
-    agent_at = free_port()
-    with socket.socket(socket.AF_INET, socket.SOCK_DGRAM) as held:
-        held.bind(("127.0.0.1", agent_at))
-        station_at = free_port()
+    agent_at, station_at = free_port(), free_port()
     agent = (
         (examples / "agent.toml").read_text().replace("127.0.0.1:16100", f"127.0.0.1:{agent_at}")
     )
@@ -157,7 +144,7 @@ def figures_of_run(root, sandbox):
     prom.unlink(missing_ok=True)
     station = sandbox.start(log)
     try:
-        for _ in range(200):
+        for _ in range(1800):
             if prom.is_file() or station.poll() is not None:
                 break
             time.sleep(0.1)
@@ -165,7 +152,7 @@ def figures_of_run(root, sandbox):
         holds(f"the station ended: {log.read_text()[-400:]}", station.poll() is None)
         figures = prom.read_text()
         station.terminate()
-        same("how the station ended at SIGTERM", station.wait(timeout=20), -signal.SIGTERM)
+        same("how the station ended at SIGTERM", station.wait(timeout=60), -signal.SIGTERM)
     finally:
         station.kill()
         station.wait()

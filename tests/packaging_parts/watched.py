@@ -1,5 +1,4 @@
 """Two stations that are peers, their agents, and Prometheus with the installed rules."""
-import contextlib
 import json
 import shutil
 import socket
@@ -8,7 +7,8 @@ import time
 import urllib.parse
 import urllib.request
 
-from library.lab import free_port
+from library.ports import free_port
+from library.web import get
 from packaging_parts.common import PACKAGING, TOP, holds, same
 
 FOLDER = PACKAGING / "prometheus"
@@ -42,28 +42,20 @@ def replace(path, *changes):
     path.write_text(text)
 
 
-def free_ports(count):
-    """Ports from 20100 on that nobody has, each another one."""
-    found = []
-    with contextlib.ExitStack() as held:
-        for port in range(20100, 32000):
-            tried = held.enter_context(socket.socket())
-            try:
-                tried.bind(("127.0.0.1", port))
-            except OSError:
-                continue
-            found.append(port)
-            if len(found) == count:
-                return found
-    raise AssertionError("no port is free")
-
-
 def asked(port, path, **query):
     with urllib.request.urlopen(
         f"http://127.0.0.1:{port}/api/v1/{path}?{urllib.parse.urlencode(query, doseq=True)}",
         timeout=60,
     ) as reply:
         return json.load(reply)["data"]
+
+
+def is_healthy(port):
+    """Returns True if a station has ended a round."""
+    try:
+        return get(("127.0.0.1", port), "/healthz")[0].startswith("HTTP/1.1 200 ")
+    except OSError:
+        return False
 
 
 def silent_address(stack):
@@ -81,7 +73,7 @@ class Watched:
 
     def __init__(self, lab, stack):
         self.lab, self.stack, self.folder = lab, stack, lab.folder / "prometheus"
-        self.ports = free_ports(4)
+        self.ports = [free_port() for _ in range(4)]
         self.agent, self.stations = lab.agent(), {}
         self.device = f"127.0.0.1:{lab.ports['16110']}"
 
@@ -109,6 +101,7 @@ class Watched:
             file.write(PEER.format(silent_address(self.stack)))
 
     def start_stations(self):
+        """Starts both, and waits until each has ended a round."""
         lab = self.lab
         names = ("--names", "-m", str(TOP / "examples/served.mib"), "--station-label")
         end = time.monotonic() + SECONDS
@@ -121,6 +114,8 @@ class Watched:
             http_words = ("--labels", "labels.toml", "--http", f"127.0.0.1:{port}")
             words = ("--interval", "1", *names, *http_words)
             self.stations[which] = lab.station(which, 100000, *words)
+        for port in self.ports[:2]:
+            self.wait_for("a round", lambda port=port: is_healthy(port))
 
     def write_settings(self):
         """The installed files, with ports of this lab and shorter times."""
