@@ -17,7 +17,7 @@ use Rattle.mon_exchange.specs.declared.fault.ExchangeFault.{ExchangeFault}
 use Rattle.mon_station.specs.Lived.{HandledIn, IsImageOf, IsLeftAlone, IsLived, IsOrigin, Reopens, answer_in, entries_of, last_state, saved_states}
 use Rattle.mon_station.specs.ReadEvent.{ReadEvent, StartPoll, Timeout, FromAgent, FromPeer, Share, Save, Said, ReadsAs, OwnedEvent}
 use Rattle.mon_station.specs.Saved.{FindsRunning, FindsState, IsBegun, IsOfKeeper, IsSavedAs, OrLast}
-use Rattle.mon_station.specs.State.{State, IsHandled, known_after, known_of, marks_after, next_serial, setting_of}
+use Rattle.mon_station.specs.State.{State, IsHandled, known_of, marks_after, setting_of}
 use Rattle.mon_station.specs.Stops.{IsDiskAfter, OrSaved}
 use Rattle.mon_station.specs.Taken.{Answered, Entry, Nothing, Origin, Other, Restart, Saved, at_place, taken}
 use Rattle.mon_station.specs.Told.{IsAnswered}
@@ -28,6 +28,7 @@ use Rattle.mon_window.specs.Top.{top}
 use Rattle.mon_window.specs.Window.{In, Samples}
 use Rattle.mon_window.proofs.Promised.{union_none}
 use Rattle.mon_board.proofs.Promised.{kept_twice}
+use Rattle.mon_station.proofs.Quiet.{quiet_fault}
 
 -- ---- an epoch of the window's size
 pub newest_kept : ((boots : ℕ → ℕ) (n : ℕ) (a : Samples) → keep boots n n a ≡ top n a) → (s : State) (i : ℕ) (a : Samples) → epoch_of s.board.watch i ≡ size_of s.board.watch i
@@ -58,30 +59,8 @@ module _ (windows : (history : List (Entry × State)) (s : State) → IsLived hi
       kept = and_true (is_marked old.board k i s) _ _ here (ap (λ (w : Samples). set.contains w s) (same i) ∙ here)
 
       as_kept : (e : ReadEvent) → marks_after (setting_of old) (known_of old) e (Some f) (window_of old.board) (window_of new.board) (is_marked old.board) k i s ≡ is_marked old.board k i s
-      as_kept (StartPoll t) = kept
-      as_kept (Timeout id) = kept
-      as_kept (FromAgent from read) = kept
       as_kept (FromPeer (Ok said)) = kept
-      as_kept (FromPeer (Err g)) = kept
-      as_kept (Share y) = kept
-      as_kept Save = kept
-
-  refused_known : (e : ReadEvent) (f : StationFault) (known : ℕ → Option ℕ) (y : ℕ) → known_after e (Some f) known y ≡ known y
-  refused_known (StartPoll t) f known y = refl
-  refused_known (Timeout id) f known y = refl
-  refused_known (FromAgent from read) f known y = refl
-  refused_known (FromPeer (Ok said)) f known y = refl
-  refused_known (FromPeer (Err g)) f known y = refl
-  refused_known (Share peer) f known y = refl
-  refused_known Save f known y = refl
-
-  refused_serial : (s : State) (e : ReadEvent) (f : StationFault) → next_serial s e (Some f) ≡ s.serial
-  refused_serial s (StartPoll t) f = refl
-  refused_serial s (Timeout id) f = refl
-  refused_serial s (FromAgent from read) f = refl
-  refused_serial s (FromPeer said) f = refl
-  refused_serial s (Share peer) f = refl
-  refused_serial s Save f = refl
+      as_kept e = kept
 
   handled_from : (life : Option State) (old new : State) (e : ReadEvent) (answer : Option StationFault) → life ≡ Some old → HandledIn life e answer new → IsHandled e answer old new
   handled_from life old new e answer is h = subst (λ (o : Option State). HandledIn o e answer new) is h
@@ -94,9 +73,9 @@ module _ (windows : (history : List (Entry × State)) (s : State) → IsLived hi
         setting = h.after.setting;
         windows = same;
         marks = refused_marks e f old new h same;
-        known = λ y. h.after.known y ∙ refused_known e f _ y;
+        known = λ y. h.after.known y ∙ sym ((quiet_fault old e f).known y);
         incarnation = h.after.incarnation;
-        serial = h.after.serial ∙ refused_serial old e f;
+        serial = h.after.serial ∙ sym (quiet_fault old e f).serial;
       }
 
 pub untaken : (past : List (Entry × State)) (new : State) (e : ReadEvent) (f : StationFault) (i : ℕ) → taken (entries_of ((Answered e (Some f), new) ∷ past)) i ≡ taken (entries_of past) i
@@ -137,11 +116,7 @@ module _ {D : Type 0} (seen : D → List ℕ) (may_leave : D → List ℕ → Ty
   pub quiet_disk : (watch : Watch) (event : OwnedEvent) (e : ReadEvent) (answer : Option StationFault) → (event ≡ Save → ⊥) → ReadsAs watch event e → new ≡ old
       → IsDiskAfter seen may_leave moment left_since saved s e answer old new
   quiet_disk watch event Save answer other reads same = absurd (other (save_read watch event reads))
-  quiet_disk watch event (StartPoll t) answer other reads same = same
-  quiet_disk watch event (Timeout id) answer other reads same = same
-  quiet_disk watch event (FromAgent from read) answer other reads same = same
-  quiet_disk watch event (FromPeer said) answer other reads same = same
-  quiet_disk watch event (Share y) answer other reads same = same
+  quiet_disk watch event e answer other reads same = same
 
   -- and a save does what it says
   pub saved_disk : (e : ReadEvent) (r : Result Told StationFault) → e ≡ Save → IfOk r (λ told. Leaves (may_leave new) (FindsState s)) → LeavesSince moment left_since old new (FindsRunning (OrSaved (may_leave old) saved) s)
@@ -178,13 +153,8 @@ handled_as old new e (Err f) answered = answered
 
 -- a fault of the keeper is a save's
 pub no_keeper : (old new : State) (e : ReadEvent) (f : StationFault) → (IsSave e → ⊥) → IsHandled e (Some f) old new → IsOfKeeper f → ⊥
-no_keeper old new e fault.OutOfMemory other h of = of
 no_keeper old new e (fault.Keeper k) other h of = other h.lawful
-no_keeper old new e (fault.Poll k) other h of = of
-no_keeper old new e (fault.Response k) other h of = of
-no_keeper old new e (fault.Exchange k) other h of = of
-no_keeper old new e (fault.Image k) other h of = of
-no_keeper old new e fault.NoMoreIncarnations other h of = of
+no_keeper old new e f other h of = of
 
 pub never_keeper : (old new : State) (e : ReadEvent) (P : Type 0) (r : Result Told StationFault) → (IsSave e → ⊥) → IsAnswered old new e r → IfErr r (λ f. IsOfKeeper f → P)
 never_keeper old new e P (Ok told) other answered = tt

@@ -35,13 +35,8 @@ pub record IsQuiet (s : State) (e : ReadEvent) (answer : Option StationFault) : 
   pub marks : (k : ℕ) → marks_after (setting_of s) (known_of s) e answer (window_of s.board) (window_of s.board) (is_marked s.board) k ≡ kept_marks (window_of s.board) (window_of s.board) (is_marked s.board k)
 
 pub quiet_fault : (s : State) (e : ReadEvent) (f : StationFault) → IsQuiet s e (Some f)
-quiet_fault s (StartPoll t) f = record { nothing = refl; serial = refl; known = λ y. refl; marks = λ k. refl }
-quiet_fault s (Timeout id) f = record { nothing = refl; serial = refl; known = λ y. refl; marks = λ k. refl }
-quiet_fault s (FromAgent a r) f = record { nothing = refl; serial = refl; known = λ y. refl; marks = λ k. refl }
 quiet_fault s (FromPeer (Ok said)) f = record { nothing = refl; serial = refl; known = λ y. refl; marks = λ k. refl }
-quiet_fault s (FromPeer (Err e)) f = record { nothing = refl; serial = refl; known = λ y. refl; marks = λ k. refl }
-quiet_fault s (Share y) f = record { nothing = refl; serial = refl; known = λ y. refl; marks = λ k. refl }
-quiet_fault s Save f = record { nothing = refl; serial = refl; known = λ y. refl; marks = λ k. refl }
+quiet_fault s e f = record { nothing = refl; serial = refl; known = λ y. refl; marks = λ k. refl }
 
 -- what such an event leaves: everything except the polls
 pub quiet_after : (s : State) → IsSettled s → (e : ReadEvent) (answer : Option StationFault) → IsQuiet s e answer → (polls : Polls) → polls ≡ polls_after (setting_of s) e answer s.poller.polls → IsAfter e answer s (left_polls s polls)

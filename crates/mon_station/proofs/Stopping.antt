@@ -125,11 +125,7 @@ still_saved : {D : Type 0} (seen : D → List ℕ) (first : D) (e : ReadEvent) (
     → (s : State) → saved_after e answer (running past) (last_saved past) ≡ Some s → FoundAfter e answer (running past) (MayFind seen first past) (Some s)
 still_saved seen first Save None past may s is = (s, is, refl)
 still_saved seen first Save (Some f) past may s is = inl (may s is)
-still_saved seen first (StartPoll target) answer past may s is = may s is
-still_saved seen first (Timeout id) answer past may s is = may s is
-still_saved seen first (FromAgent from read) answer past may s is = may s is
-still_saved seen first (FromPeer said) answer past may s is = may s is
-still_saved seen first (Share peer) answer past may s is = may s is
+still_saved seen first e answer past may s is = may s is
 
 saved_may : {D : Type 0} (seen : D → List ℕ) (first : D) (past : List (Happening × D)) (s : State) → last_saved past ≡ Some s → MayFind seen first past (Some s)
 saved_may seen first [] s is = absurd cc
@@ -207,11 +203,7 @@ module _ (read_back : (watch : Watch) (board again : Board) (incarnation read : 
     handled_bound : (past : List (Happening × D)) (e : ReadEvent) (answer : Option StationFault) → IsSound past → (save : Option State) → FoundAfter e answer (running past) (MayFind seen first past) save → Bounds (begun_in past) save
     handled_bound past Save None sound save may = running_bound (begun_in past) (running past) sound.runs save may
     handled_bound past Save (Some f) sound save may = running_or past sound save may
-    handled_bound past (StartPoll target) answer sound save may = sound.bound save may
-    handled_bound past (Timeout id) answer sound save may = sound.bound save may
-    handled_bound past (FromAgent from read) answer sound save may = sound.bound save may
-    handled_bound past (FromPeer said) answer sound save may = sound.bound save may
-    handled_bound past (Share peer) answer sound save may = sound.bound save may
+    handled_bound past e answer sound save may = sound.bound save may
 
     still : (May : Option State → Type 0) (old new : D) → new ≡ old → Leaves (may_leave old) (FindsOneOf May) → Leaves (may_leave new) (FindsOneOf May)
     still May old new same has = subst (λ disk. Leaves (may_leave disk) (FindsOneOf May)) (sym same) has
@@ -223,11 +215,7 @@ module _ (read_back : (watch : Watch) (board again : Board) (incarnation read : 
     handled_left May saved (Some s) may Save (Some f) old new sound has is = λ file left.
         running_either May (OrSaved (may_leave old) saved) (Some s) (or_saved May (may_leave old) saved may has) file
         (at_end moment left_since may_leave old new (FindsRunning (OrSaved (may_leave old) saved) s) (λ t c. counts new t c sound) is file left)
-    handled_left May saved (Some s) may (StartPoll target) answer old new sound has is = still May old new is has
-    handled_left May saved (Some s) may (Timeout id) answer old new sound has is = still May old new is has
-    handled_left May saved (Some s) may (FromAgent from read) answer old new sound has is = still May old new is has
-    handled_left May saved (Some s) may (FromPeer said) answer old new sound has is = still May old new is has
-    handled_left May saved (Some s) may (Share peer) answer old new sound has is = still May old new is has
+    handled_left May saved (Some s) may e answer old new sound has is = still May old new is has
 
     handled_runs : (lives : List State) (life : Option State) (e : ReadEvent) (answer : Option StationFault) (s : State) → RunsLate lives life → HandledIn life e answer s → IsAsLate lives s
     handled_runs lives None e answer s late h = absurd h

@@ -140,16 +140,12 @@ module _ (read_back : (watch : Watch) (board again : Board) (incarnation read : 
         windows = began w (saved_states past) (past_of (entries_of past)).saves origin s before.1 h.0;
       } in
       (is, (as_saved s _ is, before.1))
-  taken_as ((Answered (StartPoll t) answer, s) ∷ past) h = let before = taken_as past h.1 in (next (StartPoll t) answer (last_state past) s _ before.0 h.0, before.1)
-  taken_as ((Answered (Timeout id) answer, s) ∷ past) h = let before = taken_as past h.1 in (next (Timeout id) answer (last_state past) s _ before.0 h.0, before.1)
-  taken_as ((Answered (FromAgent from read) answer, s) ∷ past) h = let before = taken_as past h.1 in (next (FromAgent from read) answer (last_state past) s _ before.0 h.0, before.1)
-  taken_as ((Answered (FromPeer said) answer, s) ∷ past) h = let before = taken_as past h.1 in (next (FromPeer said) answer (last_state past) s _ before.0 h.0, before.1)
-  taken_as ((Answered (Share y) answer, s) ∷ past) h = let before = taken_as past h.1 in (next (Share y) answer (last_state past) s _ before.0 h.0, before.1)
   taken_as ((Answered Save answer, s) ∷ past) h =
       let before = taken_as past h.1 in (
         next Save answer (last_state past) s _ before.0 h.0,
         save_more (last_state past) Save answer s (past_of (entries_of past)) (saved_states past) before.0 h.0 before.1,
       )
+  taken_as ((Answered e answer, s) ∷ past) h = let before = taken_as past h.1 in (next e answer (last_state past) s _ before.0 h.0, before.1)
 
   pub windows_taken : (history : List (Entry × State)) (s : State) → IsLived history → last_state history ≡ Some s
       → (i : ℕ) → window_of s.board i ≡ kept_by s.board.watch i (taken (entries_of history) i)

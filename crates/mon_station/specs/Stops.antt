@@ -69,11 +69,7 @@ module _ {D : Type 0} (seen : D → List ℕ) (may_leave : D → List ℕ → Ty
   IsDiskAfter saved s Save None old new = Leaves (may_leave new) (FindsState s)
   IsDiskAfter saved s Save (Some f) old new = LeavesSince moment left_since old new
       (FindsRunning (OrSaved (may_leave old) saved) s)
-  IsDiskAfter saved s (StartPoll target) answer old new = new ≡ old
-  IsDiskAfter saved s (Timeout id) answer old new = new ≡ old
-  IsDiskAfter saved s (FromAgent from read) answer old new = new ≡ old
-  IsDiskAfter saved s (FromPeer said) answer old new = new ≡ old
-  IsDiskAfter saved s (Share peer) answer old new = new ≡ old
+  IsDiskAfter saved s e answer old new = new ≡ old
 
   -- the states that may be found, and that of the life that is running, if one is
   abbrev pub IsDiskAfterIn : Option State → Option State → ReadEvent → Option StationFault → D → D
@@ -115,12 +111,7 @@ running ((Stopped, disk) ∷ past) = None
 abbrev pub saved_after : ReadEvent → Option StationFault → (running saved : Option State)
     → Option State
 saved_after Save None running saved = running
-saved_after Save (Some f) running saved = saved
-saved_after (StartPoll target) answer running saved = saved
-saved_after (Timeout id) answer running saved = saved
-saved_after (FromAgent from read) answer running saved = saved
-saved_after (FromPeer said) answer running saved = saved
-saved_after (Share peer) answer running saved = saved
+saved_after e answer running saved = saved
 
 -- the state of that life that was saved last: that of its opening, or of the last save that was
 -- answered without a fault, as one after a move is
@@ -172,11 +163,7 @@ abbrev pub FoundAfter : ReadEvent → Option StationFault → Option State → (
     → Option State → Type 0
 FoundAfter Save None running before save = IsRunning running save
 FoundAfter Save (Some f) running before save = before save ⊎ IsRunning running save
-FoundAfter (StartPoll target) answer running before save = before save
-FoundAfter (Timeout id) answer running before save = before save
-FoundAfter (FromAgent from read) answer running before save = before save
-FoundAfter (FromPeer said) answer running before save = before save
-FoundAfter (Share peer) answer running before save = before save
+FoundAfter e answer running before save = before save
 
 -- What an opening may find after a history on a disk that had no save, None if it finds none: the
 -- last save that was acknowledged, which an opening's own is too, or one after it that was running

@@ -54,11 +54,7 @@ module _ (one_image : (octets : List ℕ) (instances : List Instance) (a b : Ima
   saved_sound ((Restart origin v, t) ∷ past) lived are zero s is = last_sound ((Restart origin v, t) ∷ past) lived are s is
   saved_sound ((Restart origin v, t) ∷ past) lived are (suc n) s is = saved_sound past lived.1 are.2 n s is
   saved_sound ((Answered Save answer, t) ∷ past) lived are n s is = front_sound (last_state past) (saved_states past) (last_sound past lived.1 are.1) (saved_sound past lived.1 are.1) n s is
-  saved_sound ((Answered (StartPoll target) answer, t) ∷ past) lived are n s is = saved_sound past lived.1 are.1 n s is
-  saved_sound ((Answered (Timeout id) answer, t) ∷ past) lived are n s is = saved_sound past lived.1 are.1 n s is
-  saved_sound ((Answered (FromAgent from read) answer, t) ∷ past) lived are n s is = saved_sound past lived.1 are.1 n s is
-  saved_sound ((Answered (FromPeer said) answer, t) ∷ past) lived are n s is = saved_sound past lived.1 are.1 n s is
-  saved_sound ((Answered (Share peer) answer, t) ∷ past) lived are n s is = saved_sound past lived.1 are.1 n s is
+  saved_sound ((Answered e answer, t) ∷ past) lived are n s is = saved_sound past lived.1 are.1 n s is
 
   -- a life that begins from the image of a sound state has its windows and the next incarnation
   reopened : (old s : State) → IsSound w.watch old → IsReopened w old s → ((i : ℕ) → window_of s.board i ≡ window_of old.board i) × (s.incarnation ≡ old.incarnation + 1)
