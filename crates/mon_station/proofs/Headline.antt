@@ -8,6 +8,7 @@ use Rattle.mon_board.specs.Watch.{Watch, epoch_of, size_of}
 use Rattle.mon_board.specs.Windows.{kept_by}
 use Rattle.mon_disk.specs.Disk.{Leaves, LeavesSince}
 use Rattle.mon_disk.specs.Keeper.{FindsBody}
+use Rattle.mon_disk.specs.declared.disk.Disk.{Ghosts}
 use Rattle.mon_saved.specs.Image.{SpellsImage}
 use Rattle.mon_saved.specs.Written.{image_of}
 use Rattle.mon_station.specs.declared.event.Told.{Told}
@@ -18,7 +19,7 @@ use Rattle.mon_station.specs.Lived.{HandledIn, IsImageOf, IsLeftAlone, IsLived, 
 use Rattle.mon_station.specs.ReadEvent.{ReadEvent, StartPoll, Timeout, FromAgent, FromPeer, Share, Save, Said, ReadsAs, OwnedEvent}
 use Rattle.mon_station.specs.Saved.{FindsRunning, FindsState, IsBegun, IsOfKeeper, IsSavedAs, OrLast}
 use Rattle.mon_station.specs.State.{State, IsHandled, known_of, marks_after, setting_of}
-use Rattle.mon_station.specs.Stops.{IsDiskAfter, OrSaved}
+use Rattle.mon_station.specs.Stops.{FindsRunningIn, IsDiskAfter, RunningLife}
 use Rattle.mon_station.specs.Taken.{Answered, Entry, Nothing, Origin, Other, Restart, Saved, at_place, taken}
 use Rattle.mon_station.specs.Told.{IsAnswered}
 use Rattle.mon_station.specs.Verdict.{IsSave, Setting}
@@ -111,19 +112,18 @@ save_read watch (FromPeer octets) is = absurd (let no : Save ≡ FromPeer is.0 =
 save_read watch (Share y) is = absurd (let no : Save ≡ Share y = is in cc)
 save_read watch Save is = refl
 
-module _ {D : Type 0} (seen : D → List ℕ) (may_leave : D → List ℕ → Type 0) (moment : D → ℕ) (left_since : D → ℕ → List ℕ → Type 0) (saved : Option State) (s : State) (old new : D) where
+module _ {D : Type 0} (G : Ghosts D) (life : RunningLife) (old new : D) where
   -- an event that is no save leaves it
-  pub quiet_disk : (watch : Watch) (event : OwnedEvent) (e : ReadEvent) (answer : Option StationFault) → (event ≡ Save → ⊥) → ReadsAs watch event e → new ≡ old
-      → IsDiskAfter seen may_leave moment left_since saved s e answer old new
+  pub quiet_disk : (watch : Watch) (event : OwnedEvent) (e : ReadEvent) (answer : Option StationFault) → (event ≡ Save → ⊥) → ReadsAs watch event e → new ≡ old → IsDiskAfter G life e answer old new
   quiet_disk watch event Save answer other reads same = absurd (other (save_read watch event reads))
   quiet_disk watch event e answer other reads same = same
 
   -- and a save does what it says
-  pub saved_disk : (e : ReadEvent) (r : Result Told StationFault) → e ≡ Save → IfOk r (λ told. Leaves (may_leave new) (FindsState s)) → LeavesSince moment left_since old new (FindsRunning (OrSaved (may_leave old) saved) s)
-      → IsDiskAfter seen may_leave moment left_since saved s e (answer_in r) old new
-  saved_disk e r is found since = subst (λ (x : ReadEvent). IsDiskAfter seen may_leave moment left_since saved s x (answer_in r) old new) (sym is) (at r found)
+  pub saved_disk : (e : ReadEvent) (r : Result Told StationFault) → e ≡ Save → IfOk r (λ told. Leaves (G.may_leave new) (FindsState life.now)) → LeavesSince G.moment G.left_since old new (FindsRunningIn (G.may_leave old) (Some life))
+      → IsDiskAfter G life e (answer_in r) old new
+  saved_disk e r is found since = subst (λ (x : ReadEvent). IsDiskAfter G life x (answer_in r) old new) (sym is) (at r found)
     where
-      at : (r : Result Told StationFault) → IfOk r (λ told. Leaves (may_leave new) (FindsState s)) → IsDiskAfter seen may_leave moment left_since saved s Save (answer_in r) old new
+      at : (r : Result Told StationFault) → IfOk r (λ told. Leaves (G.may_leave new) (FindsState life.now)) → IsDiskAfter G life Save (answer_in r) old new
       at (Ok told) found = found
       at (Err f) saved = since
 
@@ -131,7 +131,7 @@ module _ {D : Type 0} (seen : D → List ℕ) (may_leave : D → List ℕ → Ty
 saved_last : (s : State) (last : Option (List ℕ)) (c : List ℕ) → IsSavedAs s last → FindsBody last c → FindsState s c
 saved_last s last c saved finds = record { body = subst (λ (b : Option (List ℕ)). FindsBody b c) saved.octets finds; spells = saved.spells }
 
-pub running_saved : (outcomes : List ℕ → Type 0) (last : Option (List ℕ)) (saved s : State) → IsSavedAs saved last → (c : List ℕ) → FindsRunning (OrLast outcomes last) s c → FindsRunning (OrSaved outcomes (Some saved)) s c
+pub running_saved : (outcomes : List ℕ → Type 0) (last : Option (List ℕ)) (saved s : State) → IsSavedAs saved last → (c : List ℕ) → FindsRunning (OrLast outcomes last) s c → FindsRunningIn outcomes (Some (record { now = s; saved = saved })) c
 running_saved outcomes last saved s is c either = ⊎_elim
     (λ found. inl (found.0, ⊎_elim (λ left. inl left) (λ finds. inr (saved_last saved last found.0 is finds)) found.1, found.2))
     (λ finds. inr finds)

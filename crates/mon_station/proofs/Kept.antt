@@ -4,6 +4,7 @@ use Rattle.std.specs.Result.{IsErrAnd}
 use Rattle.std.proofs.lemmas.Bool.{cases_lt}
 use Rattle.mon_board.specs.Instance.{instances_of}
 use Rattle.mon_board.specs.Watch.{Watch}
+use Rattle.mon_disk.specs.declared.disk.Disk.{Ghosts}
 use Rattle.mon_disk.specs.declared.fault.KeeperFault.{KeeperFault}
 use Rattle.mon_disk.specs.declared.fault.KeeperFault.TheVariants as keeper
 use Rattle.mon_disk.specs.Disk.{Leaves, LeavesSince}
@@ -18,7 +19,7 @@ use Rattle.mon_station.specs.declared.fault.StationFault.{StationFault}
 use Rattle.mon_station.specs.declared.fault.StationFault.TheVariants as station
 use Rattle.mon_station.specs.Fault.{keeper_refusal}
 use Rattle.mon_station.specs.Mended.{IsMendedFault}
-use Rattle.mon_station.specs.Saved.{FindsBegun, FindsRunning, FindsState, IsBeginning, IsBegun, IsCausedBy, IsFaultOfBody, IsFaultOfFile, IsFirstSaveFault, IsForItsBody, IsOpeningFault, IsSaveFault, OrLast, saved_octets}
+use Rattle.mon_station.specs.Saved.{FindsBegun, FindsOpening, FindsRunning, FindsState, IsBeginning, IsBegun, IsCausedBy, IsFaultOfBody, IsFaultOfFile, IsFirstSaveFault, IsForItsBody, IsOpeningFault, IsSaveFault, OrLast, saved_octets}
 use Rattle.mon_station.specs.State.{State}
 use Rattle.mon_station.specs.Verdict.{Setting}
 
@@ -223,43 +224,42 @@ if_err_both (Ok a) P Q R p q f = tt
 if_err_both (Err e) P Q R p q f = f e p q
 
 -- ---- an opening of a station: an opening of its keeper, and perhaps the first save
-module _ {D : Type 0} (w : Setting) (seen : D → List ℕ) (may_leave : D → List ℕ → Type 0) (moment : D → ℕ) (left_since : D → ℕ → List ℕ → Type 0) (old mid : D)
-    (opened : IsOpening seen may_leave moment left_since old mid) where
+module _ {D : Type 0} (w : Setting) (G : Ghosts D) (old mid : D) (opened : IsOpening G.seen G.may_leave G.moment G.left_since old mid) where
   abbrev Raised : List ℕ → Type 0
-  Raised c = FindsBegun w (found_body (seen old)) c
+  Raised c = FindsBegun w (found_body (G.seen old)) c
 
   abbrev Begun : List ℕ → Type 0
-  Begun c = FindsAs (may_leave old) c ⊎ Raised c
+  Begun c = FindsOpening w (G.seen old) (G.may_leave old) c
 
-  first : LeavesSince moment left_since old mid Begun
-  first = weaker moment left_since may_leave old mid (FindsAs (may_leave old)) Begun (λ c found. inl found) opened.any_moment
+  first : LeavesSince G.moment G.left_since old mid Begun
+  first = weaker G.moment G.left_since G.may_leave old mid (FindsAs (G.may_leave old)) Begun (λ c found. inl found) opened.any_moment
 
   -- only the keeper
-  pub only_opened : IsBeginning w seen may_leave moment left_since old mid
+  pub only_opened : IsBeginning w G old mid
   only_opened = record {
     any_moment = first;
     settled = ⊎_elim (λ fewer. inl fewer) (λ same. inr (λ c left. inl (same c left))) opened.settled;
   }
 
   module _ (body : Option (List ℕ)) (new : D) (s : State) (begun : IsBegun w body s)
-      (counts_mid : (t : ℕ) (c : List ℕ) → t ≤ moment mid → may_leave mid c → left_since mid t c) (counts_new : (t : ℕ) (c : List ℕ) → t ≤ moment new → may_leave new c → left_since new t c)
-      (kept : Leaves (may_leave mid) (FindsBody body)) (here : FindsBody body (seen old))
-      (saving : LeavesSince moment left_since mid new (FindsRunning (may_leave mid) s)) where
-    from : Leaves (may_leave mid) (FindsAs (may_leave old))
-    from = at_end moment left_since may_leave old mid (FindsAs (may_leave old)) counts_mid opened.any_moment
+      (counts_mid : (t : ℕ) (c : List ℕ) → t ≤ G.moment mid → G.may_leave mid c → G.left_since mid t c) (counts_new : (t : ℕ) (c : List ℕ) → t ≤ G.moment new → G.may_leave new c → G.left_since new t c)
+      (kept : Leaves (G.may_leave mid) (FindsBody body)) (here : FindsBody body (G.seen old))
+      (saving : LeavesSince G.moment G.left_since mid new (FindsRunning (G.may_leave mid) s)) where
+    from : Leaves (G.may_leave mid) (FindsAs (G.may_leave old))
+    from = at_end G.moment G.left_since G.may_leave old mid (FindsAs (G.may_leave old)) counts_mid opened.any_moment
 
     raised : (c : List ℕ) → FindsState s c → Raised c
     raised c finds = (s, subst (λ (b : Option (List ℕ)). IsBegun w b s) (sym here.body_is) begun, finds)
 
     -- and the first save, however it ended
-    pub then_saved : IsBeginning w seen may_leave moment left_since old new
+    pub then_saved : IsBeginning w G old new
     then_saved = record {
-      any_moment = chained moment left_since may_leave old mid new Begun first
-          (weaker moment left_since may_leave mid new (FindsRunning (may_leave mid) s) Begun
-          (λ c either. ⊎_elim (λ found. inl (as_before (may_leave mid) (may_leave old) from c found)) (λ finds. inr (raised c finds)) either)
+      any_moment = chained G.moment G.left_since G.may_leave old mid new Begun first
+          (weaker G.moment G.left_since G.may_leave mid new (FindsRunning (G.may_leave mid) s) Begun
+          (λ c either. ⊎_elim (λ found. inl (as_before (G.may_leave mid) (G.may_leave old) from c found)) (λ finds. inr (raised c finds)) either)
           saving);
       settled = inr (λ c left. ⊎_elim
-          (λ found. inl (both_as body c (seen old) (as_found (may_leave mid) body kept c found) here))
+          (λ found. inl (both_as body c (G.seen old) (as_found (G.may_leave mid) body kept c found) here))
           (λ finds. inr (raised c finds))
-          (at_end moment left_since may_leave mid new (FindsRunning (may_leave mid) s) counts_new saving c left));
+          (at_end G.moment G.left_since G.may_leave mid new (FindsRunning (G.may_leave mid) s) counts_new saving c left));
     }
