@@ -15,6 +15,7 @@ use Rattle.mon_station.specs.declared.event.Told.{Told}
 use Rattle.mon_station.specs.declared.fault.StationFault.{StationFault}
 use Rattle.mon_station.specs.declared.fault.StationFault.TheVariants as fault
 use Rattle.mon_exchange.specs.declared.fault.ExchangeFault.{ExchangeFault}
+use Rattle.mon_station.specs.Alike.{WindowsAreOfTaken}
 use Rattle.mon_station.specs.Lived.{HandledIn, IsImageOf, IsLeftAlone, IsLived, IsOrigin, Reopens, answer_in, entries_of, last_state, saved_states}
 use Rattle.mon_station.specs.ReadEvent.{ReadEvent, StartPoll, Timeout, FromAgent, FromPeer, Share, Save, Said, ReadsAs, OwnedEvent}
 use Rattle.mon_station.specs.Saved.{FindsRunning, FindsState, IsBegun, IsOfKeeper, IsSavedAs, OrLast}
@@ -38,7 +39,7 @@ newest_kept whole s i a same kept = let n = size_of s.board.watch i in kept ∙ 
 
 -- ---- a refusal
 -- windows that are what is kept of something keep all of it
-module _ (windows : (history : List (Entry × State)) (s : State) → IsLived history → last_state history ≡ Some s → (i : ℕ) → window_of s.board i ≡ kept_by s.board.watch i (taken (entries_of history) i)) where
+module _ (windows : WindowsAreOfTaken) where
   same_windows : (past : List (Entry × State)) (old new : State) (e : ReadEvent) (f : StationFault) → IsLived past → last_state past ≡ Some old → IsHandled e (Some f) old new
       → (i : ℕ) → window_of new.board i ≡ window_of old.board i
   same_windows past old new e f lived is h i =

@@ -4,10 +4,10 @@ ghost use Rattle.std.specs.Prelude.{◌≡◌, ◌<◌, ◌∷◌, true, List, O
 ghost use Rattle.std.specs.List.{AllByRecursion};
 ghost use Rattle.mon_board.specs.Board.{window_of};
 ghost use Rattle.mon_board.specs.Watch.{Watch as AnyWatch, epoch_of, size_of};
-ghost use Rattle.mon_board.specs.Windows.{IsWhole, of_both, kept_by};
+ghost use Rattle.mon_board.specs.Windows.{IsWhole, of_both};
 ghost use Rattle.mon_disk.specs.Disk.{Leaves};
 ghost use Rattle.mon_disk.specs.Keeper.{is_undamaged};
-ghost use Rattle.mon_report.specs.Report.{report};
+ghost use Rattle.mon_station.specs.Alike.{EqualReports, EqualWindows, WindowsAreOfTaken};
 ghost use Rattle.mon_station.specs.declared.fault.StationFault.{StationFault};
 ghost use Rattle.mon_station.specs.Lived.{IsLeftAlone, IsLived, entries_of, last_state};
 ghost use Rattle.mon_station.specs.ReadEvent.{ReadEvent};
@@ -26,20 +26,9 @@ use mon_disk::Disk;
 /// equal watches that took the same samples, directly or through others, hold equal windows and
 /// print equal reports.
 pub fn taken()
-    ensures windows { (history : List (Entry × State)) (s : State) → IsLived history
-        → last_state history ≡ Some s
-        → (i : ℕ) → window_of s.board i ≡ kept_by s.board.watch i
-        (lives.taken (entries_of history) i) }
-    ensures equal { (some others : List (Entry × State)) (s t : State) → IsLived some
-        → IsLived others → last_state some ≡ Some s → last_state others ≡ Some t
-        → s.board.watch ≡ t.board.watch → ((i : ℕ) → lives.taken (entries_of some) i
-        ≡ lives.taken (entries_of others) i)
-        → (i : ℕ) → window_of s.board i ≡ window_of t.board i }
-    ensures reports { (some others : List (Entry × State)) (s t : State) → IsLived some
-        → IsLived others → last_state some ≡ Some s → last_state others ≡ Some t
-        → s.board.watch ≡ t.board.watch → ((i : ℕ) → lives.taken (entries_of some) i
-        ≡ lives.taken (entries_of others) i)
-        → report s.board.watch (window_of s.board) ≡ report t.board.watch (window_of t.board) }
+    ensures windows { WindowsAreOfTaken }
+    ensures equal { EqualWindows }
+    ensures reports { EqualReports }
 {
     mon_saved::laws::one_image();
     mon_saved::laws::read_back();
@@ -55,20 +44,9 @@ pub fn taken()
 /// `Station::open`, `step` and `run` extend such a list by what they answered (`lived`), so it
 /// holds of every station.
 pub fn headline()
-    ensures windows { (history : List (Entry × State)) (s : State) → IsLived history
-        → last_state history ≡ Some s
-        → (i : ℕ) → window_of s.board i ≡ kept_by s.board.watch i
-        (lives.taken (entries_of history) i) }
-    ensures equal { (some others : List (Entry × State)) (s t : State) → IsLived some
-        → IsLived others → last_state some ≡ Some s → last_state others ≡ Some t
-        → s.board.watch ≡ t.board.watch → ((i : ℕ) → lives.taken (entries_of some) i
-        ≡ lives.taken (entries_of others) i)
-        → (i : ℕ) → window_of s.board i ≡ window_of t.board i }
-    ensures reports { (some others : List (Entry × State)) (s t : State) → IsLived some
-        → IsLived others → last_state some ≡ Some s → last_state others ≡ Some t
-        → s.board.watch ≡ t.board.watch → ((i : ℕ) → lives.taken (entries_of some) i
-        ≡ lives.taken (entries_of others) i)
-        → report s.board.watch (window_of s.board) ≡ report t.board.watch (window_of t.board) }
+    ensures windows { WindowsAreOfTaken }
+    ensures equal { EqualWindows }
+    ensures reports { EqualReports }
     ensures newest { (history : List (Entry × State)) (s : State) → IsLived history
         → last_state history ≡ Some s → (i : ℕ) → epoch_of s.board.watch i ≡ size_of s.board.watch i
         → window_of s.board i ≡ top (size_of s.board.watch i) (lives.taken (entries_of history) i) }

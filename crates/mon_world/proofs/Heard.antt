@@ -13,6 +13,7 @@ use Rattle.mon_exchange.specs.Debts.{Heard, has_said, is_owed, is_owed_at, lates
 use Rattle.mon_saved.specs.declared.image.Image.{Image}
 use Rattle.mon_saved.specs.Image.{SpellsImage}
 use Rattle.mon_config.specs.StationCore.{Core}
+use Rattle.mon_station.specs.Alike.{WindowsAreOfTaken}
 use Rattle.mon_station.specs.declared.fault.StationFault.{StationFault}
 use Rattle.mon_station.specs.Lived.{IsLived, entries_of, last_state}
 use Rattle.mon_station.specs.ReadEvent.{ReadEvent}
@@ -41,7 +42,7 @@ one_passes P test (d ∷ claims) all is = elim (or_cases (test d) (list_any test
 ]
 
 module _ (one_image : (octets : List ℕ) (instances : List Instance) (a b : Image) → SpellsImage octets instances a → SpellsImage octets instances b → a ≡ b)
-    (windows_taken : (h : List (Entry × State)) (s : State) → IsLived h → last_state h ≡ Some s → (i : ℕ) → window_of s.board i ≡ kept_by s.board.watch i (taken (entries_of h) i))
+    (windows_taken : WindowsAreOfTaken)
     (core : Core) (count : ℕ) (are_watch : IsWatch core.watch) where
   -- what was received is true of who said it
   abbrev pub IsTrueOf : List Move → Heard → Type 0

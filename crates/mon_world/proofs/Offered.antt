@@ -18,6 +18,7 @@ use Rattle.mon_exchange.specs.Peers.{IsWatchedAs}
 use Rattle.mon_saved.specs.declared.image.Image.{Image}
 use Rattle.mon_saved.specs.Image.{SpellsImage}
 use Rattle.mon_config.specs.StationCore.{Core}
+use Rattle.mon_station.specs.Alike.{WindowsAreOfTaken}
 use Rattle.mon_station.specs.declared.fault.StationFault.{StationFault}
 use Rattle.mon_station.specs.Lived.{IsLived, entries_of, last_state}
 use Rattle.mon_station.specs.ReadEvent.{ReadEvent}
@@ -105,7 +106,7 @@ handled_within P e answer p new was = record { taken_so = taken_now; saves_so = 
     saves_now f = was.saves_so
 
 module _ (one_image : (octets : List ℕ) (instances : List Instance) (a b : Image) → SpellsImage octets instances a → SpellsImage octets instances b → a ≡ b)
-    (windows_taken : (h : List (Entry × State)) (s : State) → IsLived h → last_state h ≡ Some s → (i : ℕ) → window_of s.board i ≡ kept_by s.board.watch i (taken (entries_of h) i))
+    (windows_taken : WindowsAreOfTaken)
     (core : Core) (count : ℕ) (are_watch : IsWatch core.watch) where
   abbrev Offered : List Move → ℕ → ℕ → Type 0
   Offered moves i k = Has (offered_in moves) i k
