@@ -47,10 +47,7 @@ refused s settled e f polls lawful = record { lawful = lawful; after = quiet_aft
 pub memory_polls : (w : Setting) (e : ReadEvent) (p : Polls) → p ≡ polls_after w e (Some station.OutOfMemory) p
 memory_polls w (StartPoll t) p = refl
 memory_polls w (Timeout id) p = refl
-memory_polls w (FromAgent a r) p = refl
-memory_polls w (FromPeer said) p = refl
-memory_polls w (Share y) p = refl
-memory_polls w Save p = refl
+memory_polls w e p = refl
 
 pub by_memory : (s : State) → IsSettled s → (e : ReadEvent) (result : Result Told StationFault) → IsErrAnd result (λ f. f ≡ station.OutOfMemory) → IsAnswered s s e result
 by_memory s settled e (Ok told) h = absurd h

@@ -57,58 +57,31 @@ only_left outcomes last s here now kept c either = ⊎_elim
 -- what the first save refuses, an opening does
 pub save_fault : (watch : Watch) (file : List ℕ) (generation : ℕ) (fault : StationFault) → found_generation (found SLOT_SIZE file) ≡ generation → IsFirstSaveFault generation fault → IsFaultOfFile watch file fault
 save_fault watch file generation station.OutOfMemory is h = tt
-save_fault watch file generation (station.Keeper keeper.OutOfMemory) is h = absurd h
 save_fault watch file generation (station.Keeper keeper.DiskFault) is h = tt
 save_fault watch file generation (station.Keeper keeper.NoMoreGenerations) is h = is ∙ h
-save_fault watch file generation (station.Keeper keeper.TooLarge) is h = absurd h
-save_fault watch file generation (station.Keeper keeper.Damaged) is h = absurd h
-save_fault watch file generation (station.Keeper keeper.Reopen) is h = absurd h
-save_fault watch file generation (station.Poll f) is h = absurd h
-save_fault watch file generation (station.Response f) is h = absurd h
-save_fault watch file generation (station.Exchange f) is h = absurd h
-save_fault watch file generation (station.Image f) is h = absurd h
-save_fault watch file generation station.NoMoreIncarnations is h = absurd h
+save_fault watch file generation other is h = absurd h
 
 -- one of an opening's, and not for the body
 pub save_opening : (generation : ℕ) (fault : StationFault) → IsFirstSaveFault generation fault → IsOpeningFault fault × (IsForItsBody fault → ⊥)
 save_opening generation station.OutOfMemory h = (tt, λ b. b)
-save_opening generation (station.Keeper keeper.OutOfMemory) h = absurd h
 save_opening generation (station.Keeper keeper.DiskFault) h = (tt, λ b. b)
 save_opening generation (station.Keeper keeper.NoMoreGenerations) h = (tt, λ b. b)
-save_opening generation (station.Keeper keeper.TooLarge) h = absurd h
-save_opening generation (station.Keeper keeper.Damaged) h = absurd h
-save_opening generation (station.Keeper keeper.Reopen) h = absurd h
-save_opening generation (station.Poll f) h = absurd h
-save_opening generation (station.Response f) h = absurd h
-save_opening generation (station.Exchange f) h = absurd h
-save_opening generation (station.Image f) h = absurd h
-save_opening generation station.NoMoreIncarnations h = absurd h
+save_opening generation other h = absurd h
 
 -- a save's fault at a keeper that was opened just now
 pub first_save : (generation : ℕ) (fault : StationFault) → IsSaveFault fault → (fault ≡ station.Keeper keeper.NoMoreGenerations → generation ≡ 2 ^ 64 - 1)
     → IsFirstSaveFault generation fault
 first_save generation station.OutOfMemory h last = tt
-first_save generation (station.Keeper keeper.OutOfMemory) h last = absurd h
 first_save generation (station.Keeper keeper.DiskFault) h last = tt
 first_save generation (station.Keeper keeper.NoMoreGenerations) h last = last refl
-first_save generation (station.Keeper keeper.TooLarge) h last = absurd h
-first_save generation (station.Keeper keeper.Damaged) h last = absurd h
-first_save generation (station.Keeper keeper.Reopen) h last = absurd h
-first_save generation (station.Poll f) h last = absurd h
-first_save generation (station.Response f) h last = absurd h
-first_save generation (station.Exchange f) h last = absurd h
-first_save generation (station.Image f) h last = absurd h
-first_save generation station.NoMoreIncarnations h last = absurd h
+first_save generation other h last = absurd h
 
 -- a body's fault is one of an opening's
 pub body_opening : (watch : Watch) (body : Option (List ℕ)) (fault : StationFault) → IsFaultOfBody watch body fault → IsOpeningFault fault
 body_opening watch body station.OutOfMemory h = tt
-body_opening watch body (station.Keeper f) h = absurd h
-body_opening watch body (station.Poll f) h = absurd h
-body_opening watch body (station.Response f) h = absurd h
-body_opening watch body (station.Exchange f) h = absurd h
 body_opening watch body (station.Image f) h = tt
 body_opening watch body station.NoMoreIncarnations h = tt
+body_opening watch body other h = absurd h
 
 pub body_fault : (watch : Watch) (file : List ℕ) (body : Option (List ℕ)) (fault : StationFault) → FindsBody body file → IsFaultOfBody watch body fault → IsFaultOfFile watch file fault
 body_fault watch file body station.OutOfMemory finds h = tt
@@ -174,12 +147,9 @@ keeper_cause before now keeper.Reopen h = h
 -- a fault of the body has no cause in the disk
 pub body_cause : (watch : Watch) (body : Option (List ℕ)) (before now : ℕ) (fault : StationFault) → before ≤ now → IsFaultOfBody watch body fault → IsCausedBy before now fault
 body_cause watch body before now station.OutOfMemory le h = le
-body_cause watch body before now (station.Keeper f) le h = absurd h
-body_cause watch body before now (station.Poll f) le h = absurd h
-body_cause watch body before now (station.Response f) le h = absurd h
-body_cause watch body before now (station.Exchange f) le h = absurd h
 body_cause watch body before now (station.Image f) le h = le
 body_cause watch body before now station.NoMoreIncarnations le h = le
+body_cause watch body before now other le h = absurd h
 
 -- a cause after calls that were answered Ok
 pub disk_cause : (before mid now : ℕ) (fault : KeeperFault) → before ≤ mid → HasDiskCause mid now fault → HasDiskCause before now fault
@@ -193,13 +163,8 @@ disk_cause before mid now fault le h = record {
     at_full full (inr same) = inr (omega (arith, le, same, full))
 
 pub later_cause : (before mid now : ℕ) (fault : StationFault) → before ≤ mid → IsCausedBy mid now fault → IsCausedBy before now fault
-later_cause before mid now station.OutOfMemory le h = omega (arith, le, h)
 later_cause before mid now (station.Keeper f) le h = disk_cause before mid now f le h
-later_cause before mid now (station.Poll f) le h = omega (arith, le, h)
-later_cause before mid now (station.Response f) le h = omega (arith, le, h)
-later_cause before mid now (station.Exchange f) le h = omega (arith, le, h)
-later_cause before mid now (station.Image f) le h = omega (arith, le, h)
-later_cause before mid now station.NoMoreIncarnations le h = omega (arith, le, h)
+later_cause before mid now other le h = omega (arith, le, h)
 
 -- what follows of the value of a result
 pub if_ok : {A F : Type 0} (r : Result A F) (P Q : A → Type 0) → IfOk r P → ((a : A) → P a → Q a) → IfOk r Q

@@ -49,19 +49,13 @@ module _ (one_image : (octets : List ℕ) (instances : List Instance) (a b : Ima
   IsTrueOf moves d = IsTrue one_image (lives_of d.station moves) d
 
   heard_now : (moves : List Move) → AreMoves (setting_at core count) moves → (e : ReadEvent) (answer : Option StationFault) → IsNumberedIn core.watch e → WasSent (sent_in moves) (Answered e answer) → AllByRecursion (IsTrueOf moves) (heard_by e answer)
-  heard_now moves are (StartPoll target) answer numbered sent = tt
-  heard_now moves are (Timeout id) answer numbered sent = tt
-  heard_now moves are (FromAgent from read) answer numbered sent = tt
-  heard_now moves are (Share peer) answer numbered sent = tt
-  heard_now moves are Save answer numbered sent = tt
-  heard_now moves are (FromPeer (Err f)) answer numbered sent = tt
-  heard_now moves are (FromPeer (Ok said)) (Some f) numbered sent = tt
   heard_now moves are (FromPeer (Ok said)) None numbered sent = at said.number numbered
     where
       at : (n : Option ℕ) → IsNumberedIn core.watch (FromPeer (Ok (record { claim = said.claim; number = n }))) → AllByRecursion (IsTrueOf moves) (heard_of_claim said.claim n)
       at None watched = tt
       at (Some i) watched =
           (all_at (IsTrueClaim one_image windows_taken core count are_watch moves) (claims_of (sent_in moves)) said.claim (letters_true one_image windows_taken core count are_watch moves are) sent i watched, tt)
+  heard_now moves are e answer numbered sent = tt
 
   heard_next : (m : Move) (moves : List Move) → AreMoves (setting_at core count) (m ∷ moves) → WasSent (sent_in moves) m.entry → (x : ℕ) → AllByRecursion (IsTrueOf moves) (heard_in (lives_of x moves)) → (entry : Entry) → m.entry ≡ entry
       → AllByRecursion (IsTrueOf (m ∷ moves)) (heard_in ((entry, m.after) ∷ lives_of x moves))

@@ -123,11 +123,6 @@ module _ (one_image : (octets : List ℕ) (instances : List Instance) (a b : Ima
         setting l a = setting_is (setting_at core count x) h l a o is
 
         at : (e : ReadEvent) → IsLived ((Answered e None, s) ∷ h) → AreLives (setting_at core count x) ((Answered e None, s) ∷ h) → AllByRecursion (Claims core.watch are_watch (P e) x o.incarnation) (claims_sent o e)
-        at (StartPoll target) l a = tt
-        at (Timeout id) l a = tt
-        at (FromAgent from read) l a = tt
-        at (FromPeer (Err f)) l a = tt
-        at Save l a = tt
         at (Share y) l a =
             let same = setting l.1 a.1 in
             share_claims core.watch are_watch (P (Share y)) x o.incarnation o (ap (λ (w : Setting). w.watch) same) (ap (λ (w : Setting). w.own) same) refl
@@ -136,6 +131,7 @@ module _ (one_image : (octets : List ℕ) (instances : List Instance) (a b : Ima
             let same = setting l.1 a.1 in
             confirm_claims core.watch are_watch (P (FromPeer (Ok said))) x o.incarnation o (ap (λ (w : Setting). w.watch) same) (ap (λ (w : Setting). w.own) same) refl
             said.claim said.number a.0 (λ i k there. in_right k (taken (entries_of h) i) _ there) said.claim.kind
+        at e l a = tt
 
   -- a claim that is sent by this move, as its station says it
   abbrev pub SentBy : Move → List Move → ReadEvent → State → Claim → Type 0
