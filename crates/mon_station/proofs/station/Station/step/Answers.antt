@@ -39,7 +39,7 @@ returns-in-StartPoll-clause-happens g c = λ honest saved known e reads.
     let D = g.D.Disk in
     let d = device_of c.args.self.now.keeper in (
       handled_as _ _ e c.start_poll.result (as_this c.args.self.now.life.board.watch _ (StartPoll c.in-StartPoll.target) _ _ c.start_poll.result (ap owned c.in-StartPoll.is) (as_one _ _ c.start_poll.result (StartPoll c.in-StartPoll.target) c.start_poll.ensures.answered) e reads),
-      quiet_disk D _ d d c.args.self.now.life.board.watch _ e _ (λ is. let no : StartPoll c.in-StartPoll.target ≡ Save = sym (ap owned c.in-StartPoll.is) ∙ is in cc) reads refl,
+      quiet_disk D (record { now = state_of c.args.self.now.life; saved = saved }) d d c.args.self.now.life.board.watch _ e _ (λ is. let no : StartPoll c.in-StartPoll.target ≡ Save = sym (ap owned c.in-StartPoll.is) ∙ is in cc) reads refl,
     )
 
 pub returns-in-Timeout-clause-lived : goal.returns-in-Timeout-clause-lived
@@ -50,7 +50,7 @@ returns-in-Timeout-clause-happens g c = λ honest saved known e reads.
     let D = g.D.Disk in
     let d = device_of c.args.self.now.keeper in (
       handled_as _ _ e c.timeout.result (as_this c.args.self.now.life.board.watch _ (Timeout c.in-Timeout.id) _ _ c.timeout.result (ap owned c.in-Timeout.is) (as_one _ _ c.timeout.result (Timeout c.in-Timeout.id) c.timeout.ensures.answered) e reads),
-      quiet_disk D _ d d c.args.self.now.life.board.watch _ e _ (λ is. let no : Timeout c.in-Timeout.id ≡ Save = sym (ap owned c.in-Timeout.is) ∙ is in cc) reads refl,
+      quiet_disk D (record { now = state_of c.args.self.now.life; saved = saved }) d d c.args.self.now.life.board.watch _ e _ (λ is. let no : Timeout c.in-Timeout.id ≡ Save = sym (ap owned c.in-Timeout.is) ∙ is in cc) reads refl,
     )
 
 pub returns-in-Share-clause-lived : goal.returns-in-Share-clause-lived
@@ -61,7 +61,7 @@ returns-in-Share-clause-happens g c = λ honest saved known e reads.
     let D = g.D.Disk in
     let d = device_of c.args.self.now.keeper in (
       handled_as _ _ e c.share.result (as_this c.args.self.now.life.board.watch _ (Share c.in-Share.peer) _ _ c.share.result (ap owned c.in-Share.is) (as_one _ _ c.share.result (Share c.in-Share.peer) c.share.ensures.answered) e reads),
-      quiet_disk D _ d d c.args.self.now.life.board.watch _ e _ (λ is. let no : Share c.in-Share.peer ≡ Save = sym (ap owned c.in-Share.is) ∙ is in cc) reads refl,
+      quiet_disk D (record { now = state_of c.args.self.now.life; saved = saved }) d d c.args.self.now.life.board.watch _ e _ (λ is. let no : Share c.in-Share.peer ≡ Save = sym (ap owned c.in-Share.is) ∙ is in cc) reads refl,
     )
 
 pub returns-in-Save-clause-lived : goal.returns-in-Save-clause-lived
@@ -85,7 +85,7 @@ returns-in-FromAgent-clause-happens g c = λ honest saved known e reads.
     let D = g.D.Disk in
     let d = device_of c.args.self.now.keeper in (
       handled_as _ _ e c.from_agent.result (as_this c.args.self.now.life.board.watch _ (FromAgent c.in-FromAgent.from c.in-FromAgent.octets.now) _ _ c.from_agent.result (ap owned c.in-FromAgent.is) (λ e is. as_one _ _ c.from_agent.result (FromAgent c.in-FromAgent.from is.0) (c.from_agent.ensures.answered is.0 is.1) e is.2) e reads),
-      quiet_disk D _ d d c.args.self.now.life.board.watch _ e _ (λ is. let no : FromAgent c.in-FromAgent.from c.in-FromAgent.octets.now ≡ Save = sym (ap owned c.in-FromAgent.is) ∙ is in cc) reads refl,
+      quiet_disk D (record { now = state_of c.args.self.now.life; saved = saved }) d d c.args.self.now.life.board.watch _ e _ (λ is. let no : FromAgent c.in-FromAgent.from c.in-FromAgent.octets.now ≡ Save = sym (ap owned c.in-FromAgent.is) ∙ is in cc) reads refl,
     )
 
 pub returns-in-FromPeer-clause-lived : goal.returns-in-FromPeer-clause-lived
@@ -96,7 +96,7 @@ returns-in-FromPeer-clause-happens g c = λ honest saved known e reads.
     let D = g.D.Disk in
     let d = device_of c.args.self.now.keeper in (
       handled_as _ _ e c.from_peer.result (as_this c.args.self.now.life.board.watch _ (FromPeer c.in-FromPeer.octets.now) _ _ c.from_peer.result (ap owned c.in-FromPeer.is) (λ e is. as_one _ _ c.from_peer.result (FromPeer is.0) (c.from_peer.ensures.answered is.0 is.1) e is.2) e reads),
-      quiet_disk D _ d d c.args.self.now.life.board.watch _ e _ (λ is. let no : FromPeer c.in-FromPeer.octets.now ≡ Save = sym (ap owned c.in-FromPeer.is) ∙ is in cc) reads refl,
+      quiet_disk D (record { now = state_of c.args.self.now.life; saved = saved }) d d c.args.self.now.life.board.watch _ e _ (λ is. let no : FromPeer c.in-FromPeer.octets.now ≡ Save = sym (ap owned c.in-FromPeer.is) ∙ is in cc) reads refl,
     )
 
 pub returns-in-StartPoll-clause-keeper : goal.returns-in-StartPoll-clause-keeper
