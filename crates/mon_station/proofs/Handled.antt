@@ -22,7 +22,7 @@ use Rattle.mon_station.specs.Fault.{keeper_refusal, poll_refusal, response_refus
 use Rattle.mon_disk.specs.declared.fault.KeeperFault.{KeeperFault}
 use Rattle.mon_disk.specs.declared.fault.KeeperFault.TheVariants as keeper
 use Rattle.mon_exchange.specs.declared.fault.ExchangeFault.TheVariants as exchange
-use Rattle.mon_station.specs.ReadEvent.{ReadEvent, StartPoll, Timeout, FromAgent, FromPeer, Share, Save}
+use Rattle.mon_station.specs.ReadEvent.{ReadEvent, StartPoll, Timeout, FromAgent, Share, Save}
 use Rattle.mon_station.specs.State.{State, IsHandled, setting_of}
 use Rattle.mon_station.specs.Step.{IsSettled, left_polls}
 use Rattle.mon_station.specs.Told.{IsAnswered, IsTold, given_up_by, resends, to_target}

@@ -1,5 +1,5 @@
 -- Events that add nothing, and what they leave.
-use Rattle.std.proofs.Common.{◌≡◌, ℕ, Bool, true, false, [], Option, Some, Ok, Err, refl, sym, ap, ◌∙◌}
+use Rattle.std.proofs.Common.{◌≡◌, ℕ, Bool, true, false, [], Option, Some, Ok, refl, sym, ap, ◌∙◌}
 use Rattle.std.specs.Prelude.{◌&&◌}
 use Rattle.std.specs.FinSet as set
 use Rattle.mon_window.specs.Window.{Samples}
@@ -10,7 +10,7 @@ use Rattle.mon_board.specs.Windows.{IsWhole, joined, kept_by}
 use Rattle.mon_board.specs.Watch.{Watch}
 use Rattle.mon_poller.specs.Polls.{Polls}
 use Rattle.mon_station.specs.declared.fault.StationFault.{StationFault}
-use Rattle.mon_station.specs.ReadEvent.{ReadEvent, StartPoll, Timeout, FromAgent, FromPeer, Share, Save}
+use Rattle.mon_station.specs.ReadEvent.{ReadEvent, FromPeer}
 use Rattle.mon_station.specs.State.{State, IsAfter, known_after, known_of, marks_after, next_serial, setting_of}
 use Rattle.mon_station.specs.Step.{IsSettled, left_polls}
 use Rattle.mon_station.specs.Verdict.{added, polls_after}

@@ -14,7 +14,7 @@ use Rattle.mon_board.specs.Windows.{IsWhole, set_of, kept_by}
 use Rattle.mon_board.proofs.Promised.{kept_none, kept_twice}
 use Rattle.mon_disk.specs.Disk.{Leaves}
 use Rattle.mon_disk.specs.declared.disk.Disk.{Ghosts}
-use Rattle.mon_disk.specs.Keeper.{FindsAs, FindsBody, IsAs, found_body, is_undamaged}
+use Rattle.mon_disk.specs.Keeper.{FindsAs, IsAs, found_body, is_undamaged}
 use Rattle.mon_disk.proofs.Promised.{as_body_of, at_end}
 use Rattle.mon_saved.specs.declared.image.Image.{Image}
 use Rattle.mon_saved.specs.Image.{ImageVersion, SpellsImage, before_count, entries_octets, image_octets}

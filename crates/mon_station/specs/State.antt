@@ -14,8 +14,7 @@ use Rattle.mon_exchange.specs.Portions.{offered_portions, serial_after}
 use Rattle.mon_poller.specs.Poller.{Poller}
 use Rattle.mon_station.specs.declared.fault.StationFault.{StationFault}
 use Rattle.mon_station.specs.declared.life.Life.{Life}
-use Rattle.mon_station.specs.ReadEvent.{ReadEvent, StartPoll, Timeout, FromAgent, FromPeer, Share}
-use Rattle.mon_station.specs.ReadEvent.{Save}
+use Rattle.mon_station.specs.ReadEvent.{ReadEvent, FromPeer, Share}
 use Rattle.mon_station.specs.Verdict.{Setting, IsLawful, added, polls_after, slot_of}
 
 -- the board, the polls, the peers, the incarnation, and the serial of the next offer

@@ -9,7 +9,7 @@ use Rattle.mon_poller.specs.Polls.{Polls, no_polls}
 use Rattle.mon_saved.specs.declared.image.Image.{Image}
 use Rattle.mon_saved.specs.Restored.{saved_pairs}
 use Rattle.mon_station.specs.declared.fault.StationFault.{StationFault}
-use Rattle.mon_station.specs.ReadEvent.{ReadEvent, StartPoll, Timeout, FromAgent, FromPeer, Share}
+use Rattle.mon_station.specs.ReadEvent.{ReadEvent}
 use Rattle.mon_station.specs.ReadEvent.{Save}
 use Rattle.mon_station.specs.Verdict.{Setting, added, polls_after}
 

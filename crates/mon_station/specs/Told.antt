@@ -23,7 +23,6 @@ use Rattle.mon_station.specs.declared.event.Told.{Told}
 use Rattle.mon_station.specs.declared.event.To.TheVariants as to
 use Rattle.mon_station.specs.declared.fault.StationFault.{StationFault}
 use Rattle.mon_station.specs.ReadEvent.{ReadEvent, StartPoll, Timeout, FromAgent, FromPeer, Share}
-use Rattle.mon_station.specs.ReadEvent.{Save}
 use Rattle.mon_station.specs.State.{State, IsHandled, known_of, setting_of, shared_with}
 use Rattle.mon_station.specs.Verdict.{offers, response_stamp}
 

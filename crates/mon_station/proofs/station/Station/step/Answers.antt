@@ -1,4 +1,4 @@
-use Rattle.std.proofs.Common.{◌≡◌, Some, refl, sym, ap, subst, ◌∙◌}
+use Rattle.std.proofs.Common.{◌≡◌, refl, sym, ap, subst, ◌∙◌}
 use Rattle.mon_station.specs.ReadEvent.{StartPoll, Timeout, FromAgent, FromPeer, Share, Save, ReadsAs, owned, OwnedEvent}
 use Rattle.mon_station.proofs.Kept.{if_err, if_ok}
 use Rattle.mon_disk.specs.Kept.{device_of, last_body}
