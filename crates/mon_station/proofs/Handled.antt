@@ -22,7 +22,7 @@ use Rattle.mon_station.specs.Fault.{keeper_refusal, poll_refusal, response_refus
 use Rattle.mon_disk.specs.declared.fault.KeeperFault.{KeeperFault}
 use Rattle.mon_disk.specs.declared.fault.KeeperFault.TheVariants as keeper
 use Rattle.mon_exchange.specs.declared.fault.ExchangeFault.TheVariants as exchange
-use Rattle.mon_station.specs.ReadEvent.{ReadEvent, StartPoll, Timeout, FromAgent, FromPeer, Share, Save}
+use Rattle.mon_station.specs.ReadEvent.{ReadEvent, StartPoll, Timeout, FromAgent, Share, Save}
 use Rattle.mon_station.specs.State.{State, IsHandled, setting_of}
 use Rattle.mon_station.specs.Step.{IsSettled, left_polls}
 use Rattle.mon_station.specs.Told.{IsAnswered, IsTold, given_up_by, resends, to_target}
@@ -47,10 +47,7 @@ refused s settled e f polls lawful = record { lawful = lawful; after = quiet_aft
 pub memory_polls : (w : Setting) (e : ReadEvent) (p : Polls) → p ≡ polls_after w e (Some station.OutOfMemory) p
 memory_polls w (StartPoll t) p = refl
 memory_polls w (Timeout id) p = refl
-memory_polls w (FromAgent a r) p = refl
-memory_polls w (FromPeer said) p = refl
-memory_polls w (Share y) p = refl
-memory_polls w Save p = refl
+memory_polls w e p = refl
 
 pub by_memory : (s : State) → IsSettled s → (e : ReadEvent) (result : Result Told StationFault) → IsErrAnd result (λ f. f ≡ station.OutOfMemory) → IsAnswered s s e result
 by_memory s settled e (Ok told) h = absurd h

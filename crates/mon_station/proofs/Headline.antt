@@ -8,17 +8,19 @@ use Rattle.mon_board.specs.Watch.{Watch, epoch_of, size_of}
 use Rattle.mon_board.specs.Windows.{kept_by}
 use Rattle.mon_disk.specs.Disk.{Leaves, LeavesSince}
 use Rattle.mon_disk.specs.Keeper.{FindsBody}
+use Rattle.mon_disk.specs.declared.disk.Disk.{Ghosts}
 use Rattle.mon_saved.specs.Image.{SpellsImage}
 use Rattle.mon_saved.specs.Written.{image_of}
 use Rattle.mon_station.specs.declared.event.Told.{Told}
 use Rattle.mon_station.specs.declared.fault.StationFault.{StationFault}
 use Rattle.mon_station.specs.declared.fault.StationFault.TheVariants as fault
 use Rattle.mon_exchange.specs.declared.fault.ExchangeFault.{ExchangeFault}
+use Rattle.mon_station.specs.Alike.{WindowsAreOfTaken}
 use Rattle.mon_station.specs.Lived.{HandledIn, IsImageOf, IsLeftAlone, IsLived, IsOrigin, Reopens, answer_in, entries_of, last_state, saved_states}
 use Rattle.mon_station.specs.ReadEvent.{ReadEvent, StartPoll, Timeout, FromAgent, FromPeer, Share, Save, Said, ReadsAs, OwnedEvent}
 use Rattle.mon_station.specs.Saved.{FindsRunning, FindsState, IsBegun, IsOfKeeper, IsSavedAs, OrLast}
-use Rattle.mon_station.specs.State.{State, IsHandled, known_after, known_of, marks_after, next_serial, setting_of}
-use Rattle.mon_station.specs.Stops.{IsDiskAfter, OrSaved}
+use Rattle.mon_station.specs.State.{State, IsHandled, known_of, marks_after, setting_of}
+use Rattle.mon_station.specs.Stops.{FindsRunningIn, IsDiskAfter, RunningLife}
 use Rattle.mon_station.specs.Taken.{Answered, Entry, Nothing, Origin, Other, Restart, Saved, at_place, taken}
 use Rattle.mon_station.specs.Told.{IsAnswered}
 use Rattle.mon_station.specs.Verdict.{IsSave, Setting}
@@ -28,6 +30,7 @@ use Rattle.mon_window.specs.Top.{top}
 use Rattle.mon_window.specs.Window.{In, Samples}
 use Rattle.mon_window.proofs.Promised.{union_none}
 use Rattle.mon_board.proofs.Promised.{kept_twice}
+use Rattle.mon_station.proofs.Quiet.{quiet_fault}
 
 -- ---- an epoch of the window's size
 pub newest_kept : ((boots : ℕ → ℕ) (n : ℕ) (a : Samples) → keep boots n n a ≡ top n a) → (s : State) (i : ℕ) (a : Samples) → epoch_of s.board.watch i ≡ size_of s.board.watch i
@@ -36,7 +39,7 @@ newest_kept whole s i a same kept = let n = size_of s.board.watch i in kept ∙ 
 
 -- ---- a refusal
 -- windows that are what is kept of something keep all of it
-module _ (windows : (history : List (Entry × State)) (s : State) → IsLived history → last_state history ≡ Some s → (i : ℕ) → window_of s.board i ≡ kept_by s.board.watch i (taken (entries_of history) i)) where
+module _ (windows : WindowsAreOfTaken) where
   same_windows : (past : List (Entry × State)) (old new : State) (e : ReadEvent) (f : StationFault) → IsLived past → last_state past ≡ Some old → IsHandled e (Some f) old new
       → (i : ℕ) → window_of new.board i ≡ window_of old.board i
   same_windows past old new e f lived is h i =
@@ -58,30 +61,8 @@ module _ (windows : (history : List (Entry × State)) (s : State) → IsLived hi
       kept = and_true (is_marked old.board k i s) _ _ here (ap (λ (w : Samples). set.contains w s) (same i) ∙ here)
 
       as_kept : (e : ReadEvent) → marks_after (setting_of old) (known_of old) e (Some f) (window_of old.board) (window_of new.board) (is_marked old.board) k i s ≡ is_marked old.board k i s
-      as_kept (StartPoll t) = kept
-      as_kept (Timeout id) = kept
-      as_kept (FromAgent from read) = kept
       as_kept (FromPeer (Ok said)) = kept
-      as_kept (FromPeer (Err g)) = kept
-      as_kept (Share y) = kept
-      as_kept Save = kept
-
-  refused_known : (e : ReadEvent) (f : StationFault) (known : ℕ → Option ℕ) (y : ℕ) → known_after e (Some f) known y ≡ known y
-  refused_known (StartPoll t) f known y = refl
-  refused_known (Timeout id) f known y = refl
-  refused_known (FromAgent from read) f known y = refl
-  refused_known (FromPeer (Ok said)) f known y = refl
-  refused_known (FromPeer (Err g)) f known y = refl
-  refused_known (Share peer) f known y = refl
-  refused_known Save f known y = refl
-
-  refused_serial : (s : State) (e : ReadEvent) (f : StationFault) → next_serial s e (Some f) ≡ s.serial
-  refused_serial s (StartPoll t) f = refl
-  refused_serial s (Timeout id) f = refl
-  refused_serial s (FromAgent from read) f = refl
-  refused_serial s (FromPeer said) f = refl
-  refused_serial s (Share peer) f = refl
-  refused_serial s Save f = refl
+      as_kept e = kept
 
   handled_from : (life : Option State) (old new : State) (e : ReadEvent) (answer : Option StationFault) → life ≡ Some old → HandledIn life e answer new → IsHandled e answer old new
   handled_from life old new e answer is h = subst (λ (o : Option State). HandledIn o e answer new) is h
@@ -94,9 +75,9 @@ module _ (windows : (history : List (Entry × State)) (s : State) → IsLived hi
         setting = h.after.setting;
         windows = same;
         marks = refused_marks e f old new h same;
-        known = λ y. h.after.known y ∙ refused_known e f _ y;
+        known = λ y. h.after.known y ∙ sym ((quiet_fault old e f).known y);
         incarnation = h.after.incarnation;
-        serial = h.after.serial ∙ refused_serial old e f;
+        serial = h.after.serial ∙ sym (quiet_fault old e f).serial;
       }
 
 pub untaken : (past : List (Entry × State)) (new : State) (e : ReadEvent) (f : StationFault) (i : ℕ) → taken (entries_of ((Answered e (Some f), new) ∷ past)) i ≡ taken (entries_of past) i
@@ -132,23 +113,18 @@ save_read watch (FromPeer octets) is = absurd (let no : Save ≡ FromPeer is.0 =
 save_read watch (Share y) is = absurd (let no : Save ≡ Share y = is in cc)
 save_read watch Save is = refl
 
-module _ {D : Type 0} (seen : D → List ℕ) (may_leave : D → List ℕ → Type 0) (moment : D → ℕ) (left_since : D → ℕ → List ℕ → Type 0) (saved : Option State) (s : State) (old new : D) where
+module _ {D : Type 0} (G : Ghosts D) (life : RunningLife) (old new : D) where
   -- an event that is no save leaves it
-  pub quiet_disk : (watch : Watch) (event : OwnedEvent) (e : ReadEvent) (answer : Option StationFault) → (event ≡ Save → ⊥) → ReadsAs watch event e → new ≡ old
-      → IsDiskAfter seen may_leave moment left_since saved s e answer old new
+  pub quiet_disk : (watch : Watch) (event : OwnedEvent) (e : ReadEvent) (answer : Option StationFault) → (event ≡ Save → ⊥) → ReadsAs watch event e → new ≡ old → IsDiskAfter G life e answer old new
   quiet_disk watch event Save answer other reads same = absurd (other (save_read watch event reads))
-  quiet_disk watch event (StartPoll t) answer other reads same = same
-  quiet_disk watch event (Timeout id) answer other reads same = same
-  quiet_disk watch event (FromAgent from read) answer other reads same = same
-  quiet_disk watch event (FromPeer said) answer other reads same = same
-  quiet_disk watch event (Share y) answer other reads same = same
+  quiet_disk watch event e answer other reads same = same
 
   -- and a save does what it says
-  pub saved_disk : (e : ReadEvent) (r : Result Told StationFault) → e ≡ Save → IfOk r (λ told. Leaves (may_leave new) (FindsState s)) → LeavesSince moment left_since old new (FindsRunning (OrSaved (may_leave old) saved) s)
-      → IsDiskAfter seen may_leave moment left_since saved s e (answer_in r) old new
-  saved_disk e r is found since = subst (λ (x : ReadEvent). IsDiskAfter seen may_leave moment left_since saved s x (answer_in r) old new) (sym is) (at r found)
+  pub saved_disk : (e : ReadEvent) (r : Result Told StationFault) → e ≡ Save → IfOk r (λ told. Leaves (G.may_leave new) (FindsState life.now)) → LeavesSince G.moment G.left_since old new (FindsRunningIn (G.may_leave old) (Some life))
+      → IsDiskAfter G life e (answer_in r) old new
+  saved_disk e r is found since = subst (λ (x : ReadEvent). IsDiskAfter G life x (answer_in r) old new) (sym is) (at r found)
     where
-      at : (r : Result Told StationFault) → IfOk r (λ told. Leaves (may_leave new) (FindsState s)) → IsDiskAfter seen may_leave moment left_since saved s Save (answer_in r) old new
+      at : (r : Result Told StationFault) → IfOk r (λ told. Leaves (G.may_leave new) (FindsState life.now)) → IsDiskAfter G life Save (answer_in r) old new
       at (Ok told) found = found
       at (Err f) saved = since
 
@@ -156,7 +132,7 @@ module _ {D : Type 0} (seen : D → List ℕ) (may_leave : D → List ℕ → Ty
 saved_last : (s : State) (last : Option (List ℕ)) (c : List ℕ) → IsSavedAs s last → FindsBody last c → FindsState s c
 saved_last s last c saved finds = record { body = subst (λ (b : Option (List ℕ)). FindsBody b c) saved.octets finds; spells = saved.spells }
 
-pub running_saved : (outcomes : List ℕ → Type 0) (last : Option (List ℕ)) (saved s : State) → IsSavedAs saved last → (c : List ℕ) → FindsRunning (OrLast outcomes last) s c → FindsRunning (OrSaved outcomes (Some saved)) s c
+pub running_saved : (outcomes : List ℕ → Type 0) (last : Option (List ℕ)) (saved s : State) → IsSavedAs saved last → (c : List ℕ) → FindsRunning (OrLast outcomes last) s c → FindsRunningIn outcomes (Some (record { now = s; saved = saved })) c
 running_saved outcomes last saved s is c either = ⊎_elim
     (λ found. inl (found.0, ⊎_elim (λ left. inl left) (λ finds. inr (saved_last saved last found.0 is finds)) found.1, found.2))
     (λ finds. inr finds)
@@ -178,13 +154,8 @@ handled_as old new e (Err f) answered = answered
 
 -- a fault of the keeper is a save's
 pub no_keeper : (old new : State) (e : ReadEvent) (f : StationFault) → (IsSave e → ⊥) → IsHandled e (Some f) old new → IsOfKeeper f → ⊥
-no_keeper old new e fault.OutOfMemory other h of = of
 no_keeper old new e (fault.Keeper k) other h of = other h.lawful
-no_keeper old new e (fault.Poll k) other h of = of
-no_keeper old new e (fault.Response k) other h of = of
-no_keeper old new e (fault.Exchange k) other h of = of
-no_keeper old new e (fault.Image k) other h of = of
-no_keeper old new e fault.NoMoreIncarnations other h of = of
+no_keeper old new e f other h of = of
 
 pub never_keeper : (old new : State) (e : ReadEvent) (P : Type 0) (r : Result Told StationFault) → (IsSave e → ⊥) → IsAnswered old new e r → IfErr r (λ f. IsOfKeeper f → P)
 never_keeper old new e P (Ok told) other answered = tt

@@ -4,6 +4,7 @@ use Rattle.std.specs.Result.{IsErrAnd}
 use Rattle.std.proofs.lemmas.Bool.{cases_lt}
 use Rattle.mon_board.specs.Instance.{instances_of}
 use Rattle.mon_board.specs.Watch.{Watch}
+use Rattle.mon_disk.specs.declared.disk.Disk.{Ghosts}
 use Rattle.mon_disk.specs.declared.fault.KeeperFault.{KeeperFault}
 use Rattle.mon_disk.specs.declared.fault.KeeperFault.TheVariants as keeper
 use Rattle.mon_disk.specs.Disk.{Leaves, LeavesSince}
@@ -18,7 +19,7 @@ use Rattle.mon_station.specs.declared.fault.StationFault.{StationFault}
 use Rattle.mon_station.specs.declared.fault.StationFault.TheVariants as station
 use Rattle.mon_station.specs.Fault.{keeper_refusal}
 use Rattle.mon_station.specs.Mended.{IsMendedFault}
-use Rattle.mon_station.specs.Saved.{FindsBegun, FindsRunning, FindsState, IsBeginning, IsBegun, IsCausedBy, IsFaultOfBody, IsFaultOfFile, IsFirstSaveFault, IsForItsBody, IsOpeningFault, IsSaveFault, OrLast, saved_octets}
+use Rattle.mon_station.specs.Saved.{FindsBegun, FindsOpening, FindsRunning, FindsState, IsBeginning, IsBegun, IsCausedBy, IsFaultOfBody, IsFaultOfFile, IsFirstSaveFault, IsForItsBody, IsOpeningFault, IsSaveFault, OrLast, saved_octets}
 use Rattle.mon_station.specs.State.{State}
 use Rattle.mon_station.specs.Verdict.{Setting}
 
@@ -56,58 +57,31 @@ only_left outcomes last s here now kept c either = ⊎_elim
 -- what the first save refuses, an opening does
 pub save_fault : (watch : Watch) (file : List ℕ) (generation : ℕ) (fault : StationFault) → found_generation (found SLOT_SIZE file) ≡ generation → IsFirstSaveFault generation fault → IsFaultOfFile watch file fault
 save_fault watch file generation station.OutOfMemory is h = tt
-save_fault watch file generation (station.Keeper keeper.OutOfMemory) is h = absurd h
 save_fault watch file generation (station.Keeper keeper.DiskFault) is h = tt
 save_fault watch file generation (station.Keeper keeper.NoMoreGenerations) is h = is ∙ h
-save_fault watch file generation (station.Keeper keeper.TooLarge) is h = absurd h
-save_fault watch file generation (station.Keeper keeper.Damaged) is h = absurd h
-save_fault watch file generation (station.Keeper keeper.Reopen) is h = absurd h
-save_fault watch file generation (station.Poll f) is h = absurd h
-save_fault watch file generation (station.Response f) is h = absurd h
-save_fault watch file generation (station.Exchange f) is h = absurd h
-save_fault watch file generation (station.Image f) is h = absurd h
-save_fault watch file generation station.NoMoreIncarnations is h = absurd h
+save_fault watch file generation other is h = absurd h
 
 -- one of an opening's, and not for the body
 pub save_opening : (generation : ℕ) (fault : StationFault) → IsFirstSaveFault generation fault → IsOpeningFault fault × (IsForItsBody fault → ⊥)
 save_opening generation station.OutOfMemory h = (tt, λ b. b)
-save_opening generation (station.Keeper keeper.OutOfMemory) h = absurd h
 save_opening generation (station.Keeper keeper.DiskFault) h = (tt, λ b. b)
 save_opening generation (station.Keeper keeper.NoMoreGenerations) h = (tt, λ b. b)
-save_opening generation (station.Keeper keeper.TooLarge) h = absurd h
-save_opening generation (station.Keeper keeper.Damaged) h = absurd h
-save_opening generation (station.Keeper keeper.Reopen) h = absurd h
-save_opening generation (station.Poll f) h = absurd h
-save_opening generation (station.Response f) h = absurd h
-save_opening generation (station.Exchange f) h = absurd h
-save_opening generation (station.Image f) h = absurd h
-save_opening generation station.NoMoreIncarnations h = absurd h
+save_opening generation other h = absurd h
 
 -- a save's fault at a keeper that was opened just now
 pub first_save : (generation : ℕ) (fault : StationFault) → IsSaveFault fault → (fault ≡ station.Keeper keeper.NoMoreGenerations → generation ≡ 2 ^ 64 - 1)
     → IsFirstSaveFault generation fault
 first_save generation station.OutOfMemory h last = tt
-first_save generation (station.Keeper keeper.OutOfMemory) h last = absurd h
 first_save generation (station.Keeper keeper.DiskFault) h last = tt
 first_save generation (station.Keeper keeper.NoMoreGenerations) h last = last refl
-first_save generation (station.Keeper keeper.TooLarge) h last = absurd h
-first_save generation (station.Keeper keeper.Damaged) h last = absurd h
-first_save generation (station.Keeper keeper.Reopen) h last = absurd h
-first_save generation (station.Poll f) h last = absurd h
-first_save generation (station.Response f) h last = absurd h
-first_save generation (station.Exchange f) h last = absurd h
-first_save generation (station.Image f) h last = absurd h
-first_save generation station.NoMoreIncarnations h last = absurd h
+first_save generation other h last = absurd h
 
 -- a body's fault is one of an opening's
 pub body_opening : (watch : Watch) (body : Option (List ℕ)) (fault : StationFault) → IsFaultOfBody watch body fault → IsOpeningFault fault
 body_opening watch body station.OutOfMemory h = tt
-body_opening watch body (station.Keeper f) h = absurd h
-body_opening watch body (station.Poll f) h = absurd h
-body_opening watch body (station.Response f) h = absurd h
-body_opening watch body (station.Exchange f) h = absurd h
 body_opening watch body (station.Image f) h = tt
 body_opening watch body station.NoMoreIncarnations h = tt
+body_opening watch body other h = absurd h
 
 pub body_fault : (watch : Watch) (file : List ℕ) (body : Option (List ℕ)) (fault : StationFault) → FindsBody body file → IsFaultOfBody watch body fault → IsFaultOfFile watch file fault
 body_fault watch file body station.OutOfMemory finds h = tt
@@ -173,12 +147,9 @@ keeper_cause before now keeper.Reopen h = h
 -- a fault of the body has no cause in the disk
 pub body_cause : (watch : Watch) (body : Option (List ℕ)) (before now : ℕ) (fault : StationFault) → before ≤ now → IsFaultOfBody watch body fault → IsCausedBy before now fault
 body_cause watch body before now station.OutOfMemory le h = le
-body_cause watch body before now (station.Keeper f) le h = absurd h
-body_cause watch body before now (station.Poll f) le h = absurd h
-body_cause watch body before now (station.Response f) le h = absurd h
-body_cause watch body before now (station.Exchange f) le h = absurd h
 body_cause watch body before now (station.Image f) le h = le
 body_cause watch body before now station.NoMoreIncarnations le h = le
+body_cause watch body before now other le h = absurd h
 
 -- a cause after calls that were answered Ok
 pub disk_cause : (before mid now : ℕ) (fault : KeeperFault) → before ≤ mid → HasDiskCause mid now fault → HasDiskCause before now fault
@@ -192,13 +163,8 @@ disk_cause before mid now fault le h = record {
     at_full full (inr same) = inr (omega (arith, le, same, full))
 
 pub later_cause : (before mid now : ℕ) (fault : StationFault) → before ≤ mid → IsCausedBy mid now fault → IsCausedBy before now fault
-later_cause before mid now station.OutOfMemory le h = omega (arith, le, h)
 later_cause before mid now (station.Keeper f) le h = disk_cause before mid now f le h
-later_cause before mid now (station.Poll f) le h = omega (arith, le, h)
-later_cause before mid now (station.Response f) le h = omega (arith, le, h)
-later_cause before mid now (station.Exchange f) le h = omega (arith, le, h)
-later_cause before mid now (station.Image f) le h = omega (arith, le, h)
-later_cause before mid now station.NoMoreIncarnations le h = omega (arith, le, h)
+later_cause before mid now other le h = omega (arith, le, h)
 
 -- what follows of the value of a result
 pub if_ok : {A F : Type 0} (r : Result A F) (P Q : A → Type 0) → IfOk r P → ((a : A) → P a → Q a) → IfOk r Q
@@ -223,43 +189,42 @@ if_err_both (Ok a) P Q R p q f = tt
 if_err_both (Err e) P Q R p q f = f e p q
 
 -- ---- an opening of a station: an opening of its keeper, and perhaps the first save
-module _ {D : Type 0} (w : Setting) (seen : D → List ℕ) (may_leave : D → List ℕ → Type 0) (moment : D → ℕ) (left_since : D → ℕ → List ℕ → Type 0) (old mid : D)
-    (opened : IsOpening seen may_leave moment left_since old mid) where
+module _ {D : Type 0} (w : Setting) (G : Ghosts D) (old mid : D) (opened : IsOpening G.seen G.may_leave G.moment G.left_since old mid) where
   abbrev Raised : List ℕ → Type 0
-  Raised c = FindsBegun w (found_body (seen old)) c
+  Raised c = FindsBegun w (found_body (G.seen old)) c
 
   abbrev Begun : List ℕ → Type 0
-  Begun c = FindsAs (may_leave old) c ⊎ Raised c
+  Begun c = FindsOpening w (G.seen old) (G.may_leave old) c
 
-  first : LeavesSince moment left_since old mid Begun
-  first = weaker moment left_since may_leave old mid (FindsAs (may_leave old)) Begun (λ c found. inl found) opened.any_moment
+  first : LeavesSince G.moment G.left_since old mid Begun
+  first = weaker G.moment G.left_since G.may_leave old mid (FindsAs (G.may_leave old)) Begun (λ c found. inl found) opened.any_moment
 
   -- only the keeper
-  pub only_opened : IsBeginning w seen may_leave moment left_since old mid
+  pub only_opened : IsBeginning w G old mid
   only_opened = record {
     any_moment = first;
     settled = ⊎_elim (λ fewer. inl fewer) (λ same. inr (λ c left. inl (same c left))) opened.settled;
   }
 
   module _ (body : Option (List ℕ)) (new : D) (s : State) (begun : IsBegun w body s)
-      (counts_mid : (t : ℕ) (c : List ℕ) → t ≤ moment mid → may_leave mid c → left_since mid t c) (counts_new : (t : ℕ) (c : List ℕ) → t ≤ moment new → may_leave new c → left_since new t c)
-      (kept : Leaves (may_leave mid) (FindsBody body)) (here : FindsBody body (seen old))
-      (saving : LeavesSince moment left_since mid new (FindsRunning (may_leave mid) s)) where
-    from : Leaves (may_leave mid) (FindsAs (may_leave old))
-    from = at_end moment left_since may_leave old mid (FindsAs (may_leave old)) counts_mid opened.any_moment
+      (counts_mid : (t : ℕ) (c : List ℕ) → t ≤ G.moment mid → G.may_leave mid c → G.left_since mid t c) (counts_new : (t : ℕ) (c : List ℕ) → t ≤ G.moment new → G.may_leave new c → G.left_since new t c)
+      (kept : Leaves (G.may_leave mid) (FindsBody body)) (here : FindsBody body (G.seen old))
+      (saving : LeavesSince G.moment G.left_since mid new (FindsRunning (G.may_leave mid) s)) where
+    from : Leaves (G.may_leave mid) (FindsAs (G.may_leave old))
+    from = at_end G.moment G.left_since G.may_leave old mid (FindsAs (G.may_leave old)) counts_mid opened.any_moment
 
     raised : (c : List ℕ) → FindsState s c → Raised c
     raised c finds = (s, subst (λ (b : Option (List ℕ)). IsBegun w b s) (sym here.body_is) begun, finds)
 
     -- and the first save, however it ended
-    pub then_saved : IsBeginning w seen may_leave moment left_since old new
+    pub then_saved : IsBeginning w G old new
     then_saved = record {
-      any_moment = chained moment left_since may_leave old mid new Begun first
-          (weaker moment left_since may_leave mid new (FindsRunning (may_leave mid) s) Begun
-          (λ c either. ⊎_elim (λ found. inl (as_before (may_leave mid) (may_leave old) from c found)) (λ finds. inr (raised c finds)) either)
+      any_moment = chained G.moment G.left_since G.may_leave old mid new Begun first
+          (weaker G.moment G.left_since G.may_leave mid new (FindsRunning (G.may_leave mid) s) Begun
+          (λ c either. ⊎_elim (λ found. inl (as_before (G.may_leave mid) (G.may_leave old) from c found)) (λ finds. inr (raised c finds)) either)
           saving);
       settled = inr (λ c left. ⊎_elim
-          (λ found. inl (both_as body c (seen old) (as_found (may_leave mid) body kept c found) here))
+          (λ found. inl (both_as body c (G.seen old) (as_found (G.may_leave mid) body kept c found) here))
           (λ finds. inr (raised c finds))
-          (at_end moment left_since may_leave mid new (FindsRunning (may_leave mid) s) counts_new saving c left));
+          (at_end G.moment G.left_since G.may_leave mid new (FindsRunning (G.may_leave mid) s) counts_new saving c left));
     }

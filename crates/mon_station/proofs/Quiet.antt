@@ -1,5 +1,5 @@
 -- Events that add nothing, and what they leave.
-use Rattle.std.proofs.Common.{◌≡◌, ℕ, Bool, true, false, [], Option, Some, Ok, Err, refl, sym, ap, ◌∙◌}
+use Rattle.std.proofs.Common.{◌≡◌, ℕ, Bool, true, false, [], Option, Some, Ok, refl, sym, ap, ◌∙◌}
 use Rattle.std.specs.Prelude.{◌&&◌}
 use Rattle.std.specs.FinSet as set
 use Rattle.mon_window.specs.Window.{Samples}
@@ -10,7 +10,7 @@ use Rattle.mon_board.specs.Windows.{IsWhole, joined, kept_by}
 use Rattle.mon_board.specs.Watch.{Watch}
 use Rattle.mon_poller.specs.Polls.{Polls}
 use Rattle.mon_station.specs.declared.fault.StationFault.{StationFault}
-use Rattle.mon_station.specs.ReadEvent.{ReadEvent, StartPoll, Timeout, FromAgent, FromPeer, Share, Save}
+use Rattle.mon_station.specs.ReadEvent.{ReadEvent, FromPeer}
 use Rattle.mon_station.specs.State.{State, IsAfter, known_after, known_of, marks_after, next_serial, setting_of}
 use Rattle.mon_station.specs.Step.{IsSettled, left_polls}
 use Rattle.mon_station.specs.Verdict.{added, polls_after}
@@ -35,13 +35,8 @@ pub record IsQuiet (s : State) (e : ReadEvent) (answer : Option StationFault) : 
   pub marks : (k : ℕ) → marks_after (setting_of s) (known_of s) e answer (window_of s.board) (window_of s.board) (is_marked s.board) k ≡ kept_marks (window_of s.board) (window_of s.board) (is_marked s.board k)
 
 pub quiet_fault : (s : State) (e : ReadEvent) (f : StationFault) → IsQuiet s e (Some f)
-quiet_fault s (StartPoll t) f = record { nothing = refl; serial = refl; known = λ y. refl; marks = λ k. refl }
-quiet_fault s (Timeout id) f = record { nothing = refl; serial = refl; known = λ y. refl; marks = λ k. refl }
-quiet_fault s (FromAgent a r) f = record { nothing = refl; serial = refl; known = λ y. refl; marks = λ k. refl }
 quiet_fault s (FromPeer (Ok said)) f = record { nothing = refl; serial = refl; known = λ y. refl; marks = λ k. refl }
-quiet_fault s (FromPeer (Err e)) f = record { nothing = refl; serial = refl; known = λ y. refl; marks = λ k. refl }
-quiet_fault s (Share y) f = record { nothing = refl; serial = refl; known = λ y. refl; marks = λ k. refl }
-quiet_fault s Save f = record { nothing = refl; serial = refl; known = λ y. refl; marks = λ k. refl }
+quiet_fault s e f = record { nothing = refl; serial = refl; known = λ y. refl; marks = λ k. refl }
 
 -- what such an event leaves: everything except the polls
 pub quiet_after : (s : State) → IsSettled s → (e : ReadEvent) (answer : Option StationFault) → IsQuiet s e answer → (polls : Polls) → polls ≡ polls_after (setting_of s) e answer s.poller.polls → IsAfter e answer s (left_polls s polls)

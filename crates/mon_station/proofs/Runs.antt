@@ -53,27 +53,13 @@ as_state s a b same finds = record { body = as_body_of _ a b same finds.body; sp
 
 as_saved : (s : State) (answer : Option StationFault) (P Q : Type 0) (a b : List ℕ) → IsAs a b → (Q → P) → FindsSaved s answer Q b → FindsSaved s answer P a
 as_saved s None P Q a b same f h = as_state s a b same h
-as_saved s (Some station.OutOfMemory) P Q a b same f h = f h
-as_saved s (Some (station.Poll x)) P Q a b same f h = f h
-as_saved s (Some (station.Response x)) P Q a b same f h = f h
-as_saved s (Some (station.Exchange x)) P Q a b same f h = f h
-as_saved s (Some (station.Image x)) P Q a b same f h = f h
-as_saved s (Some station.NoMoreIncarnations) P Q a b same f h = f h
-as_saved s (Some (station.Keeper keeper.OutOfMemory)) P Q a b same f h = f h
 as_saved s (Some (station.Keeper keeper.DiskFault)) P Q a b same f h = ⊎_elim (λ finds. inl (as_state s a b same finds)) (λ q. inr (f q)) h
-as_saved s (Some (station.Keeper keeper.NoMoreGenerations)) P Q a b same f h = f h
-as_saved s (Some (station.Keeper keeper.TooLarge)) P Q a b same f h = f h
-as_saved s (Some (station.Keeper keeper.Damaged)) P Q a b same f h = f h
-as_saved s (Some (station.Keeper keeper.Reopen)) P Q a b same f h = f h
+as_saved s (Some other) P Q a b same f h = f h
 
 -- what an opening finds after any event
 pub as_after : (s : State) (event : OwnedEvent) (answer : Option StationFault) (P Q : Type 0) (a b : List ℕ) → IsAs a b → (Q → P) → FindsAfter s event answer Q b → FindsAfter s event answer P a
 as_after s Save answer P Q a b same f h = as_saved s answer P Q a b same f h
-as_after s (StartPoll t) answer P Q a b same f h = f h
-as_after s (Timeout id) answer P Q a b same f h = f h
-as_after s (FromAgent from o) answer P Q a b same f h = f h
-as_after s (FromPeer o) answer P Q a b same f h = f h
-as_after s (Share y) answer P Q a b same f h = f h
+as_after s event answer P Q a b same f h = f h
 
 is_itself : (c : List ℕ) → IsAs c c
 is_itself c = record { undamaged = refl; body_is = refl }
@@ -85,42 +71,20 @@ as_last first outcomes (t ∷ turns) a b same h = as_after (state_after first tu
 -- ---- what a crash in the middle leaves
 during_before : (s : State) (event : OwnedEvent) (P : Type 0) (c : List ℕ) → P → FindsDuring s event P c
 during_before s Save P c p = inl p
-during_before s (StartPoll t) P c p = p
-during_before s (Timeout id) P c p = p
-during_before s (FromAgent from o) P c p = p
-during_before s (FromPeer o) P c p = p
-during_before s (Share y) P c p = p
+during_before s event P c p = p
 
 during_more : (s : State) (event : OwnedEvent) (P Q : Type 0) (c : List ℕ) → (P → Q) → FindsDuring s event P c → FindsDuring s event Q c
 during_more s Save P Q c f h = ⊎_elim (λ p. inl (f p)) (λ finds. inr finds) h
-during_more s (StartPoll t) P Q c f h = f h
-during_more s (Timeout id) P Q c f h = f h
-during_more s (FromAgent from o) P Q c f h = f h
-during_more s (FromPeer o) P Q c f h = f h
-during_more s (Share y) P Q c f h = f h
+during_more s event P Q c f h = f h
 
 saved_during : (s : State) (answer : Option StationFault) (P : Type 0) (c : List ℕ) → FindsSaved s answer P c → P ⊎ FindsState s c
 saved_during s None P c h = inr h
-saved_during s (Some station.OutOfMemory) P c h = inl h
-saved_during s (Some (station.Poll x)) P c h = inl h
-saved_during s (Some (station.Response x)) P c h = inl h
-saved_during s (Some (station.Exchange x)) P c h = inl h
-saved_during s (Some (station.Image x)) P c h = inl h
-saved_during s (Some station.NoMoreIncarnations) P c h = inl h
-saved_during s (Some (station.Keeper keeper.OutOfMemory)) P c h = inl h
 saved_during s (Some (station.Keeper keeper.DiskFault)) P c h = ⊎_elim (λ finds. inr finds) (λ p. inl p) h
-saved_during s (Some (station.Keeper keeper.NoMoreGenerations)) P c h = inl h
-saved_during s (Some (station.Keeper keeper.TooLarge)) P c h = inl h
-saved_during s (Some (station.Keeper keeper.Damaged)) P c h = inl h
-saved_during s (Some (station.Keeper keeper.Reopen)) P c h = inl h
+saved_during s (Some other) P c h = inl h
 
 after_during : (s : State) (event : OwnedEvent) (answer : Option StationFault) (P : Type 0) (c : List ℕ) → FindsAfter s event answer P c → FindsDuring s event P c
 after_during s Save answer P c h = saved_during s answer P c h
-after_during s (StartPoll t) answer P c h = h
-after_during s (Timeout id) answer P c h = h
-after_during s (FromAgent from o) answer P c h = h
-after_during s (FromPeer o) answer P c h = h
-after_during s (Share y) answer P c h = h
+after_during s event answer P c h = h
 
 -- what turns left is found in the middle of them
 last_amid : (first : State) (outcomes : List ℕ → Type 0) (turns : List Turn) (c : List ℕ) → FindsLast first outcomes turns c → FindsAmid first outcomes turns c
@@ -358,12 +322,8 @@ no_fault : {f : StationFault} → None ≡ Some f → ⊥
 no_fault e = cc
 
 kept_fault : (event : OwnedEvent) (f : StationFault) → (event ≡ Save → IsSaveFault f) → IsKeptFault (Some f) event
-kept_fault (StartPoll t) f h = tt
-kept_fault (Timeout id) f h = tt
-kept_fault (FromAgent a o) f h = tt
-kept_fault (FromPeer o) f h = tt
-kept_fault (Share y) f h = tt
 kept_fault Save f h = h refl
+kept_fault event f h = tt
 
 -- what the cause of a fault says of the count
 cause_counted : (before now : ℕ) (f : StationFault) → IsCausedBy before now f → (before ≤ now) × (is_disk_fault (Some f) ≡ true → (before < now) ⊎ (before ≡ 2 ^ 64 - 1))
@@ -462,12 +422,8 @@ module _ {X : Type 0} (G : Ghosts X) (s : State) (old new : X) (last : Option (L
       (weaker G.moment G.left_since G.may_leave old old _ _ (λ c found. inl (or_last (G.may_leave old) last c found)) (at_rest G.moment G.left_since G.may_leave old (λ c left. only_now old c honest left)))
 
   pub amid : (event : OwnedEvent) → ((event ≡ Save → ⊥) → new ≡ old) → LeavesSince G.moment G.left_since old new (FindsRunning (OrLast (G.may_leave old) last) s) → Amid event
-  amid (StartPoll t) same running = rested (StartPoll t) (same (λ e. cc))
-  amid (Timeout id) same running = rested (Timeout id) (same (λ e. cc))
-  amid (FromAgent a o) same running = rested (FromAgent a o) (same (λ e. cc))
-  amid (FromPeer o) same running = rested (FromPeer o) (same (λ e. cc))
-  amid (Share y) same running = rested (Share y) (same (λ e. cc))
   amid Save same running = weaker G.moment G.left_since G.may_leave old new _ _ (λ c found. ⊎_elim (λ a. inl a) (λ f. inr (inr f)) found) running
+  amid event same running = rested event (same (λ e. cc))
 
 -- what a crash leaves after an event
 module _ {D : Type 0} (left : D → List ℕ → Type 0) (s : State) (old new : D) where
@@ -475,35 +431,17 @@ module _ {D : Type 0} (left : D → List ℕ → Type 0) (s : State) (old new : 
   stays same c l = itself (left old) c (subst (λ d. left d c) same l)
 
   pub file_told : (event : OwnedEvent) → ((event ≡ Save → ⊥) → new ≡ old) → (event ≡ Save → Leaves (left new) (FindsState s)) → Leaves (left new) (λ c. FindsAfter s event None (FindsAs (left old) c) c)
-  file_told (StartPoll t) same saved = stays (same (λ e. cc))
-  file_told (Timeout id) same saved = stays (same (λ e. cc))
-  file_told (FromAgent a o) same saved = stays (same (λ e. cc))
-  file_told (FromPeer o) same saved = stays (same (λ e. cc))
-  file_told (Share y) same saved = stays (same (λ e. cc))
   file_told Save same saved = saved refl
+  file_told event same saved = stays (same (λ e. cc))
 
   save_fault : (fault : StationFault) → ((fault ≡ station.Keeper keeper.DiskFault → ⊥) → new ≡ old) → Leaves (left new) (FindsRunning (left old) s) → Leaves (left new) (λ c. FindsSaved s (Some fault) (FindsAs (left old) c) c)
-  save_fault station.OutOfMemory same running = stays (same (λ e. cc))
-  save_fault (station.Poll f) same running = stays (same (λ e. cc))
-  save_fault (station.Response f) same running = stays (same (λ e. cc))
-  save_fault (station.Exchange f) same running = stays (same (λ e. cc))
-  save_fault (station.Image f) same running = stays (same (λ e. cc))
-  save_fault station.NoMoreIncarnations same running = stays (same (λ e. cc))
-  save_fault (station.Keeper keeper.OutOfMemory) same running = stays (same (λ e. cc))
   save_fault (station.Keeper keeper.DiskFault) same running = λ c l. ⊎_elim (λ as_is. inr as_is) (λ finds. inl finds) (running c l)
-  save_fault (station.Keeper keeper.NoMoreGenerations) same running = stays (same (λ e. cc))
-  save_fault (station.Keeper keeper.TooLarge) same running = stays (same (λ e. cc))
-  save_fault (station.Keeper keeper.Damaged) same running = stays (same (λ e. cc))
-  save_fault (station.Keeper keeper.Reopen) same running = stays (same (λ e. cc))
+  save_fault other same running = stays (same (λ e. cc))
 
   pub file_fault : (event : OwnedEvent) (fault : StationFault) → ((event ≡ Save → ⊥) → new ≡ old) → ((fault ≡ station.Keeper keeper.DiskFault → ⊥) → new ≡ old) → Leaves (left new) (FindsRunning (left old) s)
       → Leaves (left new) (λ c. FindsAfter s event (Some fault) (FindsAs (left old) c) c)
-  file_fault (StartPoll t) fault same unsaved running = stays (same (λ e. cc))
-  file_fault (Timeout id) fault same unsaved running = stays (same (λ e. cc))
-  file_fault (FromAgent a o) fault same unsaved running = stays (same (λ e. cc))
-  file_fault (FromPeer o) fault same unsaved running = stays (same (λ e. cc))
-  file_fault (Share y) fault same unsaved running = stays (same (λ e. cc))
   file_fault Save fault same unsaved running = save_fault fault unsaved running
+  file_fault event fault same unsaved running = stays (same (λ e. cc))
 
 -- with what the keeper knows as the last
 pub saved_or_last : (outcomes : List ℕ → Type 0) (last : Option (List ℕ)) (s : State) → Leaves outcomes (FindsState s) → IsSavedAs s last → Leaves (OrLast outcomes last) (FindsState s)

@@ -13,18 +13,18 @@ use Rattle.mon_board.specs.Watch.{Watch}
 use Rattle.mon_board.specs.Windows.{IsWhole, set_of, kept_by}
 use Rattle.mon_board.proofs.Promised.{kept_none, kept_twice}
 use Rattle.mon_disk.specs.Disk.{Leaves}
-use Rattle.mon_disk.specs.Keeper.{FindsAs, FindsBody, IsAs, found_body, is_undamaged}
+use Rattle.mon_disk.specs.declared.disk.Disk.{Ghosts}
+use Rattle.mon_disk.specs.Keeper.{FindsAs, IsAs, found_body, is_undamaged}
 use Rattle.mon_disk.proofs.Promised.{as_body_of, at_end}
 use Rattle.mon_saved.specs.declared.image.Image.{Image}
 use Rattle.mon_saved.specs.Image.{ImageVersion, SpellsImage, before_count, entries_octets, image_octets}
 use Rattle.mon_saved.specs.Restored.{IsRestored, saved_pairs}
 use Rattle.mon_saved.specs.Written.{image_of, written_image}
 use Rattle.mon_station.specs.declared.fault.StationFault.{StationFault}
-use Rattle.mon_station.specs.Lived.{HandledIn}
-use Rattle.mon_station.specs.ReadEvent.{ReadEvent, StartPoll, Timeout, FromAgent, FromPeer, Share, Save}
-use Rattle.mon_station.specs.Saved.{FindsBegun, FindsRunning, IsBegun, saved_octets}
+use Rattle.mon_station.specs.ReadEvent.{ReadEvent, Save}
+use Rattle.mon_station.specs.Saved.{FindsBegun, FindsOpening, FindsState, IsBegun, saved_octets}
 use Rattle.mon_station.specs.State.{State, IsHandled, setting_of}
-use Rattle.mon_station.specs.Stops.{FindsOneOf, FindsRunningIn, FindsSave, FoundAfter, GoesOn, Happening, IsDiskAfterIn, IsHistory, IsRaised, IsRunning, MayFind, OrSaved, Opened, Unopened, Handled, Moved, StoppedOpening, Stopped, begun_in, last_disk, last_saved, running, saved_after}
+use Rattle.mon_station.specs.Stops.{FindsOneOf, FindsRunningIn, FindsSave, FoundAfter, GoesOn, Happening, Happens, IsHistory, IsRaised, IsRunning, MayFind, Opened, Unopened, Handled, Moved, RunningLife, StoppedOpening, Stopped, begun_in, last_disk, life_after, running}
 use Rattle.mon_station.specs.Verdict.{Setting, added}
 
 -- ---- the incarnation of an image is in its octets, whatever the instances are
@@ -67,9 +67,14 @@ Bounds lives None = lives ≡ []
 Bounds lives (Some s) = IsAsLate lives s
 
 -- what is known of it and of the life that is running, if one is
-abbrev RunsLate : List State → Option State → Type 0
+abbrev RunsLate : List State → Option RunningLife → Type 0
 RunsLate lives None = Unit {0}
-RunsLate lives (Some s) = IsAsLate lives s
+RunsLate lives (Some life) = IsAsLate lives life.now
+
+-- its state that was saved last is among what may be found
+abbrev IsSavedIn : (Option State → Type 0) → Option RunningLife → Type 0
+IsSavedIn May None = Unit {0}
+IsSavedIn May (Some life) = May (Some life.saved)
 
 all_earlier : (lives : List State) (n m : ℕ) → m ≡ n + 1 → AllByRecursion (λ (life : State). life.incarnation ≤ n) lives → AllByRecursion (λ (life : State). life.incarnation < m) lives
 all_earlier [] n m is h = tt
@@ -104,41 +109,30 @@ raised_of : (May : Option State → Type 0) (w : Setting) (here file : List ℕ)
 raised_of May w here file finds = (Some finds.0, inr (finds.0, refl, finds.1), finds.2)
 
 -- what an opening, or a stop within one, leaves
-begun_either : (May : Option State → Type 0) (outcomes : List ℕ → Type 0) (w : Setting) (here : List ℕ) → Leaves outcomes (FindsOneOf May) → (file : List ℕ) → FindsAs outcomes file ⊎ FindsBegun w (found_body here) file
+begun_either : (May : Option State → Type 0) (outcomes : List ℕ → Type 0) (w : Setting) (here : List ℕ) → Leaves outcomes (FindsOneOf May) → (file : List ℕ) → FindsOpening w here outcomes file
     → FindsOneOf (λ save. May save ⊎ IsRaised w here save) file
 begun_either May outcomes w here has file finds =
     ⊎_elim (λ old. either_of May (IsRaised w here) file (as_one_of May outcomes has file old)) (λ new. raised_of May w here file new) finds
 
 -- what a save that failed, or a stop within one, leaves
-running_either : (May : Option State → Type 0) (outcomes : List ℕ → Type 0) (life : Option State) → Leaves outcomes (FindsOneOf May) → (file : List ℕ) → FindsRunningIn outcomes life file
+running_either : (May : Option State → Type 0) (outcomes : List ℕ → Type 0) (life : Option RunningLife) → IsSavedIn May life → Leaves outcomes (FindsOneOf May) → (file : List ℕ) → FindsRunningIn outcomes life file
     → FindsOneOf (λ save. May save ⊎ IsRunning life save) file
-running_either May outcomes None has file finds = either_of May (IsRunning None) file (as_one_of May outcomes has file finds)
-running_either May outcomes (Some s) has file finds =
-    ⊎_elim (λ old. either_of May (IsRunning (Some s)) file (as_one_of May outcomes has file old)) (λ new. (Some s, inr (s, refl, refl), new)) finds
+running_either May outcomes None may has file finds = either_of May (IsRunning None) file (as_one_of May outcomes has file finds)
+running_either May outcomes (Some l) may has file finds = ⊎_elim
+    (λ old. either_of May (IsRunning (Some l)) file (as_one_of May (λ c. outcomes c ⊎ FindsState l.saved c) saved_too file old))
+    (λ new. (Some l.now, inr refl, new))
+    finds
+  where
+    saved_too : Leaves (λ c. outcomes c ⊎ FindsState l.saved c) (FindsOneOf May)
+    saved_too c either = ⊎_elim (λ left. has c left) (λ saved. (Some l.saved, may, saved)) either
 
--- the state that was saved last is among what may be found
-or_saved : (May : Option State → Type 0) (outcomes : List ℕ → Type 0) (saved : Option State) → ((s : State) → saved ≡ Some s → May (Some s)) → Leaves outcomes (FindsOneOf May) → Leaves (OrSaved outcomes saved) (FindsOneOf May)
-or_saved May outcomes None may has file one = has file one
-or_saved May outcomes (Some s) may has file one = ⊎_elim (λ left. has file left) (λ finds. (Some s, may s refl, finds)) one
-
-still_saved : {D : Type 0} (seen : D → List ℕ) (first : D) (e : ReadEvent) (answer : Option StationFault) (past : List (Happening × D)) → ((s : State) → last_saved past ≡ Some s → MayFind seen first past (Some s))
-    → (s : State) → saved_after e answer (running past) (last_saved past) ≡ Some s → FoundAfter e answer (running past) (MayFind seen first past) (Some s)
-still_saved seen first Save None past may s is = (s, is, refl)
-still_saved seen first Save (Some f) past may s is = inl (may s is)
-still_saved seen first (StartPoll target) answer past may s is = may s is
-still_saved seen first (Timeout id) answer past may s is = may s is
-still_saved seen first (FromAgent from read) answer past may s is = may s is
-still_saved seen first (FromPeer said) answer past may s is = may s is
-still_saved seen first (Share peer) answer past may s is = may s is
-
-saved_may : {D : Type 0} (seen : D → List ℕ) (first : D) (past : List (Happening × D)) (s : State) → last_saved past ≡ Some s → MayFind seen first past (Some s)
-saved_may seen first [] s is = absurd cc
-saved_may seen first ((Opened w t, disk) ∷ past) s is = sym is
-saved_may seen first ((Unopened w, disk) ∷ past) s is = absurd cc
-saved_may seen first ((Handled e answer t, disk) ∷ past) s is = still_saved seen first e answer past (saved_may seen first past) s is
-saved_may seen first ((Moved, disk) ∷ past) s is = (s, is, refl)
-saved_may seen first ((StoppedOpening w, disk) ∷ past) s is = absurd cc
-saved_may seen first ((Stopped, disk) ∷ past) s is = absurd cc
+saved_next : (h : Happening) (life : Option RunningLife) (file : List ℕ) (May : Option State → Type 0) → IsSavedIn May life → IsSavedIn (FoundAfter h life file May) (life_after h life)
+saved_next (Opened w s) life file May may = refl
+saved_next (Handled Save None s) (Some l) file May may = refl
+saved_next (Handled Save (Some f) s) (Some l) file May may = inl may
+saved_next (Handled e answer s) (Some l) file May may = may
+saved_next Moved (Some l) file May may = refl
+saved_next h life file May may = tt
 
 module _ (read_back : (watch : Watch) (board again : Board) (incarnation read : ℕ) → ((i : ℕ) → IsWhole board.watch (window_of board) i)
     → instances_of watch.instances ≡ instances_of board.watch.instances
@@ -160,139 +154,97 @@ module _ (read_back : (watch : Watch) (board again : Board) (incarnation read : 
   goes_later lives w None s bound on = subst (λ (l : List State). AllByRecursion (λ (life : State). life.incarnation < s.incarnation) l) (sym bound) tt
   goes_later lives w (Some old) s bound on = all_earlier lives old.incarnation s.incarnation on.0 bound.1
 
-  module _ {D : Type 0} (is_honest : D → Type 0) (seen : D → List ℕ) (may_leave : D → List ℕ → Type 0) (moment : D → ℕ) (left_since : D → ℕ → List ℕ → Type 0)
-      (counts : (disk : D) (t : ℕ) (c : List ℕ) → is_honest disk → t ≤ moment disk → may_leave disk c → left_since disk t c)
-      (seen_now : (disk : D) → is_honest disk → may_leave disk (seen disk)) (first : D) (honest : is_honest first) (empty : Leaves (may_leave first) (FindsBody None)) where
+  module _ {D : Type 0} (G : Ghosts D) (counts : (disk : D) (t : ℕ) (c : List ℕ) → G.is_honest disk → t ≤ G.moment disk → G.may_leave disk c → G.left_since disk t c)
+      (seen_now : (disk : D) → G.is_honest disk → G.may_leave disk (G.seen disk)) (first : D) where
     -- what holds after a history
     pub record IsSound (history : List (Happening × D)) : Type 0 where
-      pub honest_now : is_honest (last_disk first history)
-      pub left : Leaves (may_leave (last_disk first history)) (FindsOneOf (MayFind seen first history))
-      pub bound : (save : Option State) → MayFind seen first history save → Bounds (begun_in history) save
+      pub honest_now : G.is_honest (last_disk first history)
+      pub left : Leaves (G.may_leave (last_disk first history)) (FindsOneOf (MayFind G first history))
+      pub bound : (save : Option State) → MayFind G first history save → Bounds (begun_in history) save
       pub runs : RunsLate (begun_in history) (running history)
+      pub saved : IsSavedIn (MayFind G first history) (running history)
 
     -- what an opening finds that comes next
-    pub finds_next : (past : List (Happening × D)) → IsSound past → FindsOneOf (MayFind seen first past) (seen (last_disk first past))
-    finds_next past sound = sound.left (seen (last_disk first past)) (seen_now (last_disk first past) sound.honest_now)
+    pub finds_next : (past : List (Happening × D)) → IsSound past → FindsOneOf (MayFind G first past) (G.seen (last_disk first past))
+    finds_next past sound = sound.left (G.seen (last_disk first past)) (seen_now (last_disk first past) sound.honest_now)
 
-    pub next_on : (past : List (Happening × D)) (w : Setting) (s : State) (sound : IsSound past) → IsBegun w (found_body (seen (last_disk first past))) s → GoesOn w (finds_next past sound).0 s
+    pub next_on : (past : List (Happening × D)) (w : Setting) (s : State) (sound : IsSound past) → IsBegun w (found_body (G.seen (last_disk first past))) s → GoesOn w (finds_next past sound).0 s
     next_on past w s sound begun =
         let one = finds_next past sound in
-        goes_on (begun_in past) w one.0 s (seen (last_disk first past)) (sound.bound one.0 one.1) one.2 begun
+        goes_on (begun_in past) w one.0 s (G.seen (last_disk first past)) (sound.bound one.0 one.1) one.2 begun
 
-    pub next_later : (past : List (Happening × D)) (w : Setting) (s : State) (sound : IsSound past) → IsBegun w (found_body (seen (last_disk first past))) s
+    pub next_later : (past : List (Happening × D)) (w : Setting) (s : State) (sound : IsSound past) → IsBegun w (found_body (G.seen (last_disk first past))) s
         → AllByRecursion (λ (life : State). life.incarnation < s.incarnation) (begun_in past)
     next_later past w s sound begun =
         let one = finds_next past sound in
         goes_later (begun_in past) w one.0 s (sound.bound one.0 one.1) (next_on past w s sound begun)
 
     -- a save that an opening of this file has raised
-    raised_bound : (past : List (Happening × D)) (w : Setting) → IsSound past → (save : Option State) → MayFind seen first past save ⊎ IsRaised w (seen (last_disk first past)) save → Bounds (begun_in past) save
+    raised_bound : (past : List (Happening × D)) (w : Setting) → IsSound past → (save : Option State) → MayFind G first past save ⊎ IsRaised w (G.seen (last_disk first past)) save → Bounds (begun_in past) save
     raised_bound past w sound save may = ⊎_elim
         (λ old. sound.bound save old)
-        (λ (raised : IsRaised w (seen (last_disk first past)) save).
+        (λ (raised : IsRaised w (G.seen (last_disk first past)) save).
         subst (Bounds (begun_in past)) (sym raised.1)
         (begun_whole w _ raised.0 raised.2, all_late (begun_in past) raised.0.incarnation (next_later past w raised.0 sound raised.2)))
         may
 
-    -- the life that was running
-    running_bound : (lives : List State) (life : Option State) → RunsLate lives life → (save : Option State) → IsRunning life save → Bounds lives save
-    running_bound lives None late save is = absurd (let no : None ≡ Some is.0 = is.1 in cc)
-    running_bound lives (Some s) late save is =
-        let same : s ≡ is.0 = (let e : Some s ≡ Some is.0 = is.1 in cc) in
-        subst (Bounds lives) (sym is.2) (subst (IsAsLate lives) same late)
+    -- the life that is running
+    running_bound : (lives : List State) (life : Option RunningLife) → RunsLate lives life → (save : Option State) → IsRunning life save → Bounds lives save
+    running_bound lives None late save is = absurd is
+    running_bound lives (Some l) late save is = subst (Bounds lives) (sym is) late
 
-    running_or : (past : List (Happening × D)) → IsSound past → (save : Option State) → MayFind seen first past save ⊎ IsRunning (running past) save → Bounds (begun_in past) save
-    running_or past sound save may = ⊎_elim (λ old. sound.bound save old) (λ is. running_bound (begun_in past) (running past) sound.runs save is) may
+    -- ---- one happening more
+    left_next : (May : Option State → Type 0) (h : Happening) (life : Option RunningLife) (old new : D) → G.is_honest new → IsSavedIn May life → Leaves (G.may_leave old) (FindsOneOf May) → Happens G h life old new
+        → Leaves (G.may_leave new) (FindsOneOf (FoundAfter h life (G.seen old) May))
+    left_next May (Opened w s) life old new honest may has is = λ file left. (Some s, refl, is.kept file left)
+    left_next May (Unopened w) life old new honest may has is = λ file left. begun_either May (G.may_leave old) w (G.seen old) has file
+        (at_end G.moment G.left_since G.may_leave old new (FindsOpening w (G.seen old) (G.may_leave old)) (λ t c. counts new t c honest) is.any_moment file left)
+    left_next May (Handled Save None s) (Some l) old new honest may has is = λ file left. (Some l.now, refl, is.1 file left)
+    left_next May (Handled Save (Some f) s) (Some l) old new honest may has is = λ file left. running_either May (G.may_leave old) (Some l) may has file
+        (at_end G.moment G.left_since G.may_leave old new (FindsRunningIn (G.may_leave old) (Some l)) (λ t c. counts new t c honest) is.1 file left)
+    left_next May (Handled e answer s) (Some l) old new honest may has is = subst (λ disk. Leaves (G.may_leave disk) (FindsOneOf May)) (sym is.1) has
+    left_next May Moved (Some l) old new honest may has is = λ file left. (Some l.now, refl, is file left)
+    left_next May (StoppedOpening w) life old new honest may has is = λ file left. subst (FindsOneOf (FoundAfter (StoppedOpening w) life (G.seen old) May)) (sym (is.only file left))
+        (begun_either May (G.may_leave old) w (G.seen old) has is.file (is.any_moment.each is.file is.left))
+    left_next May Stopped life old new honest may has is = λ file left. subst (FindsOneOf (FoundAfter Stopped life (G.seen old) May)) (sym (is.only file left))
+        (running_either May (G.may_leave old) life may has is.file (is.any_moment.each is.file is.left))
+    left_next May h life old new honest may has is = absurd is
 
-    handled_bound : (past : List (Happening × D)) (e : ReadEvent) (answer : Option StationFault) → IsSound past → (save : Option State) → FoundAfter e answer (running past) (MayFind seen first past) save → Bounds (begun_in past) save
-    handled_bound past Save None sound save may = running_bound (begun_in past) (running past) sound.runs save may
-    handled_bound past Save (Some f) sound save may = running_or past sound save may
-    handled_bound past (StartPoll target) answer sound save may = sound.bound save may
-    handled_bound past (Timeout id) answer sound save may = sound.bound save may
-    handled_bound past (FromAgent from read) answer sound save may = sound.bound save may
-    handled_bound past (FromPeer said) answer sound save may = sound.bound save may
-    handled_bound past (Share peer) answer sound save may = sound.bound save may
+    runs_next : (past : List (Happening × D)) (h : Happening) (life : Option RunningLife) (old new : D) → RunsLate (begun_in past) life
+        → ((w : Setting) (s : State) → IsBegun w (found_body (G.seen old)) s → AllByRecursion (λ (life : State). life.incarnation < s.incarnation) (begun_in past))
+        → Happens G h life old new → RunsLate (begun_in ((h, new) ∷ past)) (life_after h life)
+    runs_next past (Opened w s) life old new late later is = (begun_whole w _ s is.begun, (omega arith, all_late (begun_in past) s.incarnation (later w s is.begun)))
+    runs_next past (Handled e answer s) (Some l) old new late later is = (handled_whole e answer l.now s is.0, all_same (begun_in past) l.now.incarnation s.incarnation is.0.after.incarnation late.1)
+    runs_next past Moved (Some l) old new late later is = late
+    runs_next past h life old new late later is = tt
 
-    still : (May : Option State → Type 0) (old new : D) → new ≡ old → Leaves (may_leave old) (FindsOneOf May) → Leaves (may_leave new) (FindsOneOf May)
-    still May old new same has = subst (λ disk. Leaves (may_leave disk) (FindsOneOf May)) (sym same) has
+    bound_next : (past : List (Happening × D)) (h : Happening) (life : Option RunningLife) (new : D) → IsSound past → RunsLate (begun_in past) life → RunsLate (begun_in ((h, new) ∷ past)) (life_after h life)
+        → (save : Option State) → FoundAfter h life (G.seen (last_disk first past)) (MayFind G first past) save → Bounds (begun_in ((h, new) ∷ past)) save
+    bound_next past (Opened w s) life new sound late now save is = subst (Bounds (s ∷ begun_in past)) (sym is) now
+    bound_next past (Handled Save None s) life new sound late now save is = running_bound (begun_in past) life late save is
+    bound_next past (Handled Save (Some f) s) life new sound late now save is = ⊎_elim (λ old. sound.bound save old) (λ here. running_bound (begun_in past) life late save here) is
+    bound_next past (Handled e answer s) life new sound late now save is = sound.bound save is
+    bound_next past Moved life new sound late now save is = running_bound (begun_in past) life late save is
+    bound_next past Stopped life new sound late now save is = ⊎_elim (λ old. sound.bound save old) (λ here. running_bound (begun_in past) life late save here) is
+    bound_next past (Unopened w) life new sound late now save is = raised_bound past w sound save is
+    bound_next past (StoppedOpening w) life new sound late now save is = raised_bound past w sound save is
 
-    handled_left : (May : Option State → Type 0) (saved life : Option State) → ((s : State) → saved ≡ Some s → May (Some s)) → (e : ReadEvent) (answer : Option StationFault) (old new : D) → is_honest new → Leaves (may_leave old) (FindsOneOf May)
-        → IsDiskAfterIn seen may_leave moment left_since saved life e answer old new → Leaves (may_leave new) (FindsOneOf (FoundAfter e answer life May))
-    handled_left May saved None may e answer old new sound has is = absurd is
-    handled_left May saved (Some s) may Save None old new sound has is = λ file left. (Some s, (s, refl, refl), is file left)
-    handled_left May saved (Some s) may Save (Some f) old new sound has is = λ file left.
-        running_either May (OrSaved (may_leave old) saved) (Some s) (or_saved May (may_leave old) saved may has) file
-        (at_end moment left_since may_leave old new (FindsRunning (OrSaved (may_leave old) saved) s) (λ t c. counts new t c sound) is file left)
-    handled_left May saved (Some s) may (StartPoll target) answer old new sound has is = still May old new is has
-    handled_left May saved (Some s) may (Timeout id) answer old new sound has is = still May old new is has
-    handled_left May saved (Some s) may (FromAgent from read) answer old new sound has is = still May old new is has
-    handled_left May saved (Some s) may (FromPeer said) answer old new sound has is = still May old new is has
-    handled_left May saved (Some s) may (Share peer) answer old new sound has is = still May old new is has
-
-    handled_runs : (lives : List State) (life : Option State) (e : ReadEvent) (answer : Option StationFault) (s : State) → RunsLate lives life → HandledIn life e answer s → IsAsLate lives s
-    handled_runs lives None e answer s late h = absurd h
-    handled_runs lives (Some old) e answer s late h = (handled_whole e answer old s h, all_same lives old.incarnation s.incarnation h.after.incarnation late.1)
-
-    pub sound_after : (history : List (Happening × D)) → IsHistory is_honest seen may_leave moment left_since first history → IsSound history
+    pub sound_after : (history : List (Happening × D)) → IsHistory G first history → IsSound history
     sound_after [] is = record {
-      honest_now = honest;
-      left = λ file left. (None, refl, empty file left);
+      honest_now = is.0;
+      left = λ file left. (None, refl, is.1 file left);
       bound = λ save none. subst (Bounds []) (sym none) refl;
       runs = tt;
+      saved = tt;
     }
-    sound_after ((Opened w s, new) ∷ past) is =
-        let sound = sound_after past is.2 in
-        let late : IsAsLate (s ∷ begun_in past) s = (begun_whole w _ s is.1.begun, (omega arith, all_late (begun_in past) s.incarnation (next_later past w s sound is.1.begun))) in
-        record {
-          honest_now = is.0;
-          left = λ file left. (Some s, refl, is.1.kept file left);
-          bound = λ save found. subst (Bounds (s ∷ begun_in past)) (sym found) late;
-          runs = late;
-        }
-    sound_after ((Unopened w, new) ∷ past) is =
+    sound_after ((h, new) ∷ past) is =
         let sound = sound_after past is.2 in
         let old = last_disk first past in
+        let runs = runs_next past h (running past) old new sound.runs (λ w s begun. next_later past w s sound begun) is.1 in
         record {
           honest_now = is.0;
-          left = λ file left. begun_either (MayFind seen first past) (may_leave old) w (seen old) sound.left file
-              (at_end moment left_since may_leave old new (λ c. FindsAs (may_leave old) c ⊎ FindsBegun w (found_body (seen old)) c) (λ t c. counts new t c is.0) is.1.any_moment file left);
-          bound = raised_bound past w sound;
-          runs = tt;
-        }
-    sound_after ((Handled e answer s, new) ∷ past) is =
-        let sound = sound_after past is.2 in
-        record {
-          honest_now = is.0;
-          left = handled_left (MayFind seen first past) (last_saved past) (running past) (saved_may seen first past) e answer (last_disk first past) new is.0 sound.left is.1.1;
-          bound = handled_bound past e answer sound;
-          runs = handled_runs (begun_in past) (running past) e answer s sound.runs is.1.0;
-        }
-    sound_after ((Moved, new) ∷ past) is =
-        let sound = sound_after past is.2 in
-        record {
-          honest_now = is.0;
-          left = λ file left. (Some is.1.0, (is.1.0, is.1.1, refl), is.1.2 file left);
-          bound = λ save found. running_bound (begun_in past) (running past) sound.runs save found;
-          runs = sound.runs;
-        }
-    sound_after ((StoppedOpening w, new) ∷ past) is =
-        let sound = sound_after past is.2 in
-        let old = last_disk first past in
-        record {
-          honest_now = is.0;
-          left = λ file left. subst (FindsOneOf (MayFind seen first ((StoppedOpening w, new) ∷ past))) (sym (is.1.only file left))
-              (begun_either (MayFind seen first past) (may_leave old) w (seen old) sound.left is.1.file (is.1.any_moment.each is.1.file is.1.left));
-          bound = raised_bound past w sound;
-          runs = tt;
-        }
-    sound_after ((Stopped, new) ∷ past) is =
-        let sound = sound_after past is.2 in
-        let old = last_disk first past in
-        record {
-          honest_now = is.0;
-          left = λ file left. subst (FindsOneOf (MayFind seen first ((Stopped, new) ∷ past))) (sym (is.1.only file left))
-              (running_either (MayFind seen first past) (OrSaved (may_leave old) (last_saved past)) (running past) (or_saved (MayFind seen first past) (may_leave old) (last_saved past) (saved_may seen first past) sound.left)
-              is.1.file (is.1.any_moment.each is.1.file is.1.left));
-          bound = running_or past sound;
-          runs = tt;
+          left = left_next (MayFind G first past) h (running past) old new is.0 sound.saved sound.left is.1;
+          bound = bound_next past h (running past) new sound sound.runs runs;
+          runs = runs;
+          saved = saved_next h (running past) (G.seen old) (MayFind G first past) sound.saved;
         }

@@ -17,8 +17,9 @@ use Rattle.mon_saved.specs.Image.{SpellsImage}
 use Rattle.mon_saved.specs.Restored.{IsRestored, saved_pairs}
 use Rattle.mon_saved.specs.Written.{image_of, written_image}
 use Rattle.mon_station.specs.declared.fault.StationFault.{StationFault}
+use Rattle.mon_station.specs.Alike.{EqualWindows, WindowsAreOfTaken}
 use Rattle.mon_station.specs.Lived.{BeginsFrom, HandledIn, IsLived, IsReopened, Reopens, entries_of, in_front, last_state, saved_states}
-use Rattle.mon_station.specs.ReadEvent.{ReadEvent, StartPoll, Timeout, FromAgent, FromPeer, Share, Save}
+use Rattle.mon_station.specs.ReadEvent.{ReadEvent, Save}
 use Rattle.mon_station.specs.State.{State, IsHandled, setting_of}
 use Rattle.mon_station.specs.Taken.{Entry, Restart, Answered, Origin, Nothing, Saved, Other, Past, SavedTaken, at_place, begun_with, from_save, has_sizes, past_after, past_of, taken}
 use Rattle.mon_station.specs.Verdict.{Setting, added, polls_after}
@@ -140,24 +141,18 @@ module _ (read_back : (watch : Watch) (board again : Board) (incarnation read : 
         windows = began w (saved_states past) (past_of (entries_of past)).saves origin s before.1 h.0;
       } in
       (is, (as_saved s _ is, before.1))
-  taken_as ((Answered (StartPoll t) answer, s) ∷ past) h = let before = taken_as past h.1 in (next (StartPoll t) answer (last_state past) s _ before.0 h.0, before.1)
-  taken_as ((Answered (Timeout id) answer, s) ∷ past) h = let before = taken_as past h.1 in (next (Timeout id) answer (last_state past) s _ before.0 h.0, before.1)
-  taken_as ((Answered (FromAgent from read) answer, s) ∷ past) h = let before = taken_as past h.1 in (next (FromAgent from read) answer (last_state past) s _ before.0 h.0, before.1)
-  taken_as ((Answered (FromPeer said) answer, s) ∷ past) h = let before = taken_as past h.1 in (next (FromPeer said) answer (last_state past) s _ before.0 h.0, before.1)
-  taken_as ((Answered (Share y) answer, s) ∷ past) h = let before = taken_as past h.1 in (next (Share y) answer (last_state past) s _ before.0 h.0, before.1)
   taken_as ((Answered Save answer, s) ∷ past) h =
       let before = taken_as past h.1 in (
         next Save answer (last_state past) s _ before.0 h.0,
         save_more (last_state past) Save answer s (past_of (entries_of past)) (saved_states past) before.0 h.0 before.1,
       )
+  taken_as ((Answered e answer, s) ∷ past) h = let before = taken_as past h.1 in (next e answer (last_state past) s _ before.0 h.0, before.1)
 
-  pub windows_taken : (history : List (Entry × State)) (s : State) → IsLived history → last_state history ≡ Some s
-      → (i : ℕ) → window_of s.board i ≡ kept_by s.board.watch i (taken (entries_of history) i)
+  pub windows_taken : WindowsAreOfTaken
   windows_taken history s lived is i =
       let as_is : IsAsTaken s (past_of (entries_of history)) = subst (λ (o : Option State). IsAsIn o (past_of (entries_of history))) is (taken_as history lived).0 in
       as_is.windows i ∙ (λ k. kept_by (sym as_is.setting k).watch i (taken (entries_of history) i))
 
-  pub equal_windows : (some others : List (Entry × State)) (s t : State) → IsLived some → IsLived others → last_state some ≡ Some s → last_state others ≡ Some t
-      → s.board.watch ≡ t.board.watch → ((i : ℕ) → taken (entries_of some) i ≡ taken (entries_of others) i) → (i : ℕ) → window_of s.board i ≡ window_of t.board i
-  equal_windows some others s t lived lives is as_well watch same i =
-      windows_taken some s lived is i ∙ (λ k. kept_by (watch k) i (same i k)) ∙ sym (windows_taken others t lives as_well i)
+  pub equal_windows : EqualWindows
+  equal_windows some others s t took i =
+      windows_taken some s took.lived.0 took.state i ∙ (λ k. kept_by (took.watch k) i (took.same i k)) ∙ sym (windows_taken others t took.lived.1 took.state_too i)

@@ -1,3 +1,4 @@
+pub mod Alike
 pub mod Fault
 pub mod Found
 pub mod Lived

@@ -7,7 +7,7 @@ use Rattle.mon_board.specs.declared.instance.Instance.{Instance}
 use Rattle.mon_saved.specs.Image.{SpellsImage}
 use Rattle.mon_saved.specs.Written.{image_of}
 use Rattle.mon_station.specs.declared.fault.StationFault.{StationFault}
-use Rattle.mon_station.specs.ReadEvent.{ReadEvent, StartPoll, Timeout, FromAgent, FromPeer, Share}
+use Rattle.mon_station.specs.ReadEvent.{ReadEvent}
 use Rattle.mon_station.specs.ReadEvent.{Save}
 use Rattle.mon_station.specs.Saved.{IsBegun, saved_octets}
 use Rattle.mon_station.specs.State.{State, IsHandled, known_of, setting_of}
@@ -32,11 +32,7 @@ abbrev pub saved_states : List (Entry × State) → List State
 saved_states [] = []
 saved_states ((Restart origin w, s) ∷ past) = s ∷ saved_states past
 saved_states ((Answered Save answer, s) ∷ past) = in_front (last_state past) (saved_states past)
-saved_states ((Answered (StartPoll target) answer, s) ∷ past) = saved_states past
-saved_states ((Answered (Timeout id) answer, s) ∷ past) = saved_states past
-saved_states ((Answered (FromAgent from read) answer, s) ∷ past) = saved_states past
-saved_states ((Answered (FromPeer said) answer, s) ∷ past) = saved_states past
-saved_states ((Answered (Share peer) answer, s) ∷ past) = saved_states past
+saved_states ((Answered e answer, s) ∷ past) = saved_states past
 
 -- a life of this setting begins from the image of a saved state, of the same instances
 pub record IsReopened (w : Setting) (old new : State) : Type 0 where

@@ -78,18 +78,21 @@ pub record IsBegun (w : Setting) (body : Option (List ℕ)) (s : State) : Type 0
 abbrev pub FindsBegun : Setting → Option (List ℕ) → List ℕ → Type 0
 FindsBegun w body file = (s : State) × IsBegun w body s × FindsState s file
 
+-- in the middle of an opening of this setting that read the one file, an opening of the other meets
+-- what an opening of one of these would, or finds the life that begins from the body that was found
+abbrev pub FindsOpening : Setting → List ℕ → (List ℕ → Type 0) → List ℕ → Type 0
+FindsOpening w read outcomes file = FindsAs outcomes file ⊎ FindsBegun w (found_body read) file
+
 -- What an opening of a station does to its disk, whether it succeeds or not. A crash in the middle
 -- of it leaves a file in which an opening meets what it would have met in one of those that a crash
 -- might have left before, or finds the life that begins from the body that was found. After it a
 -- crash leaves one of those, or an opening always meets what this one met, or finds that life:
 -- never an older one.
-pub record IsBeginning {D : Type 0} (w : Setting) (seen : D → List ℕ)
-    (may_leave : D → List ℕ → Type 0) (moment : D → ℕ) (left_since : D → ℕ → List ℕ → Type 0)
-    (old new : D) : Type 0 where
-  pub any_moment : LeavesSince moment left_since old new (λ c. FindsAs (may_leave old) c
-      ⊎ FindsBegun w (found_body (seen old)) c)
-  pub settled : Leaves (may_leave new) (may_leave old) ⊎ Leaves (may_leave new)
-      (λ c. IsAs c (seen old) ⊎ FindsBegun w (found_body (seen old)) c)
+pub record IsBeginning {D : Type 0} (w : Setting) (G : Ghosts D) (old new : D) : Type 0 where
+  pub any_moment : LeavesSince G.moment G.left_since old new
+      (FindsOpening w (G.seen old) (G.may_leave old))
+  pub settled : Leaves (G.may_leave new) (G.may_leave old) ⊎ Leaves (G.may_leave new)
+      (λ c. IsAs c (G.seen old) ⊎ FindsBegun w (found_body (G.seen old)) c)
 
 -- ---- faults
 -- why no life begins from this body: it is no image of the watch's instances, or its incarnation is

@@ -14,8 +14,7 @@ use Rattle.mon_exchange.specs.Portions.{offered_portions, serial_after}
 use Rattle.mon_poller.specs.Poller.{Poller}
 use Rattle.mon_station.specs.declared.fault.StationFault.{StationFault}
 use Rattle.mon_station.specs.declared.life.Life.{Life}
-use Rattle.mon_station.specs.ReadEvent.{ReadEvent, StartPoll, Timeout, FromAgent, FromPeer, Share}
-use Rattle.mon_station.specs.ReadEvent.{Save}
+use Rattle.mon_station.specs.ReadEvent.{ReadEvent, FromPeer, Share}
 use Rattle.mon_station.specs.Verdict.{Setting, IsLawful, added, polls_after, slot_of}
 
 -- the board, the polls, the peers, the incarnation, and the serial of the next offer
@@ -88,12 +87,7 @@ serial_past serial (p ∷ portions) = serial_past (serial_after serial) portions
 -- the serial of the next offer after an event with this answer
 abbrev pub next_serial : State → ReadEvent → Option StationFault → ℕ
 next_serial s (Share y) None = serial_past s.serial (shared_with s y)
-next_serial s (Share y) (Some f) = s.serial
-next_serial s (StartPoll target) answer = s.serial
-next_serial s (Timeout id) answer = s.serial
-next_serial s (FromAgent from read) answer = s.serial
-next_serial s (FromPeer said) answer = s.serial
-next_serial s Save answer = s.serial
+next_serial s e answer = s.serial
 
 -- the known incarnations after an event with this answer: of an accepted claim's station the later
 -- one

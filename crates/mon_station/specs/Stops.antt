@@ -5,14 +5,14 @@ use Rattle.std.specs.FinSet as set
 use Rattle.mon_board.specs.Board.{window_of}
 use Rattle.mon_board.specs.Instance.{instances_of}
 use Rattle.mon_board.specs.Windows.{kept_by}
-use Rattle.mon_disk.specs.Disk.{Leaves, LeavesSince, Only}
+use Rattle.mon_disk.specs.Disk.{Leaves, LeavesSince}
+use Rattle.mon_disk.specs.History as keeping
 use Rattle.mon_disk.specs.Keeper.{FindsAs, FindsBody, found_body}
+use Rattle.mon_disk.specs.declared.disk.Disk.{Ghosts}
 use Rattle.mon_station.specs.declared.fault.StationFault.{StationFault}
-use Rattle.mon_station.specs.Lived.{HandledIn}
-use Rattle.mon_station.specs.ReadEvent.{ReadEvent, StartPoll, Timeout, FromAgent, FromPeer, Share}
-use Rattle.mon_station.specs.ReadEvent.{Save}
-use Rattle.mon_station.specs.Saved.{FindsBegun, FindsRunning, FindsState, IsBeginning, IsBegun}
-use Rattle.mon_station.specs.State.{State}
+use Rattle.mon_station.specs.ReadEvent.{ReadEvent, Save}
+use Rattle.mon_station.specs.Saved.{FindsOpening, FindsRunning, FindsState, IsBeginning, IsBegun}
+use Rattle.mon_station.specs.State.{State, IsHandled}
 use Rattle.mon_station.specs.Verdict.{Setting}
 
 -- A call of a station with its answer, or a stop: an opening that was answered by a life that
@@ -32,107 +32,40 @@ abbrev pub FindsSave : Option State → List ℕ → Type 0
 FindsSave None file = FindsBody None file
 FindsSave (Some s) file = FindsState s file
 
--- one of these files, or one in which the saved state is found, if one is known
-abbrev pub OrSaved : (List ℕ → Type 0) → Option State → List ℕ → Type 0
-OrSaved outcomes None file = outcomes file
-OrSaved outcomes (Some s) file = outcomes file ⊎ FindsState s file
+-- a life that is running: its state, and the state of it that was saved last
+pub record RunningLife : Type 0 where
+  pub now : State
+  pub saved : State
 
--- an opening of this file meets what an opening of one of these would, or finds the state of the
--- life that was running, if there was one
-abbrev pub FindsRunningIn : (List ℕ → Type 0) → Option State → List ℕ → Type 0
+-- an opening of this file meets what an opening of one of these would, or finds a state of the life
+-- that is running, if one is: the one that was saved last, to which a keeper goes back whose disk
+-- failed, or the present one
+abbrev pub FindsRunningIn : (List ℕ → Type 0) → Option RunningLife → List ℕ → Type 0
 FindsRunningIn outcomes None file = FindsAs outcomes file
-FindsRunningIn outcomes (Some s) file = FindsRunning outcomes s file
-
--- ---- what happens, as the clauses of `open` and `step` give it
-module _ {D : Type 0} (seen : D → List ℕ) (may_leave : D → List ℕ → Type 0) (moment : D → ℕ)
-    (left_since : D → ℕ → List ℕ → Type 0) where
-  -- a stop in the middle of calls after which `then` is the disk: a crash then left this file, of
-  -- which P holds, and the next disk has it and nothing else
-  pub record IsStopped (P : List ℕ → Type 0) (old new : D) : Type 0 where
-    pub then : D
-    pub any_moment : LeavesSince moment left_since old then P
-    pub file : List ℕ
-    pub left : left_since then (moment old) file
-    pub only : Only file (may_leave new)
-
-  -- an opening that was answered by a life in this state: it begins from what is found, and will be
-  -- found
-  pub record IsOpened (w : Setting) (s : State) (old new : D) : Type 0 where
-    pub begun : IsBegun w (found_body (seen old)) s
-    pub kept : Leaves (may_leave new) (FindsState s)
-
-  -- the disk after an event that a life in this state answered so, whose state was saved last:
-  -- after a save a crash leaves files in which the state is found; after one that failed perhaps,
-  -- or the one that was saved last, to which a keeper goes back whose disk failed; no other event
-  -- touches it
-  abbrev pub IsDiskAfter : Option State → State → ReadEvent → Option StationFault → D → D → Type 0
-  IsDiskAfter saved s Save None old new = Leaves (may_leave new) (FindsState s)
-  IsDiskAfter saved s Save (Some f) old new = LeavesSince moment left_since old new
-      (FindsRunning (OrSaved (may_leave old) saved) s)
-  IsDiskAfter saved s (StartPoll target) answer old new = new ≡ old
-  IsDiskAfter saved s (Timeout id) answer old new = new ≡ old
-  IsDiskAfter saved s (FromAgent from read) answer old new = new ≡ old
-  IsDiskAfter saved s (FromPeer said) answer old new = new ≡ old
-  IsDiskAfter saved s (Share peer) answer old new = new ≡ old
-
-  -- the states that may be found, and that of the life that is running, if one is
-  abbrev pub IsDiskAfterIn : Option State → Option State → ReadEvent → Option StationFault → D → D
-      → Type 0
-  IsDiskAfterIn saved None e answer old new = ⊥
-  IsDiskAfterIn saved (Some s) e answer old new = IsDiskAfter saved s e answer old new
-
-  -- The disk after a move is another one, of which it is only said that a crash leaves files in
-  -- which the state of the running life is found.
-  abbrev pub IsMovedTo : Option State → D → Type 0
-  IsMovedTo running new = (s : State) × (running ≡ Some s) × Leaves (may_leave new) (FindsState s)
-
-  -- it happens where this life is running, if one is, and this state of it was saved last, from the
-  -- disk before it to the disk after it
-  abbrev pub Happens : (running saved : Option State) → Happening → D → D → Type 0
-  Happens running saved (Opened w s) old new = IsOpened w s old new
-  Happens running saved (Unopened w) old new = IsBeginning w seen may_leave moment left_since old
-      new
-  Happens running saved (Handled e answer s) old new = HandledIn running e answer s
-      × IsDiskAfterIn saved running e answer old new
-  Happens running saved Moved old new = IsMovedTo running new
-  Happens running saved (StoppedOpening w) old new = IsStopped
-      (λ c. FindsAs (may_leave old) c ⊎ FindsBegun w (found_body (seen old)) c) old new
-  Happens running saved Stopped old new = IsStopped (FindsRunningIn (OrSaved (may_leave old) saved)
-      running) old new
+FindsRunningIn outcomes (Some life) file = FindsRunning (λ c. outcomes c ⊎ FindsState life.saved c)
+    life.now file
 
 -- ---- histories, each happening with the disk that it left
--- the state of the life that is running after it, if one is
-abbrev pub running : {D : Type 0} → List (Happening × D) → Option State
+-- the state of a life that is the last saved after an event with this answer
+abbrev pub saved_after : ReadEvent → Option StationFault → RunningLife → State
+saved_after Save None life = life.now
+saved_after e answer life = life.saved
+
+-- the life that is running after it, if one is, where this one was before it: an opening saves its
+-- life, and so does the first save after a move
+abbrev pub life_after : Happening → Option RunningLife → Option RunningLife
+life_after (Opened w s) life = Some (record { now = s; saved = s })
+life_after (Handled e answer s) (Some life) = Some (record {
+  now = s;
+  saved = saved_after e answer life;
+})
+life_after Moved (Some life) = Some (record { now = life.now; saved = life.now })
+life_after h life = None
+
+-- the life that is running after a history, if one is
+abbrev pub running : {D : Type 0} → List (Happening × D) → Option RunningLife
 running [] = None
-running ((Opened w s, disk) ∷ past) = Some s
-running ((Unopened w, disk) ∷ past) = None
-running ((Handled e answer s, disk) ∷ past) = Some s
-running ((Moved, disk) ∷ past) = running past
-running ((StoppedOpening w, disk) ∷ past) = None
-running ((Stopped, disk) ∷ past) = None
-
--- the state of the running life that is the last saved after an event with this answer
-abbrev pub saved_after : ReadEvent → Option StationFault → (running saved : Option State)
-    → Option State
-saved_after Save None running saved = running
-saved_after Save (Some f) running saved = saved
-saved_after (StartPoll target) answer running saved = saved
-saved_after (Timeout id) answer running saved = saved
-saved_after (FromAgent from read) answer running saved = saved
-saved_after (FromPeer said) answer running saved = saved
-saved_after (Share peer) answer running saved = saved
-
--- the state of that life that was saved last: that of its opening, or of the last save that was
--- answered without a fault, as one after a move is
-abbrev pub last_saved : {D : Type 0} → List (Happening × D) → Option State
-last_saved [] = None
-last_saved ((Opened w s, disk) ∷ past) = Some s
-last_saved ((Unopened w, disk) ∷ past) = None
-last_saved ((Handled e answer s, disk) ∷ past) = saved_after e answer (running past)
-    (last_saved past)
-last_saved ((Moved, disk) ∷ past) = running past
-last_saved ((StoppedOpening w, disk) ∷ past) = None
-last_saved ((Stopped, disk) ∷ past) = None
+running ((h, disk) ∷ past) = life_after h (running past)
 
 -- the disk after it
 abbrev pub last_disk : {D : Type 0} → D → List (Happening × D) → D
@@ -143,56 +76,81 @@ last_disk first ((h, disk) ∷ past) = disk
 abbrev pub begun_in : {D : Type 0} → List (Happening × D) → List State
 begun_in [] = []
 begun_in ((Opened w s, disk) ∷ past) = s ∷ begun_in past
-begun_in ((Unopened w, disk) ∷ past) = begun_in past
-begun_in ((Handled e answer s, disk) ∷ past) = begun_in past
-begun_in ((Moved, disk) ∷ past) = begun_in past
-begun_in ((StoppedOpening w, disk) ∷ past) = begun_in past
-begun_in ((Stopped, disk) ∷ past) = begun_in past
-
-module _ {D : Type 0} (is_honest : D → Type 0) (seen : D → List ℕ) (may_leave : D → List ℕ → Type 0)
-    (moment : D → ℕ) (left_since : D → ℕ → List ℕ → Type 0) where
-  -- each happening follows from the one before it, on honest disks
-  abbrev pub IsHistory : D → List (Happening × D) → Type 0
-  IsHistory first [] = Unit {0}
-  IsHistory first ((h, new) ∷ past) = is_honest new × Happens seen may_leave moment left_since
-      (running past) (last_saved past) h (last_disk first past) new × IsHistory first past
+begun_in (x ∷ past) = begun_in past
 
 -- ---- what an opening may find
--- it is the life that is running
-abbrev pub IsRunning : Option State → Option State → Type 0
-IsRunning running save = (s : State) × (running ≡ Some s) × (save ≡ Some s)
+-- it is the present state of the life that is running
+abbrev pub IsRunning : Option RunningLife → Option State → Type 0
+IsRunning None save = ⊥
+IsRunning (Some life) save = save ≡ Some life.now
 
 -- it is the life that an opening of this setting begins, or would have started, from this file
 abbrev pub IsRaised : Setting → List ℕ → Option State → Type 0
 IsRaised w file save = (s : State) × (save ≡ Some s) × IsBegun w (found_body file) s
 
--- what may be found after an event with this answer, where this life is running: a save that was
--- answered without a fault is the only one, and one that failed comes to those before
-abbrev pub FoundAfter : ReadEvent → Option StationFault → Option State → (Option State → Type 0)
+-- What may be found after it, where this life was running, this was the file, and these were found
+-- before: a save that is acknowledged, which an opening's own is too, is the only one; one that was
+-- running or failed comes to those before, also one of an opening.
+abbrev pub FoundAfter : Happening → Option RunningLife → List ℕ → (Option State → Type 0)
     → Option State → Type 0
-FoundAfter Save None running before save = IsRunning running save
-FoundAfter Save (Some f) running before save = before save ⊎ IsRunning running save
-FoundAfter (StartPoll target) answer running before save = before save
-FoundAfter (Timeout id) answer running before save = before save
-FoundAfter (FromAgent from read) answer running before save = before save
-FoundAfter (FromPeer said) answer running before save = before save
-FoundAfter (Share peer) answer running before save = before save
+FoundAfter (Opened w s) life file Before save = save ≡ Some s
+FoundAfter (Handled Save None s) life file Before save = IsRunning life save
+FoundAfter (Handled Save (Some f) s) life file Before save = Before save ⊎ IsRunning life save
+FoundAfter (Handled e answer s) life file Before save = Before save
+FoundAfter Moved life file Before save = IsRunning life save
+FoundAfter Stopped life file Before save = Before save ⊎ IsRunning life save
+FoundAfter (Unopened w) life file Before save = Before save ⊎ IsRaised w file save
+FoundAfter (StoppedOpening w) life file Before save = Before save ⊎ IsRaised w file save
 
--- What an opening may find after a history on a disk that had no save, None if it finds none: the
--- last save that was acknowledged, which an opening's own is too, or one after it that was running
--- or failed. No older one is among them.
-abbrev pub MayFind : {D : Type 0} → (D → List ℕ) → D → List (Happening × D) → Option State → Type 0
-MayFind seen first [] save = save ≡ None
-MayFind seen first ((Opened w s, disk) ∷ past) save = save ≡ Some s
-MayFind seen first ((Unopened w, disk) ∷ past) save = MayFind seen first past save
-    ⊎ IsRaised w (seen (last_disk first past)) save
-MayFind seen first ((Handled e answer s, disk) ∷ past) save = FoundAfter e answer (running past)
-    (MayFind seen first past) save
-MayFind seen first ((Moved, disk) ∷ past) save = IsRunning (running past) save
-MayFind seen first ((StoppedOpening w, disk) ∷ past) save = MayFind seen first past save
-    ⊎ IsRaised w (seen (last_disk first past)) save
-MayFind seen first ((Stopped, disk) ∷ past) save = MayFind seen first past save
-    ⊎ IsRunning (running past) save
+-- ---- what happens, as the clauses of `open` and `step` give it
+module _ {D : Type 0} (G : Ghosts D) where
+  -- a stop in the middle of calls: a crash then left a file of which P holds
+  abbrev pub IsStopped : (List ℕ → Type 0) → D → D → Type 0
+  IsStopped P old new = keeping.IsStopped G.is_honest G.seen G.may_leave G.moment G.left_since P old
+      new
+
+  -- an opening that was answered by a life in this state: it begins from what is found, and will be
+  -- found
+  pub record IsOpened (w : Setting) (s : State) (old new : D) : Type 0 where
+    pub begun : IsBegun w (found_body (G.seen old)) s
+    pub kept : Leaves (G.may_leave new) (FindsState s)
+
+  -- the disk after an event that this life answered so: after a save a crash leaves files in which
+  -- its state is found; after one that failed perhaps, or the one that was saved last; no other
+  -- event touches it
+  abbrev pub IsDiskAfter : RunningLife → ReadEvent → Option StationFault → D → D → Type 0
+  IsDiskAfter life Save None old new = Leaves (G.may_leave new) (FindsState life.now)
+  IsDiskAfter life Save (Some f) old new = LeavesSince G.moment G.left_since old new
+      (FindsRunningIn (G.may_leave old) (Some life))
+  IsDiskAfter life e answer old new = new ≡ old
+
+  -- It happens where this life is running, if one is, from the disk before it to the disk after it.
+  -- Of the other disk after a move it is only said that a crash leaves files in which the state of
+  -- the running life is found. Without a life no event is answered, and none moves.
+  abbrev pub Happens : Happening → Option RunningLife → D → D → Type 0
+  Happens (Opened w s) life old new = IsOpened w s old new
+  Happens (Unopened w) life old new = IsBeginning w G old new
+  Happens (Handled e answer s) (Some life) old new = IsHandled e answer life.now s
+      × IsDiskAfter life e answer old new
+  Happens Moved (Some life) old new = Leaves (G.may_leave new) (FindsState life.now)
+  Happens (StoppedOpening w) life old new = IsStopped
+      (FindsOpening w (G.seen old) (G.may_leave old)) old new
+  Happens Stopped life old new = IsStopped (FindsRunningIn (G.may_leave old) life) old new
+  Happens h life old new = ⊥
+
+  -- a history: it begins on an honest disk that has no save, and each happening follows from the
+  -- one before it, on honest disks
+  abbrev pub IsHistory : D → List (Happening × D) → Type 0
+  IsHistory first [] = G.is_honest first × Leaves (G.may_leave first) (FindsBody None)
+  IsHistory first ((h, new) ∷ past) = G.is_honest new
+      × Happens h (running past) (last_disk first past) new × IsHistory first past
+
+  -- What an opening may find after a history, None if it finds none: the last save that was
+  -- acknowledged, or one after it that was running or failed. No older one is among them.
+  abbrev pub MayFind : D → List (Happening × D) → Option State → Type 0
+  MayFind first [] save = save ≡ None
+  MayFind first ((h, disk) ∷ past) save = FoundAfter h (running past)
+      (G.seen (last_disk first past)) (MayFind first past) save
 
 -- an opening of this file finds one of these
 abbrev pub FindsOneOf : (Option State → Type 0) → List ℕ → Type 0

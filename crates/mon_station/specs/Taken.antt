@@ -9,7 +9,7 @@ use Rattle.mon_poller.specs.Polls.{Polls, no_polls}
 use Rattle.mon_saved.specs.declared.image.Image.{Image}
 use Rattle.mon_saved.specs.Restored.{saved_pairs}
 use Rattle.mon_station.specs.declared.fault.StationFault.{StationFault}
-use Rattle.mon_station.specs.ReadEvent.{ReadEvent, StartPoll, Timeout, FromAgent, FromPeer, Share}
+use Rattle.mon_station.specs.ReadEvent.{ReadEvent}
 use Rattle.mon_station.specs.ReadEvent.{Save}
 use Rattle.mon_station.specs.Verdict.{Setting, added, polls_after}
 
@@ -79,11 +79,7 @@ begun_with watch saves (Other image) i = set_of i (saved_pairs image)
 -- the saves after an event, however it was answered
 abbrev pub saves_after : ReadEvent → Past → List SavedTaken
 saves_after Save p = record { watch = p.setting.watch; taken = p.taken } ∷ p.saves
-saves_after (StartPoll target) p = p.saves
-saves_after (Timeout id) p = p.saves
-saves_after (FromAgent from read) p = p.saves
-saves_after (FromPeer said) p = p.saves
-saves_after (Share peer) p = p.saves
+saves_after e p = p.saves
 
 -- what one entry more leaves: a beginning is saved, and an event that is answered without a fault
 -- adds what it offers

@@ -23,7 +23,6 @@ use Rattle.mon_station.specs.declared.event.Told.{Told}
 use Rattle.mon_station.specs.declared.event.To.TheVariants as to
 use Rattle.mon_station.specs.declared.fault.StationFault.{StationFault}
 use Rattle.mon_station.specs.ReadEvent.{ReadEvent, StartPoll, Timeout, FromAgent, FromPeer, Share}
-use Rattle.mon_station.specs.ReadEvent.{Save}
 use Rattle.mon_station.specs.State.{State, IsHandled, known_of, setting_of, shared_with}
 use Rattle.mon_station.specs.Verdict.{offers, response_stamp}
 
@@ -94,12 +93,10 @@ abbrev pub sends : State → ReadEvent → List Outgoing
 sends s (StartPoll target) = to_target target (poll_octets (target_at s.poller.targets target)
     (s.poller.polls.started + 1)) ∷ []
 sends s (Timeout id) = resends (timeout_verdict s.poller.targets s.poller.polls id)
-sends s (FromAgent from read) = []
-sends s (FromPeer (Err f)) = []
 sends s (FromPeer (Ok said)) = map (to_peer said.claim.station)
     (confirms s said.claim.kind said.claim)
 sends s (Share y) = map (to_peer y) (offers_from s s.serial (shared_with s y))
-sends s Save = []
+sends s e = []
 
 -- what became of the claim of an event that is not refused
 abbrev pub noted_in : State → ReadEvent → Option Noted

@@ -60,22 +60,14 @@ verdict w p Save = None
 
 -- the event is a save
 abbrev pub IsSave : ReadEvent → Type 0
-IsSave (StartPoll target) = ⊥
-IsSave (Timeout id) = ⊥
-IsSave (FromAgent from read) = ⊥
-IsSave (FromPeer said) = ⊥
-IsSave (Share peer) = ⊥
 IsSave Save = Unit {0}
+IsSave e = ⊥
 
 -- the fault is the verdict, or out of memory, or at a save the keeper's
 abbrev pub IsLawfulFault : Setting → Polls → ReadEvent → StationFault → Type 0
 IsLawfulFault w p e fault.OutOfMemory = Unit {0}
 IsLawfulFault w p e (fault.Keeper f) = IsSave e
-IsLawfulFault w p e (fault.Poll f) = verdict w p e ≡ Some (fault.Poll f)
-IsLawfulFault w p e (fault.Response f) = verdict w p e ≡ Some (fault.Response f)
-IsLawfulFault w p e (fault.Exchange f) = verdict w p e ≡ Some (fault.Exchange f)
-IsLawfulFault w p e (fault.Image f) = verdict w p e ≡ Some (fault.Image f)
-IsLawfulFault w p e fault.NoMoreIncarnations = verdict w p e ≡ Some fault.NoMoreIncarnations
+IsLawfulFault w p e other = verdict w p e ≡ Some other
 
 -- the answer is the verdict, or such a fault
 abbrev pub IsLawful : Setting → Polls → ReadEvent → Option StationFault → Type 0
@@ -92,13 +84,9 @@ ends_poll (Some f) = false
 -- the open polls after an event with this answer
 abbrev pub polls_after : Setting → ReadEvent → Option StationFault → Polls → Polls
 polls_after w (StartPoll target) None p = with_poll target p
-polls_after w (StartPoll target) (Some f) p = p
 polls_after w (Timeout id) None p = timed (tries_of w.targets) id p
-polls_after w (Timeout id) (Some f) p = p
 polls_after w (FromAgent from read) answer p = after_response (ends_poll answer) read p
-polls_after w (FromPeer said) answer p = p
-polls_after w (Share peer) answer p = p
-polls_after w Save answer p = p
+polls_after w e answer p = p
 
 -- ---- offers: samples with the numbers of their instances
 -- what an accepted response offers
@@ -122,14 +110,10 @@ claim_pairs (Some number) samples = paired number samples
 
 -- what an event offers that is not refused
 abbrev pub offers : Setting → Polls → ReadEvent → List (ℕ × ℕ)
-offers w p (StartPoll target) = []
-offers w p (Timeout id) = []
 offers w p (FromAgent from read) = response_pairs (response_verdict w.targets p.open_polls from
     read)
 offers w p (FromPeer (Ok said)) = claim_pairs said.number said.claim.samples
-offers w p (FromPeer (Err f)) = []
-offers w p (Share peer) = []
-offers w p Save = []
+offers w p e = []
 
 -- what an event with this answer adds to what was taken
 abbrev pub added : Setting → Polls → ReadEvent → Option StationFault → List (ℕ × ℕ)

@@ -1,13 +1,13 @@
 //! Laws over all lives of a station. Each is a function that does nothing; its clauses are the law.
 
-ghost use Rattle.std.specs.Prelude.{◌≡◌, ◌<◌, ◌∷◌, true, List, None, Option, Some, ℕ};
+ghost use Rattle.std.specs.Prelude.{◌≡◌, ◌<◌, ◌∷◌, true, List, Option, Some, ℕ};
 ghost use Rattle.std.specs.List.{AllByRecursion};
 ghost use Rattle.mon_board.specs.Board.{window_of};
 ghost use Rattle.mon_board.specs.Watch.{Watch as AnyWatch, epoch_of, size_of};
-ghost use Rattle.mon_board.specs.Windows.{IsWhole, of_both, kept_by};
+ghost use Rattle.mon_board.specs.Windows.{IsWhole, of_both};
 ghost use Rattle.mon_disk.specs.Disk.{Leaves};
-ghost use Rattle.mon_disk.specs.Keeper.{FindsBody, is_undamaged};
-ghost use Rattle.mon_report.specs.Report.{report};
+ghost use Rattle.mon_disk.specs.Keeper.{is_undamaged};
+ghost use Rattle.mon_station.specs.Alike.{EqualReports, EqualWindows, WindowsAreOfTaken};
 ghost use Rattle.mon_station.specs.declared.fault.StationFault.{StationFault};
 ghost use Rattle.mon_station.specs.Lived.{IsLeftAlone, IsLived, entries_of, last_state};
 ghost use Rattle.mon_station.specs.ReadEvent.{ReadEvent};
@@ -26,20 +26,9 @@ use mon_disk::Disk;
 /// equal watches that took the same samples, directly or through others, hold equal windows and
 /// print equal reports.
 pub fn taken()
-    ensures windows { (history : List (Entry × State)) (s : State) → IsLived history
-        → last_state history ≡ Some s
-        → (i : ℕ) → window_of s.board i ≡ kept_by s.board.watch i
-        (lives.taken (entries_of history) i) }
-    ensures equal { (some others : List (Entry × State)) (s t : State) → IsLived some
-        → IsLived others → last_state some ≡ Some s → last_state others ≡ Some t
-        → s.board.watch ≡ t.board.watch → ((i : ℕ) → lives.taken (entries_of some) i
-        ≡ lives.taken (entries_of others) i)
-        → (i : ℕ) → window_of s.board i ≡ window_of t.board i }
-    ensures reports { (some others : List (Entry × State)) (s t : State) → IsLived some
-        → IsLived others → last_state some ≡ Some s → last_state others ≡ Some t
-        → s.board.watch ≡ t.board.watch → ((i : ℕ) → lives.taken (entries_of some) i
-        ≡ lives.taken (entries_of others) i)
-        → report s.board.watch (window_of s.board) ≡ report t.board.watch (window_of t.board) }
+    ensures windows { WindowsAreOfTaken }
+    ensures equal { EqualWindows }
+    ensures reports { EqualReports }
 {
     mon_saved::laws::one_image();
     mon_saved::laws::read_back();
@@ -55,20 +44,9 @@ pub fn taken()
 /// `Station::open`, `step` and `run` extend such a list by what they answered (`lived`), so it
 /// holds of every station.
 pub fn headline()
-    ensures windows { (history : List (Entry × State)) (s : State) → IsLived history
-        → last_state history ≡ Some s
-        → (i : ℕ) → window_of s.board i ≡ kept_by s.board.watch i
-        (lives.taken (entries_of history) i) }
-    ensures equal { (some others : List (Entry × State)) (s t : State) → IsLived some
-        → IsLived others → last_state some ≡ Some s → last_state others ≡ Some t
-        → s.board.watch ≡ t.board.watch → ((i : ℕ) → lives.taken (entries_of some) i
-        ≡ lives.taken (entries_of others) i)
-        → (i : ℕ) → window_of s.board i ≡ window_of t.board i }
-    ensures reports { (some others : List (Entry × State)) (s t : State) → IsLived some
-        → IsLived others → last_state some ≡ Some s → last_state others ≡ Some t
-        → s.board.watch ≡ t.board.watch → ((i : ℕ) → lives.taken (entries_of some) i
-        ≡ lives.taken (entries_of others) i)
-        → report s.board.watch (window_of s.board) ≡ report t.board.watch (window_of t.board) }
+    ensures windows { WindowsAreOfTaken }
+    ensures equal { EqualWindows }
+    ensures reports { EqualReports }
     ensures newest { (history : List (Entry × State)) (s : State) → IsLived history
         → last_state history ≡ Some s → (i : ℕ) → epoch_of s.board.watch i ≡ size_of s.board.watch i
         → window_of s.board i ≡ top (size_of s.board.watch i) (lives.taken (entries_of history) i) }
@@ -100,24 +78,16 @@ pub fn headline()
 /// a save, with what its watch keeps of the windows. Its incarnation is greater than that of each
 /// earlier life over a file; no other life sent anything.
 pub fn stops<D: Disk>()
-    ensures left { (first : D) (history : List (Happening × D)) → D.is_honest first
-        → Leaves (D.may_leave first) (FindsBody None)
-        → IsHistory D.is_honest D.seen D.may_leave D.moment D.left_since first history
+    ensures left { (first : D) (history : List (Happening × D)) → IsHistory D.Disk first history
         → Leaves (D.may_leave (last_disk first history))
-        (FindsOneOf (MayFind D.seen first history)) }
-    ensures undamaged { (first : D) (history : List (Happening × D)) → D.is_honest first
-        → Leaves (D.may_leave first) (FindsBody None)
-        → IsHistory D.is_honest D.seen D.may_leave D.moment D.left_since first history
+        (FindsOneOf (MayFind D.Disk first history)) }
+    ensures undamaged { (first : D) (history : List (Happening × D)) → IsHistory D.Disk first history
         → is_undamaged (D.seen (last_disk first history)) ≡ true }
     ensures opened { (first disk : D) (past : List (Happening × D)) (w : Setting) (s : State)
-        → D.is_honest first → Leaves (D.may_leave first) (FindsBody None)
-        → IsHistory D.is_honest D.seen D.may_leave D.moment D.left_since first
-        ((Opened w s, disk) ∷ past) → (save : Option State) × MayFind D.seen first past save
-        × GoesOn w save s }
+        → IsHistory D.Disk first ((Opened w s, disk) ∷ past) → (save : Option State)
+        × MayFind D.Disk first past save × GoesOn w save s }
     ensures later { (first disk : D) (past : List (Happening × D)) (w : Setting) (s : State)
-        → D.is_honest first → Leaves (D.may_leave first) (FindsBody None)
-        → IsHistory D.is_honest D.seen D.may_leave D.moment D.left_since first
-        ((Opened w s, disk) ∷ past) → AllByRecursion (λ life. life.incarnation < s.incarnation)
+        → IsHistory D.Disk first ((Opened w s, disk) ∷ past) → AllByRecursion (λ life. life.incarnation < s.incarnation)
         (begun_in past) }
 {
     mon_saved::laws::one_image();

@@ -25,7 +25,7 @@ impl<D: Disk + Drop> Station<D> {
     ghost use Rattle.mon_board.specs.Instance.{instances_of};
     ghost use Rattle.mon_station.specs.Lived.{IsLived, IsOrigin, saved_states};
     ghost use Rattle.mon_station.specs.State.{State, setting_of};
-    ghost use Rattle.mon_station.specs.Stops.{Happens, Opened, Unopened};
+    ghost use Rattle.mon_station.specs.Stops.{Happens, Opened, RunningLife, Unopened};
     ghost use Rattle.mon_station.specs.Taken.{Entry, Origin, Restart};
 
     /// Begins a life from what the disk holds: its windows, and the next incarnation, which is
@@ -54,18 +54,17 @@ impl<D: Disk + Drop> Station<D> {
             (instances_of core.watch.instances) origin → IsLived
             ((Restart origin (setting_in core), state_of s.life) ∷ past)) }
         // It is a step of the law of stops.
-        ensures happens { D.is_honest disk → (running saved : Option State)
-            → IfOk result (λ s. Happens D.seen D.may_leave D.moment D.left_since running saved
-            (Opened (setting_in core) (state_of s.life)) disk (device_of s.keeper)) }
-        ensures happens_err { D.is_honest disk → (running saved : Option State)
-            → IfErr result (λ e. Happens D.seen D.may_leave D.moment D.left_since running saved
-            (Unopened (setting_in core)) disk e.1) }
+        ensures happens { D.is_honest disk → (life : Option RunningLife)
+            → IfOk result (λ s. Happens D.Disk (Opened (setting_in core) (state_of s.life)) life
+            disk (device_of s.keeper)) }
+        ensures happens_err { D.is_honest disk → (life : Option RunningLife)
+            → IfErr result (λ e. Happens D.Disk (Unopened (setting_in core)) life disk e.1) }
         // In the middle of it a crash leaves what was there, or the raised incarnation; and no
         // older one later.
         ensures beginning { D.is_honest disk → IfOk result (λ s. IsBeginning (setting_in core)
-            D.seen D.may_leave D.moment D.left_since disk (device_of s.keeper)) }
+            D.Disk disk (device_of s.keeper)) }
         ensures beginning_err { D.is_honest disk → IfErr result
-            (λ e. IsBeginning (setting_in core) D.seen D.may_leave D.moment D.left_since disk e.1) }
+            (λ e. IsBeginning (setting_in core) D.Disk disk e.1) }
         // Each fault is one of an opening and has its cause.
         ensures fault { IfErr result (λ e. IsOpeningFault e.0) }
         ensures fault_of { D.is_honest disk → IfErr result (λ e. IsFaultOfFile core.watch

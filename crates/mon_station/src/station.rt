@@ -84,16 +84,16 @@ impl<D: Disk + Drop> Station<D> {
         ensures happens { D.is_honest (device_of self.old.keeper) → (saved : State)
             → IsSavedAs saved (last_body self.old.keeper) → (e : ReadEvent)
             → ReadsAs self.old.life.board.watch (owned event.entry) e
-            → Happens D.seen D.may_leave D.moment D.left_since (Some (state_of self.old.life))
-            (Some saved) (Handled e (answer_in result) (state_of self.new.life))
+            → Happens D.Disk (Handled e (answer_in result) (state_of self.new.life))
+            (Some (record { now = state_of self.old.life; saved = saved }))
             (device_of self.old.keeper) (device_of self.new.keeper) }
 
         // So is a save on a disk to which the station moved (`move_to`), from the first that is
         // answered Ok on.
         ensures moved { D.is_honest (device_of self.old.keeper) → event.entry ≡ Event.Save
-            → (before : D) (saved : Option State)
-            → OnOk result (Happens D.seen D.may_leave D.moment D.left_since
-            (Some (state_of self.old.life)) saved Moved before (device_of self.new.keeper)) }
+            → (before : D) (saved : State) → OnOk result (Happens D.Disk Moved
+            (Some (record { now = state_of self.old.life; saved = saved })) before
+            (device_of self.new.keeper)) }
 
         // A save changes nothing in memory.
         ensures same { event.entry ≡ Event.Save → self.new.life ≡ self.old.life }

@@ -43,17 +43,13 @@ shared_slot (Some k) h = (k, refl)
 
 module _ (core : Core) (count : ℕ) where
   sent_by : (x : ℕ) (o s : State) (e : ReadEvent) → setting_of o ≡ setting_at core count x → IsHandled e None o s → AllByRecursion (λ (l : Letter). IsNumberTo count l.to) (letters_by (Some o) (Answered e None))
-  sent_by x o s (StartPoll target) same h = tt
-  sent_by x o s (Timeout id) same h = tt
-  sent_by x o s (FromAgent from read) same h = tt
-  sent_by x o s (FromPeer (Err f)) same h = tt
   sent_by x o s (FromPeer (Ok said)) same h =
       let slot = claimed_slot (slot_of (setting_of o).peers said.claim.station) said.number h.lawful in
       all_to (IsNumberTo count) said.claim.station (claims_sent o (FromPeer (Ok said))) (peer_number x count said.claim.station slot.0 ((λ j. slot_of (sym same j).peers said.claim.station) ∙ slot.1))
   sent_by x o s (Share y) same h =
       let slot = shared_slot (slot_of (setting_of o).peers y) h.lawful in
       all_to (IsNumberTo count) y (claims_sent o (Share y)) (peer_number x count y slot.0 ((λ j. slot_of (sym same j).peers y) ∙ slot.1))
-  sent_by x o s Save same h = tt
+  sent_by x o s e same h = tt
 
   of_entry : (x : ℕ) (h : List (Entry × State)) (s : State) (entry : Entry) → IsLived ((entry, s) ∷ h) → AreLives (setting_at core count x) ((entry, s) ∷ h) → (old : Option State) → last_state h ≡ old
       → AllByRecursion (λ (l : Letter). IsNumberTo count l.to) (letters_by old entry)

@@ -11,6 +11,7 @@ use Rattle.mon_saved.specs.declared.image.Image.{Image}
 use Rattle.mon_saved.specs.Image.{SpellsImage}
 use Rattle.mon_saved.specs.Restored.{IsRestored}
 use Rattle.mon_saved.specs.Written.{image_of, written_image}
+use Rattle.mon_station.specs.Alike.{WindowsAreOfTaken}
 use Rattle.mon_station.specs.Lived.{BeginsFrom, IsLived, IsReopened, Reopens, entries_of, in_front, last_state, saved_states}
 use Rattle.mon_station.specs.declared.event.Event.TheVariants.{StartPoll, Timeout, FromAgent, FromPeer, Share, Save}
 use Rattle.mon_station.specs.Saved.{saved_octets}
@@ -34,7 +35,7 @@ module _ (one_image : (octets : List ℕ) (instances : List Instance) (a b : Ima
     (read_back : (board again : Board) (incarnation read : ℕ) → ((i : ℕ) → IsWhole board.watch (window_of board) i)
     → SpellsImage (written_image board incarnation) (instances_of board.watch.instances) (image_of board incarnation)
     → IsRestored board.watch (written_image board incarnation) again read → (read ≡ incarnation) × ((i : ℕ) → window_of again i ≡ window_of board i))
-    (are_taken : (history : List (Entry × State)) (s : State) → IsLived history → last_state history ≡ Some s → (i : ℕ) → window_of s.board i ≡ kept_by s.board.watch i (taken (entries_of history) i))
+    (are_taken : WindowsAreOfTaken)
     (w : Setting) where
   last_sound : (h : List (Entry × State)) → IsLived h → AreLives w h → (s : State) → last_state h ≡ Some s → IsSound w.watch s
   last_sound h lived are s is = record {
@@ -54,11 +55,7 @@ module _ (one_image : (octets : List ℕ) (instances : List Instance) (a b : Ima
   saved_sound ((Restart origin v, t) ∷ past) lived are zero s is = last_sound ((Restart origin v, t) ∷ past) lived are s is
   saved_sound ((Restart origin v, t) ∷ past) lived are (suc n) s is = saved_sound past lived.1 are.2 n s is
   saved_sound ((Answered Save answer, t) ∷ past) lived are n s is = front_sound (last_state past) (saved_states past) (last_sound past lived.1 are.1) (saved_sound past lived.1 are.1) n s is
-  saved_sound ((Answered (StartPoll target) answer, t) ∷ past) lived are n s is = saved_sound past lived.1 are.1 n s is
-  saved_sound ((Answered (Timeout id) answer, t) ∷ past) lived are n s is = saved_sound past lived.1 are.1 n s is
-  saved_sound ((Answered (FromAgent from read) answer, t) ∷ past) lived are n s is = saved_sound past lived.1 are.1 n s is
-  saved_sound ((Answered (FromPeer said) answer, t) ∷ past) lived are n s is = saved_sound past lived.1 are.1 n s is
-  saved_sound ((Answered (Share peer) answer, t) ∷ past) lived are n s is = saved_sound past lived.1 are.1 n s is
+  saved_sound ((Answered e answer, t) ∷ past) lived are n s is = saved_sound past lived.1 are.1 n s is
 
   -- a life that begins from the image of a sound state has its windows and the next incarnation
   reopened : (old s : State) → IsSound w.watch old → IsReopened w old s → ((i : ℕ) → window_of s.board i ≡ window_of old.board i) × (s.incarnation ≡ old.incarnation + 1)

@@ -13,6 +13,7 @@ use Rattle.mon_exchange.specs.Debts.{Heard, has_said, is_owed, is_owed_at, lates
 use Rattle.mon_saved.specs.declared.image.Image.{Image}
 use Rattle.mon_saved.specs.Image.{SpellsImage}
 use Rattle.mon_config.specs.StationCore.{Core}
+use Rattle.mon_station.specs.Alike.{WindowsAreOfTaken}
 use Rattle.mon_station.specs.declared.fault.StationFault.{StationFault}
 use Rattle.mon_station.specs.Lived.{IsLived, entries_of, last_state}
 use Rattle.mon_station.specs.ReadEvent.{ReadEvent}
@@ -41,26 +42,20 @@ one_passes P test (d ∷ claims) all is = elim (or_cases (test d) (list_any test
 ]
 
 module _ (one_image : (octets : List ℕ) (instances : List Instance) (a b : Image) → SpellsImage octets instances a → SpellsImage octets instances b → a ≡ b)
-    (windows_taken : (h : List (Entry × State)) (s : State) → IsLived h → last_state h ≡ Some s → (i : ℕ) → window_of s.board i ≡ kept_by s.board.watch i (taken (entries_of h) i))
+    (windows_taken : WindowsAreOfTaken)
     (core : Core) (count : ℕ) (are_watch : IsWatch core.watch) where
   -- what was received is true of who said it
   abbrev pub IsTrueOf : List Move → Heard → Type 0
   IsTrueOf moves d = IsTrue one_image (lives_of d.station moves) d
 
   heard_now : (moves : List Move) → AreMoves (setting_at core count) moves → (e : ReadEvent) (answer : Option StationFault) → IsNumberedIn core.watch e → WasSent (sent_in moves) (Answered e answer) → AllByRecursion (IsTrueOf moves) (heard_by e answer)
-  heard_now moves are (StartPoll target) answer numbered sent = tt
-  heard_now moves are (Timeout id) answer numbered sent = tt
-  heard_now moves are (FromAgent from read) answer numbered sent = tt
-  heard_now moves are (Share peer) answer numbered sent = tt
-  heard_now moves are Save answer numbered sent = tt
-  heard_now moves are (FromPeer (Err f)) answer numbered sent = tt
-  heard_now moves are (FromPeer (Ok said)) (Some f) numbered sent = tt
   heard_now moves are (FromPeer (Ok said)) None numbered sent = at said.number numbered
     where
       at : (n : Option ℕ) → IsNumberedIn core.watch (FromPeer (Ok (record { claim = said.claim; number = n }))) → AllByRecursion (IsTrueOf moves) (heard_of_claim said.claim n)
       at None watched = tt
       at (Some i) watched =
           (all_at (IsTrueClaim one_image windows_taken core count are_watch moves) (claims_of (sent_in moves)) said.claim (letters_true one_image windows_taken core count are_watch moves are) sent i watched, tt)
+  heard_now moves are e answer numbered sent = tt
 
   heard_next : (m : Move) (moves : List Move) → AreMoves (setting_at core count) (m ∷ moves) → WasSent (sent_in moves) m.entry → (x : ℕ) → AllByRecursion (IsTrueOf moves) (heard_in (lives_of x moves)) → (entry : Entry) → m.entry ≡ entry
       → AllByRecursion (IsTrueOf (m ∷ moves)) (heard_in ((entry, m.after) ∷ lives_of x moves))

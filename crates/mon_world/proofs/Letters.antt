@@ -16,6 +16,7 @@ use Rattle.mon_exchange.specs.Peers.{IsWatchedAs}
 use Rattle.mon_saved.specs.declared.image.Image.{Image}
 use Rattle.mon_saved.specs.Image.{SpellsImage}
 use Rattle.mon_config.specs.StationCore.{Core}
+use Rattle.mon_station.specs.Alike.{WindowsAreOfTaken}
 use Rattle.mon_station.specs.Lived.{IsLived, entries_of, last_state}
 use Rattle.mon_station.specs.ReadEvent.{ReadEvent}
 use Rattle.mon_station.specs.declared.event.Event.TheVariants.{StartPoll, Timeout, FromAgent, FromPeer, Share, Save}
@@ -84,7 +85,7 @@ claims_to y [] = refl
 claims_to y (c ∷ cs) = ap (λ (l : List Claim). c ∷ l) (claims_to y cs)
 
 module _ (one_image : (octets : List ℕ) (instances : List Instance) (a b : Image) → SpellsImage octets instances a → SpellsImage octets instances b → a ≡ b)
-    (windows_taken : (h : List (Entry × State)) (s : State) → IsLived h → last_state h ≡ Some s → (i : ℕ) → window_of s.board i ≡ kept_by s.board.watch i (taken (entries_of h) i))
+    (windows_taken : WindowsAreOfTaken)
     (core : Core) (count : ℕ) (are_watch : IsWatch core.watch) where
   -- ---- what stays true
   pub true_move : (m : Move) (moves : List Move) → AreMoves (setting_at core count) (m ∷ moves) → (d : Heard) → IsTrue one_image (lives_of d.station moves) d → IsTrue one_image (lives_of d.station (m ∷ moves)) d
@@ -122,11 +123,6 @@ module _ (one_image : (octets : List ℕ) (instances : List Instance) (a b : Ima
         setting l a = setting_is (setting_at core count x) h l a o is
 
         at : (e : ReadEvent) → IsLived ((Answered e None, s) ∷ h) → AreLives (setting_at core count x) ((Answered e None, s) ∷ h) → AllByRecursion (Claims core.watch are_watch (P e) x o.incarnation) (claims_sent o e)
-        at (StartPoll target) l a = tt
-        at (Timeout id) l a = tt
-        at (FromAgent from read) l a = tt
-        at (FromPeer (Err f)) l a = tt
-        at Save l a = tt
         at (Share y) l a =
             let same = setting l.1 a.1 in
             share_claims core.watch are_watch (P (Share y)) x o.incarnation o (ap (λ (w : Setting). w.watch) same) (ap (λ (w : Setting). w.own) same) refl
@@ -135,6 +131,7 @@ module _ (one_image : (octets : List ℕ) (instances : List Instance) (a b : Ima
             let same = setting l.1 a.1 in
             confirm_claims core.watch are_watch (P (FromPeer (Ok said))) x o.incarnation o (ap (λ (w : Setting). w.watch) same) (ap (λ (w : Setting). w.own) same) refl
             said.claim said.number a.0 (λ i k there. in_right k (taken (entries_of h) i) _ there) said.claim.kind
+        at e l a = tt
 
   -- a claim that is sent by this move, as its station says it
   abbrev pub SentBy : Move → List Move → ReadEvent → State → Claim → Type 0

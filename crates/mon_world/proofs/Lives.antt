@@ -70,21 +70,6 @@ found_of_life [] lived s is later may = absurd may
 found_of_life ((Restart origin w, t) ∷ past) lived s is later may =
     let same : t ≡ s = some_same is in
     subst (λ n. IsOfLife s.incarnation (at_place n (t ∷ saved_states past))) (sym may) (ap (λ (u : State). u.incarnation) same)
-found_of_life ((Answered (StartPoll target) answer, t) ∷ past) lived s is later may =
-    let o = before (last_state past) (StartPoll target) answer t lived.0 in
-    subst (λ n. IsOfLife n (at_place later (saved_states past))) (sym o.2.after.incarnation ∙ ap (λ (u : State). u.incarnation) (some_same is)) (found_of_life past lived.1 o.0 o.1 later may)
-found_of_life ((Answered (Timeout id) answer, t) ∷ past) lived s is later may =
-    let o = before (last_state past) (Timeout id) answer t lived.0 in
-    subst (λ n. IsOfLife n (at_place later (saved_states past))) (sym o.2.after.incarnation ∙ ap (λ (u : State). u.incarnation) (some_same is)) (found_of_life past lived.1 o.0 o.1 later may)
-found_of_life ((Answered (FromAgent from read) answer, t) ∷ past) lived s is later may =
-    let o = before (last_state past) (FromAgent from read) answer t lived.0 in
-    subst (λ n. IsOfLife n (at_place later (saved_states past))) (sym o.2.after.incarnation ∙ ap (λ (u : State). u.incarnation) (some_same is)) (found_of_life past lived.1 o.0 o.1 later may)
-found_of_life ((Answered (FromPeer said) answer, t) ∷ past) lived s is later may =
-    let o = before (last_state past) (FromPeer said) answer t lived.0 in
-    subst (λ n. IsOfLife n (at_place later (saved_states past))) (sym o.2.after.incarnation ∙ ap (λ (u : State). u.incarnation) (some_same is)) (found_of_life past lived.1 o.0 o.1 later may)
-found_of_life ((Answered (Share peer) answer, t) ∷ past) lived s is later may =
-    let o = before (last_state past) (Share peer) answer t lived.0 in
-    subst (λ n. IsOfLife n (at_place later (saved_states past))) (sym o.2.after.incarnation ∙ ap (λ (u : State). u.incarnation) (some_same is)) (found_of_life past lived.1 o.0 o.1 later may)
 found_of_life ((Answered Save None, t) ∷ past) lived s is later may =
     let o = before (last_state past) Save None t lived.0 in
     subst (λ n. IsOfLife s.incarnation (at_place n (in_front (last_state past) (saved_states past)))) (sym may)
@@ -96,6 +81,9 @@ found_of_life ((Answered Save (Some f), t) ∷ past) lived s is (suc later) may 
     let o = before (last_state past) Save (Some f) t lived.0 in
     let same : o.0.incarnation ≡ s.incarnation = sym o.2.after.incarnation ∙ ap (λ (u : State). u.incarnation) (some_same is) in
     next_of_life s.incarnation later (last_state past) o.0 (saved_states past) o.1 (subst (λ n. IsOfLife n (at_place later (saved_states past))) same (found_of_life past lived.1 o.0 o.1 later may))
+found_of_life ((Answered e answer, t) ∷ past) lived s is later may =
+    let o = before (last_state past) e answer t lived.0 in
+    subst (λ n. IsOfLife n (at_place later (saved_states past))) (sym o.2.after.incarnation ∙ ap (λ (u : State). u.incarnation) (some_same is)) (found_of_life past lived.1 o.0 o.1 later may)
 
 module _ (one_image : (octets : List ℕ) (instances : List Instance) (a b : Image) → SpellsImage octets instances a → SpellsImage octets instances b → a ≡ b) where
   raised : (w : Setting) (old new : State) → IsReopened w old new → new.incarnation ≡ old.incarnation + 1

@@ -18,6 +18,7 @@ use Rattle.mon_exchange.specs.Peers.{IsWatchedAs}
 use Rattle.mon_saved.specs.declared.image.Image.{Image}
 use Rattle.mon_saved.specs.Image.{SpellsImage}
 use Rattle.mon_config.specs.StationCore.{Core}
+use Rattle.mon_station.specs.Alike.{WindowsAreOfTaken}
 use Rattle.mon_station.specs.declared.fault.StationFault.{StationFault}
 use Rattle.mon_station.specs.Lived.{IsLived, entries_of, last_state}
 use Rattle.mon_station.specs.ReadEvent.{ReadEvent}
@@ -101,15 +102,11 @@ handled_within P e answer p new was = record { taken_so = taken_now; saves_so = 
     ]
 
     saves_now : (f : ReadEvent) → AllByRecursion (SaveWithin P) (saves_after f p)
-    saves_now (StartPoll target) = was.saves_so
-    saves_now (Timeout id) = was.saves_so
-    saves_now (FromAgent from read) = was.saves_so
-    saves_now (FromPeer said) = was.saves_so
-    saves_now (Share peer) = was.saves_so
     saves_now Save = (was.taken_so, was.saves_so)
+    saves_now f = was.saves_so
 
 module _ (one_image : (octets : List ℕ) (instances : List Instance) (a b : Image) → SpellsImage octets instances a → SpellsImage octets instances b → a ≡ b)
-    (windows_taken : (h : List (Entry × State)) (s : State) → IsLived h → last_state h ≡ Some s → (i : ℕ) → window_of s.board i ≡ kept_by s.board.watch i (taken (entries_of h) i))
+    (windows_taken : WindowsAreOfTaken)
     (core : Core) (count : ℕ) (are_watch : IsWatch core.watch) where
   abbrev Offered : List Move → ℕ → ℕ → Type 0
   Offered moves i k = Has (offered_in moves) i k
@@ -147,17 +144,8 @@ module _ (one_image : (octets : List ℕ) (instances : List Instance) (a b : Ima
         by (Some n) watched has =
             let parts = paired_has n i k said.claim.samples has in
             wider i k (claimed i (subst (λ j. IsWatchedAs core.watch said.claim.engine said.claim.name j) parts.0 watched) k parts.1)
-    new_pairs (FromPeer (Ok said)) (Some f) is numbered was_sent i k there = absurd (in_none k there)
-    new_pairs (FromPeer (Err f)) None is numbered was_sent i k there = absurd (in_none k there)
-    new_pairs (FromPeer (Err f)) (Some g) is numbered was_sent i k there = absurd (in_none k there)
-    new_pairs (StartPoll target) None is numbered was_sent i k there = absurd (in_none k there)
-    new_pairs (StartPoll target) (Some f) is numbered was_sent i k there = absurd (in_none k there)
-    new_pairs (Timeout id) None is numbered was_sent i k there = absurd (in_none k there)
-    new_pairs (Timeout id) (Some f) is numbered was_sent i k there = absurd (in_none k there)
-    new_pairs (Share y) None is numbered was_sent i k there = absurd (in_none k there)
-    new_pairs (Share y) (Some f) is numbered was_sent i k there = absurd (in_none k there)
-    new_pairs Save None is numbered was_sent i k there = absurd (in_none k there)
-    new_pairs Save (Some f) is numbered was_sent i k there = absurd (in_none k there)
+    new_pairs e None is numbered was_sent i k there = absurd (in_none k there)
+    new_pairs e (Some f) is numbered was_sent i k there = absurd (in_none k there)
 
     own_past : PastWithin (Offered (m ∷ moves)) (past_after m.entry p)
     own_past = by m.entry refl

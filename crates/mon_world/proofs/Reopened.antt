@@ -51,11 +51,6 @@ saved_setting w [] lived are zero = tt
 saved_setting w [] lived are (suc later) = tt
 saved_setting w ((Restart origin v, t) ∷ past) lived are zero = setting_is w ((Restart origin v, t) ∷ past) lived are t refl
 saved_setting w ((Restart origin v, t) ∷ past) lived are (suc later) = saved_setting w past lived.1 are.2 later
-saved_setting w ((Answered (StartPoll target) answer, t) ∷ past) lived are later = saved_setting w past lived.1 are.1 later
-saved_setting w ((Answered (Timeout id) answer, t) ∷ past) lived are later = saved_setting w past lived.1 are.1 later
-saved_setting w ((Answered (FromAgent from read) answer, t) ∷ past) lived are later = saved_setting w past lived.1 are.1 later
-saved_setting w ((Answered (FromPeer said) answer, t) ∷ past) lived are later = saved_setting w past lived.1 are.1 later
-saved_setting w ((Answered (Share y) answer, t) ∷ past) lived are later = saved_setting w past lived.1 are.1 later
 saved_setting w ((Answered Save answer, t) ∷ past) lived are later =
     let o = before (last_state past) Save answer t lived.0 in
     front (last_state past) o.1 later (setting_is w past lived.1 are.1 o.0 o.1) (saved_setting w past lived.1 are.1)
@@ -64,6 +59,7 @@ saved_setting w ((Answered Save answer, t) ∷ past) lived are later =
     front None is n same rest = absurd (not_some is)
     front (Some p) is zero same rest = subst (λ (q : State). setting_of q ≡ w) (sym (some_same is)) same
     front (Some p) is (suc n) same rest = rest n
+saved_setting w ((Answered e answer, t) ∷ past) lived are later = saved_setting w past lived.1 are.1 later
 
 -- ---- a life begins from what was found
 module _ (w : Setting) (lives : List (Entry × State)) (lived : IsLived lives) (are : AreLives w lives) (o : State) (is : last_state lives ≡ Some o) where

@@ -17,6 +17,7 @@ use Rattle.mon_exchange.specs.Peers.{is_claimed, latest, marked_by, noted_as}
 use Rattle.mon_saved.specs.declared.image.Image.{Image}
 use Rattle.mon_saved.specs.Image.{SpellsImage}
 use Rattle.mon_config.specs.StationCore.{Core}
+use Rattle.mon_station.specs.Alike.{WindowsAreOfTaken}
 use Rattle.mon_station.specs.Lived.{IsLived, entries_of, last_state}
 use Rattle.mon_station.specs.State.{State, known_of, owed_count, owed_to, setting_of}
 use Rattle.mon_station.specs.Taken.{Entry, taken}
@@ -38,7 +39,7 @@ module _ (taking : (watch : Watch) (y : ℕ) (old new : List (ℕ × ℕ)) (clai
     → (i : ℕ) → owed_in windows marked i ≡ set.retain (windows i) (λ s. is_owed y claims i s))
     (joined_windows : (watch : Watch) (taken pairs : List (ℕ × ℕ)) (i : ℕ) → joined watch (window watch taken) pairs i ≡ window watch (taken ++ pairs) i)
     (one_image : (octets : List ℕ) (instances : List Instance) (a b : Image) → SpellsImage octets instances a → SpellsImage octets instances b → a ≡ b)
-    (windows_taken : (h : List (Entry × State)) (s : State) → IsLived h → last_state h ≡ Some s → (i : ℕ) → window_of s.board i ≡ kept_by s.board.watch i (taken (entries_of h) i))
+    (windows_taken : WindowsAreOfTaken)
     (keep_few : (epoch : ℕ → ℕ) (n m : ℕ) (a : Samples) → set.len (keep epoch n m a) ≤ n) (member_count : (a : Samples) → set.len a ≡ length (rising a))
     (core : Core) (count : ℕ) (moves : List Move) (are : AreMoves (setting_at core count) moves) where
   module _ (x y slot : ℕ) (s : State) (is : last_state (lives_of x moves) ≡ Some s) (has : slot_of (setting_of s).peers y ≡ Some slot) where

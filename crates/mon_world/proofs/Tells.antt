@@ -218,16 +218,10 @@ module _ (taking : (watch : Watch) (y : ℕ) (old new : List (ℕ × ℕ)) (clai
       ])
 
     pub handled : (e : ReadEvent) (answer : Option StationFault) → IsHandled e answer o s → Knows s (heard_by e answer ++ claims)
-    handled (StartPoll target) answer h = quiet (StartPoll target) answer h.after refl (λ i k. refl)
-    handled (Timeout id) answer h = quiet (Timeout id) answer h.after refl (λ i k. refl)
-    handled (FromAgent from read) answer h = quiet (FromAgent from read) answer h.after refl (λ i k. refl)
-    handled (Share peer) answer h = quiet (Share peer) answer h.after refl (λ i k. refl)
-    handled Save answer h = quiet Save answer h.after refl (λ i k. refl)
-    handled (FromPeer (Err f)) answer h = quiet (FromPeer (Err f)) answer h.after refl (λ i k. refl)
-    handled (FromPeer (Ok said)) (Some f) h = quiet (FromPeer (Ok said)) (Some f) h.after refl (λ i k. refl)
     handled (FromPeer (Ok said)) None h =
         let there = slot_there (slot_of (setting_of o).peers said.claim.station) said.number h.lawful in
         claimed said h there.0 there.1 there.2 there.3
+    handled e answer h = quiet e answer h.after refl (λ i k. refl)
 
   -- ---- all lives
   pub knows : (h : List (Entry × State)) → IsLived h → AreLives w h → (s : State) → last_state h ≡ Some s → Knows s (heard_in h)

@@ -62,11 +62,7 @@ abbrev pub MayFindAfter : ReadEvent → Option StationFault → (ℕ → Type 0)
 MayFindAfter Save None before later = later ≡ 0
 MayFindAfter Save (Some f) before zero = f ≡ fault.Keeper keeper.DiskFault
 MayFindAfter Save (Some f) before (suc later) = before later
-MayFindAfter (StartPoll target) answer before later = before later
-MayFindAfter (Timeout id) answer before later = before later
-MayFindAfter (FromAgent from read) answer before later = before later
-MayFindAfter (FromPeer said) answer before later = before later
-MayFindAfter (Share peer) answer before later = before later
+MayFindAfter e answer before later = before later
 
 -- an opening may find the save that has this many later ones: the last that was answered without a
 -- fault or with which a life started, or one after it that met the disk's fault

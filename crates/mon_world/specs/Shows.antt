@@ -139,41 +139,27 @@ pub record IsReplaced {G : Ghosts MemoryDisk} (core : Core) (place : ℕ) (body 
   pub begun : IsBegun (setting_at core (length old) (place + 1)) body (state_in station)
   pub kept : Leaves (disk_leaves station) (FindsState (state_in station))
 
--- What stations say of their debts is true after these moves. What x does not owe y, whose present
--- incarnation it knows, y has taken; two stations that know each other's present incarnation and
--- owe each other nothing hold equal windows and print equal reports; and every sample in a window
--- was offered by an agent.
-pub record DebtsAreTrue {G : Ghosts MemoryDisk} (stations : List (Station MemoryDisk G))
-    (moves : List Move) : Type 0 where
-  pub paid : (x y : ℕ) (s t : Station MemoryDisk G) → HasNumber stations x s
-      → HasNumber stations y t → known_of (state_in s) y ≡ Some (state_in t).incarnation
-      → (i k : ℕ) → In k (window_of (state_in s).board i) → ¬
-      (In k (owed_by (state_in s) (lives_of x moves) y i))
-      → In k (taken (entries_of (lives_of y moves)) i)
-  pub equal : (x y : ℕ) (s t : Station MemoryDisk G) → HasNumber stations x s
-      → HasNumber stations y t → AreSquare x y (state_in s) (state_in t) → (i : ℕ)
-      → window_of (state_in s).board i ≡ window_of (state_in t).board i
-  pub reports : (x y : ℕ) (s t : Station MemoryDisk G) → HasNumber stations x s
-      → HasNumber stations y t → AreSquare x y (state_in s) (state_in t)
-      → report (state_in s).board.watch (window_of (state_in s).board)
-      ≡ report (state_in t).board.watch (window_of (state_in t).board)
-  pub offered : (x : ℕ) (s : Station MemoryDisk G) → HasNumber stations x s → (i k : ℕ)
-      → In k (window_of (state_in s).board i) → Has (offered_in moves) i k
-
--- What the states that these moves left say of their debts is true. What x does not owe y, whose
--- present incarnation it knows, y has taken; two stations that know each other's present
+-- What stations in these states say of their debts is true after these moves. What x does not owe y,
+-- whose present incarnation it knows, y has taken; two stations that know each other's present
 -- incarnation and owe each other nothing hold equal windows and print equal reports; and every
 -- sample in a window was offered by an agent.
-pub record StatesOweTruly (moves : List Move) : Type 0 where
-  pub paid : (x y : ℕ) (s t : State) → last_state (lives_of x moves) ≡ Some s
-      → last_state (lives_of y moves) ≡ Some t → known_of s y ≡ Some t.incarnation
+pub record OweTruly (IsAt : ℕ → State → Type 0) (moves : List Move) : Type 0 where
+  pub paid : (x y : ℕ) (s t : State) → IsAt x s → IsAt y t → known_of s y ≡ Some t.incarnation
       → (i k : ℕ) → In k (window_of s.board i) → ¬ (In k (owed_by s (lives_of x moves) y i))
       → In k (taken (entries_of (lives_of y moves)) i)
-  pub equal : (x y : ℕ) (s t : State) → last_state (lives_of x moves) ≡ Some s
-      → last_state (lives_of y moves) ≡ Some t → AreSquare x y s t → (i : ℕ)
+  pub equal : (x y : ℕ) (s t : State) → IsAt x s → IsAt y t → AreSquare x y s t → (i : ℕ)
       → window_of s.board i ≡ window_of t.board i
-  pub reports : (x y : ℕ) (s t : State) → last_state (lives_of x moves) ≡ Some s
-      → last_state (lives_of y moves) ≡ Some t → AreSquare x y s t
+  pub reports : (x y : ℕ) (s t : State) → IsAt x s → IsAt y t → AreSquare x y s t
       → report s.board.watch (window_of s.board) ≡ report t.board.watch (window_of t.board)
-  pub offered : (x : ℕ) (s : State) → last_state (lives_of x moves) ≡ Some s → (i k : ℕ)
-      → In k (window_of s.board i) → Has (offered_in moves) i k
+  pub offered : (x : ℕ) (s : State) → IsAt x s → (i k : ℕ) → In k (window_of s.board i)
+      → Has (offered_in moves) i k
+
+-- what the states that these moves left say of their debts is true
+abbrev pub StatesOweTruly : List Move → Type 0
+StatesOweTruly moves = OweTruly (λ x s. last_state (lives_of x moves) ≡ Some s) moves
+
+-- what these stations say of their debts is true after these moves
+abbrev pub DebtsAreTrue : {G : Ghosts MemoryDisk} → List (Station MemoryDisk G) → List Move
+    → Type 0
+DebtsAreTrue {G} stations moves = OweTruly (λ x s. (one : Station MemoryDisk G)
+    × HasNumber stations x one × (s ≡ state_in one)) moves

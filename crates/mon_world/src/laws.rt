@@ -2,25 +2,21 @@
 
 ghost use Rattle.std.specs.Prelude.{◌≡◌, ℕ, List, Result, Some, map};
 ghost use Rattle.std.specs.List.{AllByRecursion};
-ghost use Rattle.mon_board.specs.Board.{window_of};
 ghost use Rattle.mon_board.specs.Watch.{IsWatch};
-ghost use Rattle.mon_board.specs.Windows.{Has};
 ghost use Rattle.mon_exchange.specs.Claim.{IsClaim};
-ghost use Rattle.mon_report.specs.Report.{report};
 ghost use Rattle.mon_config.specs.StationCore.{Core};
-ghost use Rattle.mon_station.specs.Lived.{entries_of, last_state};
-ghost use Rattle.mon_station.specs.State.{State, known_of, owed_count, owed_to, setting_of};
-ghost use Rattle.mon_station.specs.Taken as lives;
+ghost use Rattle.mon_station.specs.Lived.{last_state};
+ghost use Rattle.mon_station.specs.State.{State, owed_to, setting_of};
 ghost use Rattle.mon_station.specs.Verdict.{Setting, slot_of};
-ghost use Rattle.mon_window.specs.Window.{In};
 ghost use Rattle.mon_world.specs.Begun.{AreBegun};
-ghost use Rattle.mon_world.specs.Debts.{offered_in, owed_by};
+ghost use Rattle.mon_world.specs.Debts.{owed_by};
 ghost use Rattle.mon_world.specs.declared.fault.WorldFault.{WorldFault};
 ghost use Rattle.mon_world.specs.declared.sending.Sent.{Sent};
 ghost use Rattle.mon_world.specs.declared.step.Step.{Step};
 ghost use Rattle.mon_world.specs.Moves.{AreMoves, AreUnforged, Move, lives_of, sent_in};
 ghost use Rattle.mon_world.specs.Outcome.{AreStepOutcomes, IsUnforged, first_lives};
 ghost use Rattle.mon_world.specs.Places.{setting_at};
+ghost use Rattle.mon_world.specs.Shows.{StatesOweTruly};
 
 /// Over all moves of a world in which no claim was forged, restarts and stops among them: what a
 /// station does not owe a peer whose present incarnation it knows, the peer has taken. Two stations
@@ -32,30 +28,8 @@ pub fn debts()
         → last_state (lives_of x moves) ≡ Some s
         → slot_of (setting_of s).peers y ≡ Some slot → (i : ℕ)
         → owed_to s slot i ≡ owed_by s (lives_of x moves) y i }
-    ensures paid { (core : Core) (count x y : ℕ) (moves : List Move) (s t : State)
-        → IsWatch core.watch → AreMoves (setting_at core count) moves → AreUnforged moves
-        → last_state (lives_of x moves) ≡ Some s → last_state (lives_of y moves) ≡ Some t
-        → known_of s y ≡ Some t.incarnation
-        → (i k : ℕ) → In k (window_of s.board i) → ¬ (In k (owed_by s (lives_of x moves) y i))
-        → In k (lives.taken (entries_of (lives_of y moves)) i) }
-    ensures equal { (core : Core) (count x y : ℕ) (moves : List Move) (s t : State)
-        → IsWatch core.watch → AreMoves (setting_at core count) moves → AreUnforged moves
-        → last_state (lives_of x moves) ≡ Some s → last_state (lives_of y moves) ≡ Some t
-        → known_of s y ≡ Some t.incarnation → known_of t x ≡ Some s.incarnation
-        → owed_count s (slot_of (setting_of s).peers y) ≡ 0 → owed_count t
-        (slot_of (setting_of t).peers x) ≡ 0 → (i : ℕ) → window_of s.board i
-        ≡ window_of t.board i }
-    ensures reports { (core : Core) (count x y : ℕ) (moves : List Move) (s t : State)
-        → IsWatch core.watch → AreMoves (setting_at core count) moves → AreUnforged moves
-        → last_state (lives_of x moves) ≡ Some s → last_state (lives_of y moves) ≡ Some t
-        → known_of s y ≡ Some t.incarnation → known_of t x ≡ Some s.incarnation
-        → owed_count s (slot_of (setting_of s).peers y) ≡ 0 → owed_count t
-        (slot_of (setting_of t).peers x) ≡ 0
-        → report s.board.watch (window_of s.board) ≡ report t.board.watch (window_of t.board) }
-    ensures offered { (core : Core) (count x : ℕ) (moves : List Move) (s : State)
-        → IsWatch core.watch → AreMoves (setting_at core count) moves → AreUnforged moves
-        → last_state (lives_of x moves) ≡ Some s
-        → (i k : ℕ) → In k (window_of s.board i) → Has (offered_in moves) i k }
+    ensures states { (core : Core) (count : ℕ) (moves : List Move) → IsWatch core.watch
+        → AreMoves (setting_at core count) moves → AreUnforged moves → StatesOweTruly moves }
 {
     mon_station::laws::taken();
     mon_exchange::laws::taking();

@@ -3,25 +3,25 @@ use Rattle.mon_station.proofs.Stopping.{finds_next, next_later, next_on, one_und
 use Rattle.mon_station.proofs.laws.stops.Goals as goal
 
 pub returns-clause-left : goal.returns-clause-left
-returns-clause-left g c = λ first history honest empty is.
-    let D = g.D.Disk in
-    (sound_after c.read_back.ensures.kept D.is_honest D.seen D.may_leave D.moment D.left_since g.met.D.Disk.counts_now g.met.D.Disk.seen_now first honest empty history is).left
+returns-clause-left g c = λ first history is.
+    let D = g.met.D.Disk in
+    (sound_after c.read_back.ensures.kept g.D.Disk D.counts_now D.seen_now first history is).left
 
 pub returns-clause-undamaged : goal.returns-clause-undamaged
-returns-clause-undamaged g c = λ first history honest empty is.
-    let D = g.D.Disk in
-    let sound = sound_after c.read_back.ensures.kept D.is_honest D.seen D.may_leave D.moment D.left_since g.met.D.Disk.counts_now g.met.D.Disk.seen_now first honest empty history is in
-    one_undamaged (MayFind D.seen first history) (D.seen (last_disk first history)) (finds_next c.read_back.ensures.kept D.is_honest D.seen D.may_leave D.moment D.left_since g.met.D.Disk.counts_now g.met.D.Disk.seen_now first honest empty history sound)
+returns-clause-undamaged g c = λ first history is.
+    let D = g.met.D.Disk in
+    let sound = sound_after c.read_back.ensures.kept g.D.Disk D.counts_now D.seen_now first history is in
+    one_undamaged (MayFind g.D.Disk first history) (g.D.Disk.seen (last_disk first history)) (finds_next c.read_back.ensures.kept g.D.Disk D.counts_now D.seen_now first history sound)
 
 pub returns-clause-opened : goal.returns-clause-opened
-returns-clause-opened g c = λ first disk past w s honest empty is.
-    let D = g.D.Disk in
-    let sound = sound_after c.read_back.ensures.kept D.is_honest D.seen D.may_leave D.moment D.left_since g.met.D.Disk.counts_now g.met.D.Disk.seen_now first honest empty past is.2 in
-    let one = finds_next c.read_back.ensures.kept D.is_honest D.seen D.may_leave D.moment D.left_since g.met.D.Disk.counts_now g.met.D.Disk.seen_now first honest empty past sound in
-    (one.0, one.1, next_on c.read_back.ensures.kept D.is_honest D.seen D.may_leave D.moment D.left_since g.met.D.Disk.counts_now g.met.D.Disk.seen_now first honest empty past w s sound is.1.begun)
+returns-clause-opened g c = λ first disk past w s is.
+    let D = g.met.D.Disk in
+    let sound = sound_after c.read_back.ensures.kept g.D.Disk D.counts_now D.seen_now first past is.2 in
+    let one = finds_next c.read_back.ensures.kept g.D.Disk D.counts_now D.seen_now first past sound in
+    (one.0, one.1, next_on c.read_back.ensures.kept g.D.Disk D.counts_now D.seen_now first past w s sound is.1.begun)
 
 pub returns-clause-later : goal.returns-clause-later
-returns-clause-later g c = λ first disk past w s honest empty is.
-    let D = g.D.Disk in
-    let sound = sound_after c.read_back.ensures.kept D.is_honest D.seen D.may_leave D.moment D.left_since g.met.D.Disk.counts_now g.met.D.Disk.seen_now first honest empty past is.2 in
-    next_later c.read_back.ensures.kept D.is_honest D.seen D.may_leave D.moment D.left_since g.met.D.Disk.counts_now g.met.D.Disk.seen_now first honest empty past w s sound is.1.begun
+returns-clause-later g c = λ first disk past w s is.
+    let D = g.met.D.Disk in
+    let sound = sound_after c.read_back.ensures.kept g.D.Disk D.counts_now D.seen_now first past is.2 in
+    next_later c.read_back.ensures.kept g.D.Disk D.counts_now D.seen_now first past w s sound is.1.begun

@@ -13,6 +13,6 @@ returns c =
     λ octets w. c.one_image.ensures octets (instances_of w.watch.instances) in
     record {
       windows = windows_taken c.read_back.ensures.kept one;
-      reports = λ some others s t lived lives is as_well watch same k. report (watch k) (λ i. equal_windows c.read_back.ensures.kept one some others s t lived lives is as_well watch same i k);
+      reports = λ some others s t took k. report (took.watch k) (λ i. equal_windows c.read_back.ensures.kept one some others s t took i k);
       equal = equal_windows c.read_back.ensures.kept one;
     }

@@ -24,7 +24,7 @@ returns-in-Ok-begin-clause-beginning g c = λ h.
     let honest = c.in-Ok.ensures.honest.0 h in
     let body = option_map (λ (v : Vec ℕ Global). v.items) c.in-Ok.body in
     if_ok_both c.settle.result _ _ _ (c.settle.ensures.any_moment honest) c.settle.ensures.honest (λ s saving still.
-    then_saved (setting_in c.args.core) D.seen D.may_leave D.moment D.left_since c.args.disk mid (c.in-Ok.ensures.opening h) body (device_of s.keeper) (state_of c.in-Ok-begin.life) c.in-Ok-begin.ensures.begun
+    then_saved (setting_in c.args.core) D c.args.disk mid (c.in-Ok.ensures.opening h) body (device_of s.keeper) (state_of c.in-Ok-begin.life) c.in-Ok-begin.ensures.begun
     (λ t f le left. g.met.D.Disk.counts_now mid t f honest le left) (λ t f le left. g.met.D.Disk.counts_now (device_of s.keeper) t f (still honest) le left)
     (c.in-Ok.ensures.kept h) (c.in-Ok.ensures.found h) saving)
 
@@ -35,7 +35,7 @@ returns-in-Ok-begin-clause-beginning_err g c = λ h.
     let honest = c.in-Ok.ensures.honest.0 h in
     let body = option_map (λ (v : Vec ℕ Global). v.items) c.in-Ok.body in
     if_err_both c.settle.result _ _ _ (c.settle.ensures.any_moment_err honest) c.settle.ensures.honest_err (λ e saving still.
-    then_saved (setting_in c.args.core) D.seen D.may_leave D.moment D.left_since c.args.disk mid (c.in-Ok.ensures.opening h) body e.1 (state_of c.in-Ok-begin.life) c.in-Ok-begin.ensures.begun
+    then_saved (setting_in c.args.core) D c.args.disk mid (c.in-Ok.ensures.opening h) body e.1 (state_of c.in-Ok-begin.life) c.in-Ok-begin.ensures.begun
     (λ t f le left. g.met.D.Disk.counts_now mid t f honest le left) (λ t f le left. g.met.D.Disk.counts_now e.1 t f (still honest) le left)
     (c.in-Ok.ensures.kept h) (c.in-Ok.ensures.found h) saving)
 
@@ -43,8 +43,8 @@ pub returns-in-Err-begin-clause-beginning_err : goal.returns-in-Err-begin-clause
 returns-in-Err-begin-clause-beginning_err g c = λ h.
     let D = g.D.Disk in
     let w = setting_in c.args.core in
-    subst (λ e. IsBeginning w D.seen D.may_leave D.moment D.left_since c.args.disk e) (sym c.into_disk.ensures)
-    (only_opened w D.seen D.may_leave D.moment D.left_since c.args.disk (device_of c.in-Ok.keeper) (c.in-Ok.ensures.opening h))
+    subst (λ e. IsBeginning w D c.args.disk e) (sym c.into_disk.ensures)
+    (only_opened w D c.args.disk (device_of c.in-Ok.keeper) (c.in-Ok.ensures.opening h))
 
 pub returns-in-Ok-begin-clause-lived : goal.returns-in-Ok-begin-clause-lived
 returns-in-Ok-begin-clause-lived g c = λ h.
@@ -54,7 +54,7 @@ returns-in-Ok-begin-clause-lived g c = λ h.
     if_ok c.settle.result _ _ c.settle.ensures.life (λ s same past origin lived is. begins_on past w body origin (state_of s.life) lived is (subst (λ (l : Life). IsBegun w body (state_of l)) (sym same) begun))
 
 pub returns-in-Ok-begin-clause-happens : goal.returns-in-Ok-begin-clause-happens
-returns-in-Ok-begin-clause-happens g c = λ h running saved.
+returns-in-Ok-begin-clause-happens g c = λ h life.
     let w = setting_in c.args.core in
     let body = found_body (g.D.Disk.seen c.args.disk) in
     let begun = subst (λ (b : Option (List ℕ)). IsBegun w b (state_of c.in-Ok-begin.life)) (sym (c.in-Ok.ensures.found h).body_is) c.in-Ok-begin.ensures.begun in
@@ -64,10 +64,10 @@ returns-in-Ok-begin-clause-happens g c = λ h running saved.
     })
 
 pub returns-in-Ok-begin-clause-happens_err : goal.returns-in-Ok-begin-clause-happens_err
-returns-in-Ok-begin-clause-happens_err g c = λ h running saved. returns-in-Ok-begin-clause-beginning_err g c h
+returns-in-Ok-begin-clause-happens_err g c = λ h life. returns-in-Ok-begin-clause-beginning_err g c h
 
 pub returns-in-Err-begin-clause-happens_err : goal.returns-in-Err-begin-clause-happens_err
-returns-in-Err-begin-clause-happens_err g c = λ h running saved. returns-in-Err-begin-clause-beginning_err g c h
+returns-in-Err-begin-clause-happens_err g c = λ h life. returns-in-Err-begin-clause-beginning_err g c h
 
 pub returns-in-Ok-begin-clause-fault : goal.returns-in-Ok-begin-clause-fault
 returns-in-Ok-begin-clause-fault g c = if_err c.settle.result _ _ c.settle.ensures.fault (λ e h. (save_opening (last_generation c.in-Ok.keeper) e.0 h).0)

@@ -1,4 +1,4 @@
-use Rattle.std.proofs.Common.{◌≡◌, Some, refl, sym, ap, subst, ◌∙◌}
+use Rattle.std.proofs.Common.{◌≡◌, refl, sym, ap, subst, ◌∙◌}
 use Rattle.mon_station.specs.ReadEvent.{StartPoll, Timeout, FromAgent, FromPeer, Share, Save, ReadsAs, owned, OwnedEvent}
 use Rattle.mon_station.proofs.Kept.{if_err, if_ok}
 use Rattle.mon_disk.specs.Kept.{device_of, last_body}
@@ -39,7 +39,7 @@ returns-in-StartPoll-clause-happens g c = λ honest saved known e reads.
     let D = g.D.Disk in
     let d = device_of c.args.self.now.keeper in (
       handled_as _ _ e c.start_poll.result (as_this c.args.self.now.life.board.watch _ (StartPoll c.in-StartPoll.target) _ _ c.start_poll.result (ap owned c.in-StartPoll.is) (as_one _ _ c.start_poll.result (StartPoll c.in-StartPoll.target) c.start_poll.ensures.answered) e reads),
-      quiet_disk D.seen D.may_leave D.moment D.left_since (Some saved) _ d d c.args.self.now.life.board.watch _ e _ (λ is. let no : StartPoll c.in-StartPoll.target ≡ Save = sym (ap owned c.in-StartPoll.is) ∙ is in cc) reads refl,
+      quiet_disk D (record { now = state_of c.args.self.now.life; saved = saved }) d d c.args.self.now.life.board.watch _ e _ (λ is. let no : StartPoll c.in-StartPoll.target ≡ Save = sym (ap owned c.in-StartPoll.is) ∙ is in cc) reads refl,
     )
 
 pub returns-in-Timeout-clause-lived : goal.returns-in-Timeout-clause-lived
@@ -50,7 +50,7 @@ returns-in-Timeout-clause-happens g c = λ honest saved known e reads.
     let D = g.D.Disk in
     let d = device_of c.args.self.now.keeper in (
       handled_as _ _ e c.timeout.result (as_this c.args.self.now.life.board.watch _ (Timeout c.in-Timeout.id) _ _ c.timeout.result (ap owned c.in-Timeout.is) (as_one _ _ c.timeout.result (Timeout c.in-Timeout.id) c.timeout.ensures.answered) e reads),
-      quiet_disk D.seen D.may_leave D.moment D.left_since (Some saved) _ d d c.args.self.now.life.board.watch _ e _ (λ is. let no : Timeout c.in-Timeout.id ≡ Save = sym (ap owned c.in-Timeout.is) ∙ is in cc) reads refl,
+      quiet_disk D (record { now = state_of c.args.self.now.life; saved = saved }) d d c.args.self.now.life.board.watch _ e _ (λ is. let no : Timeout c.in-Timeout.id ≡ Save = sym (ap owned c.in-Timeout.is) ∙ is in cc) reads refl,
     )
 
 pub returns-in-Share-clause-lived : goal.returns-in-Share-clause-lived
@@ -61,7 +61,7 @@ returns-in-Share-clause-happens g c = λ honest saved known e reads.
     let D = g.D.Disk in
     let d = device_of c.args.self.now.keeper in (
       handled_as _ _ e c.share.result (as_this c.args.self.now.life.board.watch _ (Share c.in-Share.peer) _ _ c.share.result (ap owned c.in-Share.is) (as_one _ _ c.share.result (Share c.in-Share.peer) c.share.ensures.answered) e reads),
-      quiet_disk D.seen D.may_leave D.moment D.left_since (Some saved) _ d d c.args.self.now.life.board.watch _ e _ (λ is. let no : Share c.in-Share.peer ≡ Save = sym (ap owned c.in-Share.is) ∙ is in cc) reads refl,
+      quiet_disk D (record { now = state_of c.args.self.now.life; saved = saved }) d d c.args.self.now.life.board.watch _ e _ (λ is. let no : Share c.in-Share.peer ≡ Save = sym (ap owned c.in-Share.is) ∙ is in cc) reads refl,
     )
 
 pub returns-in-Save-clause-lived : goal.returns-in-Save-clause-lived
@@ -71,7 +71,7 @@ pub returns-in-Save-clause-happens : goal.returns-in-Save-clause-happens
 returns-in-Save-clause-happens g c = λ honest saved known e reads.
     let D = g.D.Disk in (
       handled_as _ _ e c.save.result (as_this c.args.self.now.life.board.watch _ (Save) _ _ c.save.result (ap owned c.in-Save.is) (as_one _ _ c.save.result (Save) c.save.ensures.answered) e reads),
-      saved_disk D.seen D.may_leave D.moment D.left_since (Some saved) _ (device_of c.args.self.now.keeper) (device_of c.save.new.self.keeper) e c.save.result
+      saved_disk D (record { now = state_of c.args.self.now.life; saved = saved }) (device_of c.args.self.now.keeper) (device_of c.save.new.self.keeper) e c.save.result
           (subst (λ (o : OwnedEvent). ReadsAs c.args.self.now.life.board.watch o e) (ap owned c.in-Save.is) reads) (c.save.ensures.saved honest)
           (weaker D.moment D.left_since D.may_leave (device_of c.args.self.now.keeper) (device_of c.save.new.self.keeper) _ _ (running_saved (D.may_leave (device_of c.args.self.now.keeper)) (last_body c.args.self.now.keeper) saved (state_of c.args.self.now.life) known)
           (c.save.ensures.any_moment honest)),
@@ -85,7 +85,7 @@ returns-in-FromAgent-clause-happens g c = λ honest saved known e reads.
     let D = g.D.Disk in
     let d = device_of c.args.self.now.keeper in (
       handled_as _ _ e c.from_agent.result (as_this c.args.self.now.life.board.watch _ (FromAgent c.in-FromAgent.from c.in-FromAgent.octets.now) _ _ c.from_agent.result (ap owned c.in-FromAgent.is) (λ e is. as_one _ _ c.from_agent.result (FromAgent c.in-FromAgent.from is.0) (c.from_agent.ensures.answered is.0 is.1) e is.2) e reads),
-      quiet_disk D.seen D.may_leave D.moment D.left_since (Some saved) _ d d c.args.self.now.life.board.watch _ e _ (λ is. let no : FromAgent c.in-FromAgent.from c.in-FromAgent.octets.now ≡ Save = sym (ap owned c.in-FromAgent.is) ∙ is in cc) reads refl,
+      quiet_disk D (record { now = state_of c.args.self.now.life; saved = saved }) d d c.args.self.now.life.board.watch _ e _ (λ is. let no : FromAgent c.in-FromAgent.from c.in-FromAgent.octets.now ≡ Save = sym (ap owned c.in-FromAgent.is) ∙ is in cc) reads refl,
     )
 
 pub returns-in-FromPeer-clause-lived : goal.returns-in-FromPeer-clause-lived
@@ -96,7 +96,7 @@ returns-in-FromPeer-clause-happens g c = λ honest saved known e reads.
     let D = g.D.Disk in
     let d = device_of c.args.self.now.keeper in (
       handled_as _ _ e c.from_peer.result (as_this c.args.self.now.life.board.watch _ (FromPeer c.in-FromPeer.octets.now) _ _ c.from_peer.result (ap owned c.in-FromPeer.is) (λ e is. as_one _ _ c.from_peer.result (FromPeer is.0) (c.from_peer.ensures.answered is.0 is.1) e is.2) e reads),
-      quiet_disk D.seen D.may_leave D.moment D.left_since (Some saved) _ d d c.args.self.now.life.board.watch _ e _ (λ is. let no : FromPeer c.in-FromPeer.octets.now ≡ Save = sym (ap owned c.in-FromPeer.is) ∙ is in cc) reads refl,
+      quiet_disk D (record { now = state_of c.args.self.now.life; saved = saved }) d d c.args.self.now.life.board.watch _ e _ (λ is. let no : FromPeer c.in-FromPeer.octets.now ≡ Save = sym (ap owned c.in-FromPeer.is) ∙ is in cc) reads refl,
     )
 
 pub returns-in-StartPoll-clause-keeper : goal.returns-in-StartPoll-clause-keeper
@@ -117,4 +117,4 @@ pub returns-in-FromPeer-clause-keeper : goal.returns-in-FromPeer-clause-keeper
 returns-in-FromPeer-clause-keeper g c = never_unless _ _ _ _ c.from_peer.result c.from_peer.ensures.read_err c.from_peer.ensures.answered
 
 pub returns-in-Save-clause-moved : goal.returns-in-Save-clause-moved
-returns-in-Save-clause-moved g c = λ honest save before saved. if_ok c.save.result _ _ (c.save.ensures.saved honest) (λ told kept. (state_of c.args.self.now.life, refl, kept))
+returns-in-Save-clause-moved g c = λ honest save before saved. if_ok c.save.result _ _ (c.save.ensures.saved honest) (λ told kept. kept)
