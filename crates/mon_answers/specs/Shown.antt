@@ -17,8 +17,8 @@ use Rattle.mon_agent.specs.declared.reply.Reply.{Reply}
 use Rattle.mon_agent.specs.declared.reply.Reply.TheVariants.{Send, Silent}
 use Rattle.mon_agent.specs.declared.reply.Silence.{Silence}
 use Rattle.mon_agent.specs.Silence.{number_of, name_of}
-use Rattle.mon_app.specs.Printed.{binding_line}
-use Rattle.mon_app.specs.Status.{status_name}
+use Rattle.mon_client.specs.Printed.{binding_line}
+use Rattle.mon_poller.specs.Status.{status_name}
 
 -- the line for a datagram without a reply: the cause by number and name
 unfoldable pub silence_line : Silence → List ℕ

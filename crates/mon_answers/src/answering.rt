@@ -3,7 +3,7 @@
 ghost use Rattle.std.specs.Prelude.{◌≡◌, IfOk, OnOk, string_bytes};
 ghost use Rattle.hex.specs.Hex.{decode_of};
 ghost use Rattle.mon_agent.specs.State.{policy_of, settings_of};
-ghost use Rattle.mon_app.specs.Served.{AnswersIt, stands};
+ghost use Rattle.mon_serving.specs.Served.{AnswersIt, stands};
 ghost use Rattle.mon_answers.specs.Answered.{ArePrinted, Appends, IsLastReply, IsPrinted, arrives, is_read, lines_read};
 
 use crate::scene::Scene;

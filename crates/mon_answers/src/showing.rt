@@ -4,8 +4,9 @@ ghost use Rattle.std.specs.Prelude.{◌≡◌, ◌++◌, IfOk, OnOk, string_byte
 ghost use Rattle.mon_answers.specs.Shown.{digits_line, named_text, pdu_in, pdu_of, pdu_text, reply_text, silence_line, status_line, status_word};
 
 use mon_agent::{Reply, Silence};
-use mon_app::{bindings_text, status_name};
+use mon_client::bindings_text;
 use mon_pdu::{Body, Message, Pdu, PduFault, read_message};
+use mon_poller::status_name;
 use mon_smi::Labels;
 use std::alloc::{AllocError, Global};
 

@@ -1,10 +1,6 @@
-pub mod Askings
 pub mod Counting
 pub mod Lines
 pub mod Outcomes
 pub mod Readings
 pub mod Search
-pub mod Servings
 pub mod Windows
-pub mod Walks
-pub mod Meanings

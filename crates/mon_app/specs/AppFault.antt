@@ -1,5 +1,5 @@
 -- The faults of the commands.
-use Rattle.std.specs.Prelude.{ℕ, List, codes}
+use Rattle.std.specs.Prelude.{◌≡◌, ◌⊎◌, ℕ, List, codes}
 use Rattle.std.specs.declared.io.ErrorKind.{ErrorKind}
 use Rattle.std.specs.declared.io.ErrorKind.TheVariants as kinds
 use Rattle.mon_pdu.specs.declared.fault.PduFault.{PduFault}
@@ -60,6 +60,10 @@ text_of_reason reasons.Other = codes "another reason"
 abbrev pub of_socket : ErrorKind → AppFault
 of_socket kinds.OutOfMemory = OutOfMemory
 of_socket kind = SocketFault (reason_of kind)
+
+-- why nothing was opened: memory ran out, or a socket failed
+abbrev pub IsUnopened : AppFault → Type 0
+IsUnopened fault = (fault ≡ OutOfMemory) ⊎ ((reason : SocketReason) × (fault ≡ SocketFault reason))
 
 -- the fault of a message that cannot be written
 abbrev pub of_message : PduFault → AppFault

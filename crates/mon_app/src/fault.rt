@@ -1,14 +1,12 @@
 //! Why a command failed, as its one line on standard error says.
 
 ghost use Rattle.std.specs.Prelude.{◌≡◌};
-ghost use Rattle.mon_app.specs.AppFault.{number_of, name_of, of_stream, of_message};
+ghost use Rattle.mon_app.specs.AppFault.{IsUnopened, number_of, name_of, of_stream, of_message, of_socket, reason_of};
 ghost use Rattle.std.specs.IoError.{error_kind};
 ghost use Rattle.mon_app.specs.declared.fault.AppFault.TheVariants.{OutOfMemory, SocketFault as FaultOfSocket};
-ghost use Rattle.mon_app.specs.declared.fault.WalkFault.TheVariants.{App};
 
 use crate::reason::SocketReason;
 use mon_agent::AgentFault;
-use mon_host::Reason;
 use mon_pdu::PduFault;
 use std::alloc::AllocError;
 use std::io;
@@ -77,31 +75,6 @@ impl AppFault {
     }
 }
 
-/// Why a walk ended before its end.
-#[derive(Debug, Drop)]
-pub enum WalkFault {
-    /// A fault that a command fails with.
-    App(AppFault),
-    /// A line could not be printed, for this reason of the system's.
-    Output(Reason),
-}
-
-impl From<AppFault> for WalkFault {
-    ghost from_gives = { λ fault e. e ≡ App fault };
-
-    fn from(fault: AppFault) -> WalkFault {
-        WalkFault::App(fault)
-    }
-}
-
-impl From<AllocError> for WalkFault {
-    ghost from_gives = { λ _ e. e ≡ App OutOfMemory };
-
-    fn from(_e: AllocError) -> WalkFault {
-        WalkFault::App(AppFault::OutOfMemory)
-    }
-}
-
 impl From<AllocError> for AppFault {
     ghost from_gives = { λ _ e. e ≡ OutOfMemory };
 
@@ -151,5 +124,36 @@ impl From<PduFault> for AppFault {
             PduFault::OutOfMemory => AppFault::OutOfMemory,
             _ => AppFault::BadText,
         }
+    }
+}
+
+/// Returns the fault of a socket that could not be opened: `OutOfMemory` if memory ran out in it.
+pub fn socket_fault(error: io::Error) -> AppFault
+    ensures { result ≡ of_socket (error_kind error) }
+{
+    match error.kind() {
+        io::ErrorKind::OutOfMemory => AppFault::OutOfMemory,
+        kind => AppFault::SocketFault {
+            reason: SocketReason::of(kind),
+        },
+    }
+}
+
+/// Returns the fault of a failed call of a socket.
+pub fn socket_failure(error: io::Error) -> SocketFault
+    ensures { result.reason ≡ reason_of (error_kind error) }
+{
+    SocketFault {
+        reason: SocketReason::of(error.kind()),
+    }
+}
+
+/// Returns the fault of a socket that could not be opened.
+pub fn unopened(fault: AppFault) -> AppFault
+    ensures { IsUnopened result }
+{
+    match fault {
+        AppFault::SocketFault { reason } => AppFault::SocketFault { reason },
+        _ => AppFault::OutOfMemory,
     }
 }

@@ -1,12 +1,8 @@
-//! Laws over what a replay prints, and over what a text means. Each is a function that does
-//! nothing; its clauses are the law.
+//! Laws over what a replay prints. Each is a function that does nothing; its clauses are the law.
 
 ghost use Rattle.std.specs.Prelude.{◌≡◌, ℕ, List, Result};
-ghost use Rattle.mon_ber.specs.declared.value.Value.{Value};
 ghost use Rattle.mon_app.specs.declared.refusal.Refusal.{Refusal};
-ghost use Rattle.mon_app.specs.declared.value.ValueKind.{ValueKind};
 ghost use Rattle.mon_app.specs.Line.{Says};
-ghost use Rattle.mon_app.specs.Meaning.{MeansValue};
 ghost use Rattle.mon_app.specs.Offer.{Offer};
 ghost use Rattle.mon_app.specs.Outcome.{IsReplay};
 ghost use Rattle.mon_app.specs.Reading.{hex_reading};
@@ -30,12 +26,4 @@ pub fn one_text()
     ensures kept { (n : ℕ) (input : List ℕ) → IsKept n input (kept_of n input) }
 {
     readings();
-}
-
-/// A text means one value at most, for a kind.
-pub fn one_value()
-    ensures { (kind : ValueKind) (text : List ℕ) (a b : Value) → MeansValue kind text a
-        → MeansValue kind text b → a ≡ b }
-{
-    mon_oid::laws::one_reading();
 }

@@ -1,6 +1,6 @@
 -- What a wire in memory wrote down.
 use Rattle.std.specs.Prelude.{List, map, Option, Some}
-use Rattle.mon_app.specs.AtWire.{AtWire, Sent, Heard, Other, Quiet}
+use Rattle.mon_client.specs.AtWire.{AtWire, Sent, Heard, Other, Quiet}
 use Rattle.mon_call_rows.specs.declared.event.Event.{Event}
 use Rattle.mon_call_rows.specs.declared.event.Event.TheVariants as events
 

@@ -3,8 +3,9 @@
 use crate::memory::Memory;
 use crate::small_agent::question;
 use crate::walked;
-use mon_app::{AppFault, Asking, Repeats, Stride, answer_text, request};
+use mon_app::AppFault;
 use mon_ber::{Octets, Value};
+use mon_client::{Asking, Repeats, Stride, answer_text, request};
 use mon_oid::Oid;
 use mon_pdu::write_message;
 use mon_row_texts::{octets, parsed, put, put_digits, put_fault, three, two};

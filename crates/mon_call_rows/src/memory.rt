@@ -1,11 +1,12 @@
 //! A wire in memory, which writes down what happens.
 
 ghost use Rattle.std.specs.Prelude.{◌≡◌, ◌≤◌, ◌++◌, ◌∷◌, [], IfOk, IfSome, OnErr, OnOk, length, map};
-ghost use Rattle.mon_app.specs.AtWire.{Heard as HeardAtWire, FitsRoom, Sent, hearing};
+ghost use Rattle.mon_client.specs.AtWire.{Heard as HeardAtWire, FitsRoom, Sent, hearing};
 ghost use Rattle.mon_call_rows.specs.Log.{at_wire};
 
 use crate::event::Event;
-use mon_app::{Heard, SocketFault, SocketReason, Wire};
+use mon_app::{SocketFault, SocketReason};
+use mon_client::{Heard, Wire};
 use mon_row_texts::{put, put_digits};
 use mon_udp::failed_after;
 use std::alloc::Global;

@@ -1,7 +1,7 @@
 //! The small agent that lines ask: its settings, and the agent that they make.
 
 use mon_agent::Agent;
-use mon_app::{Asking, Question};
+use mon_client::{Asking, Question};
 use mon_mib::SimDevice;
 use mon_oid::Oid;
 use mon_settings::{AgentSettings, read_agent};

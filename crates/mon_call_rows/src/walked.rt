@@ -1,6 +1,7 @@
 //! A walk through an agent whose names do not increase.
 
-use mon_app::{Heard, SocketFault, Stride, WalkFault, WalkPlan, Wire, walk};
+use mon_app::SocketFault;
+use mon_client::{Heard, Stride, WalkFault, WalkPlan, Wire, walk};
 use mon_host::{Given, Host, RecordedCall, Recorder};
 use mon_oid::Oid;
 use mon_row_texts::{octets, two};

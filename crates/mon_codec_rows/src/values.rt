@@ -1,7 +1,7 @@
 //! Values and messages of SNMP: what octets are read as, and what is written of that.
 
-use mon_app::{ValueKind, value_of};
 use mon_ber::{Value, read_value, size_of, write_value};
+use mon_client::{ValueKind, value_of};
 use mon_pdu::{Body, Message, message_size, read_message, write_message};
 use mon_row_texts::{first_line, octets, put, put_digits, put_fault, put_name, two};
 use std::alloc::Global;

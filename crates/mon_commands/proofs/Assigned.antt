@@ -2,8 +2,8 @@
 use Rattle.std.proofs.Common.{◌≡◌, List}
 use Rattle.std.specs.Borrow.{Bor}
 use Rattle.std.specs.Prelude.{Option, Result}
-use Rattle.mon_app.specs.Network.{Agents}
-use Rattle.mon_app.specs.declared.question.Asking.TheVariants.{Set}
+use Rattle.mon_client.specs.Network.{Agents}
+use Rattle.mon_client.specs.declared.question.Asking.TheVariants.{Set}
 use Rattle.mon_ber.specs.declared.value.Value.{Value}
 use Rattle.mon_commands.specs.Client.{PrintsAnswer, PrintsAssigned}
 use Rattle.mon_commands.specs.declared.query.Query.{Query}

@@ -3,9 +3,9 @@ use Rattle.std.proofs.Common.{◌≡◌, List, ℕ, [], ◌++◌, refl, sym, ap,
 use Rattle.std.specs.Prelude.{IsErrAnd, Option, Result, Ok, Err}
 use Rattle.std.specs.declared.net.socket_addr.SocketAddr.{SocketAddr}
 use Rattle.mon_agent.specs.declared.agent.Agent.{Agent}
-use Rattle.mon_app.specs.AtPort.{AtPort}
-use Rattle.mon_app.specs.Network.{Ports, ports_by}
-use Rattle.mon_app.specs.Served.{Standing, stands}
+use Rattle.mon_serving.specs.AtPort.{AtPort}
+use Rattle.mon_serving.specs.Network.{Ports, ports_by}
+use Rattle.mon_serving.specs.Served.{Standing, stands}
 use Rattle.mon_app.specs.declared.fault.AppFault.{AppFault}
 use Rattle.mon_commands.specs.Serving.{IsDeafFor, IsServedAt, IsServing, SimAnswers, port_lines}
 use Rattle.mon_commands.proofs.Servings.{Meanwhile}

@@ -3,14 +3,14 @@ use Rattle.std.proofs.Common.{◌≡◌, ℕ, suc, ◌+◌, ◌<◌, List, [], �
 use Rattle.std.specs.Prelude.{IsErrAnd, Option, Result, Ok, Err, option_map, string_bytes}
 use Rattle.std.proofs.lemmas.List.{append-nil}
 use Rattle.mon_agent.specs.declared.reply.Reply.{Reply}
-use Rattle.mon_app.proofs.Servings.{joined, nothing}
-use Rattle.mon_app.specs.AtPort.{AtPort, Happens}
-use Rattle.mon_app.specs.Served.{IsServed}
+use Rattle.mon_serving.proofs.Servings.{joined, nothing}
+use Rattle.mon_serving.specs.AtPort.{AtPort, Happens}
+use Rattle.mon_serving.specs.Served.{IsServed}
 use Rattle.mon_app.specs.declared.fault.AppFault.{AppFault}
 use Rattle.mon_app.specs.declared.fault.AppFault.TheVariants as faults
 use Rattle.mon_app.specs.declared.fault.SocketFault.{SocketFault}
-use Rattle.mon_app.specs.declared.serving.Served.{Served}
-use Rattle.mon_app.specs.declared.serving.Served.TheVariants.{Untaken}
+use Rattle.mon_serving.specs.declared.serving.Served.{Served}
+use Rattle.mon_serving.specs.declared.serving.Served.TheVariants.{Untaken}
 use Rattle.mon_commands.specs.Serving.{AreServed, IsCutOff, IsNextServed, IsServing, untaken_lines}
 use Rattle.mon_console.specs.Failure.{IsMemory, IsPlain, IsTold, IsToldMore, first_line, is_memory}
 use Rattle.mon_console.specs.declared.failure.Failure.{Failure}

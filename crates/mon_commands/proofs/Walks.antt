@@ -2,12 +2,13 @@
 use Rattle.std.proofs.Common.{◌≡◌, arith, length, List, ℕ, [], ◌∷◌, refl, sym, ap, subst, inl, inr, slice_index_or}
 use Rattle.std.specs.Prelude.{IsErrAnd, Option, Result, Ok, Err}
 use Rattle.mon_app.specs.declared.fault.AppFault.{AppFault}
-use Rattle.mon_app.specs.declared.fault.WalkFault.{WalkFault}
-use Rattle.mon_app.specs.declared.fault.WalkFault.TheVariants.{App}
-use Rattle.mon_app.specs.declared.walking.Stride.{Stride}
-use Rattle.mon_app.specs.AtWire.{AtWire}
-use Rattle.mon_app.specs.Network.{Agents, IsUnopened, agents_by}
-use Rattle.mon_app.specs.Walk.{IsWalk}
+use Rattle.mon_client.specs.declared.fault.WalkFault.{WalkFault}
+use Rattle.mon_client.specs.declared.fault.WalkFault.TheVariants.{App}
+use Rattle.mon_client.specs.declared.walking.Stride.{Stride}
+use Rattle.mon_client.specs.AtWire.{AtWire}
+use Rattle.mon_client.specs.Network.{Agents, agents_by}
+use Rattle.mon_app.specs.AppFault.{IsUnopened}
+use Rattle.mon_client.specs.Walk.{IsWalk}
 use Rattle.mon_commands.specs.Client.{shown_if}
 use Rattle.mon_commands.specs.Walking.{IsShown, IsWalkAt, IsWalkOf, IsWalkWithout, next_question}
 use Rattle.mon_commands.specs.declared.query.Query.{Query}

@@ -2,10 +2,11 @@
 use Rattle.std.proofs.Common.{◌≡◌, List, ℕ, sym, subst, inl, inr}
 use Rattle.std.specs.Prelude.{IsErrAnd, Option, Result, Ok, Err, String, string_bytes}
 use Rattle.std.specs.Global.{Global}
-use Rattle.mon_app.specs.AtWire.{AtWire}
-use Rattle.mon_app.specs.Network.{Agents, IsUnopened, agents_by}
-use Rattle.mon_app.specs.Printed.{IsPrinted}
-use Rattle.mon_app.specs.Question.{QuestionParts}
+use Rattle.mon_client.specs.AtWire.{AtWire}
+use Rattle.mon_client.specs.Network.{Agents, agents_by}
+use Rattle.mon_app.specs.AppFault.{IsUnopened}
+use Rattle.mon_client.specs.Printed.{IsPrinted}
+use Rattle.mon_client.specs.Question.{QuestionParts}
 use Rattle.mon_app.specs.declared.fault.AppFault.{AppFault}
 use Rattle.mon_commands.specs.Client.{IsAnswerText}
 use Rattle.mon_udp.specs.Told.{GoesOnBy}

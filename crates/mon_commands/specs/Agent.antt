@@ -7,7 +7,7 @@ use Rattle.mon_agent.specs.State.{counters_of, device_of, policy_of, settings_of
 use Rattle.mon_agent.specs.declared.agent.Agent.{Agent as AnyAgent}
 use Rattle.mon_agent.specs.declared.reply.Reply.{Reply}
 use Rattle.mon_answers.specs.Answered.{ArePrinted, lines_read}
-use Rattle.mon_app.specs.Served.{AnswersIt, Standing, stands}
+use Rattle.mon_serving.specs.Served.{AnswersIt, Standing, stands}
 use Rattle.mon_cli.specs.declared.meaning.AnswerArgs.{AnswerArgs}
 use Rattle.mon_cli.specs.declared.meaning.Named.{Named}
 use Rattle.mon_console.specs.Failure.{IsMemory, IsOfText, IsPlain}

@@ -3,12 +3,13 @@ use Rattle.std.specs.Prelude.{◌≡◌, ◌⊎◌, ℕ, pos, List, Bool, true, 
 use Rattle.std.specs.Prelude.{string_bytes}
 use Rattle.std.specs.Global.{Global}
 use Rattle.std.specs.Borrow.{Bor}
-use Rattle.mon_app.specs.Network.{Agents, IsUnopened}
-use Rattle.mon_app.specs.Printed.{IsPrinted}
-use Rattle.mon_app.specs.Question.{QuestionParts}
+use Rattle.mon_client.specs.Network.{Agents}
+use Rattle.mon_app.specs.AppFault.{IsUnopened}
+use Rattle.mon_client.specs.Printed.{IsPrinted}
+use Rattle.mon_client.specs.Question.{QuestionParts}
 use Rattle.mon_app.specs.declared.fault.AppFault.{AppFault}
-use Rattle.mon_app.specs.declared.question.Asking.{Asking}
-use Rattle.mon_app.specs.declared.question.Asking.TheVariants.{Get, GetBulk, GetNext, Set}
+use Rattle.mon_client.specs.declared.question.Asking.{Asking}
+use Rattle.mon_client.specs.declared.question.Asking.TheVariants.{Get, GetBulk, GetNext, Set}
 use Rattle.mon_ber.specs.declared.value.Value.{Value}
 use Rattle.mon_cli.specs.declared.meaning.BulkArgs.{BulkArgs}
 use Rattle.mon_cli.specs.declared.meaning.Request.{Request}

@@ -2,9 +2,9 @@
 use Rattle.std.specs.Prelude.{◌≡◌, ◌≢◌, ◌⊎◌, ◌≤◌, ℕ, List, [], ◌∷◌, length, map, None, Some, Result}
 use Rattle.std.specs.Prelude.{Ok, Err, codes}
 use Rattle.std.specs.Global.{Vec}
-use Rattle.mon_app.specs.Meaning.{IsFault, MeansValue, word_of}
+use Rattle.mon_client.specs.Meaning.{IsFault, MeansValue, word_of}
 use Rattle.mon_app.specs.declared.fault.AppFault.{AppFault}
-use Rattle.mon_app.specs.declared.value.ValueKind.{ValueKind}
+use Rattle.mon_client.specs.declared.value.ValueKind.{ValueKind}
 use Rattle.mon_ber.specs.declared.value.Value.{Value}
 use Rattle.mon_cli.specs.declared.meaning.Request.{Request}
 use Rattle.mon_commands.specs.declared.query.Query.{Query}

@@ -6,14 +6,15 @@ use Rattle.std.specs.declared.net.socket_addr.SocketAddr.{SocketAddr}
 use Rattle.mon_agent.specs.State.{policy_of, settings_of}
 use Rattle.mon_agent.specs.declared.agent.Agent.{Agent}
 use Rattle.mon_agent.specs.declared.reply.Reply.{Reply}
-use Rattle.mon_app.specs.AtPort.{AtPort}
-use Rattle.mon_app.specs.Network.{IsUnopened as IsOfOpening, Ports}
-use Rattle.mon_app.specs.Served.{AnswersIt, IsEnd, IsTurn, Standing, Takes, stands}
+use Rattle.mon_serving.specs.AtPort.{AtPort}
+use Rattle.mon_app.specs.AppFault.{IsUnopened as IsOfOpening}
+use Rattle.mon_serving.specs.Network.{Ports}
+use Rattle.mon_serving.specs.Served.{AnswersIt, IsEnd, IsTurn, Standing, Takes, stands}
 use Rattle.mon_app.specs.declared.fault.AppFault.{AppFault}
 use Rattle.mon_app.specs.declared.fault.AppFault.TheVariants as faults
 use Rattle.mon_app.specs.declared.reason.SocketReason.{SocketReason}
-use Rattle.mon_app.specs.declared.serving.Served.{Served}
-use Rattle.mon_app.specs.declared.serving.Served.TheVariants.{Answered, Untaken}
+use Rattle.mon_serving.specs.declared.serving.Served.{Served}
+use Rattle.mon_serving.specs.declared.serving.Served.TheVariants.{Answered, Untaken}
 use Rattle.mon_cli.specs.declared.meaning.AgentArgs.{AgentArgs}
 use Rattle.mon_commands.specs.Agent.{AreAgentSettings, IsSimulated}
 use Rattle.mon_console.specs.Failure.{IsMemory, IsPlain, IsUnopened, first_line}

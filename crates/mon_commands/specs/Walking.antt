@@ -1,13 +1,14 @@
 -- What `walk` does.
 use Rattle.std.specs.Prelude.{◌≡◌, ◌⊎◌, ◌<◌, ◌≤◌, ℕ, pos, List, [], ◌∷◌, IsErrAnd, Result, Ok, Err}
 use Rattle.std.specs.Prelude.{codes}
-use Rattle.mon_app.specs.Network.{Agents, IsUnopened}
-use Rattle.mon_app.specs.Question.{QuestionParts}
-use Rattle.mon_app.specs.Walk.{IsWalk, asking_by}
-use Rattle.mon_app.specs.declared.fault.WalkFault.{WalkFault}
-use Rattle.mon_app.specs.declared.fault.WalkFault.TheVariants as faults
-use Rattle.mon_app.specs.declared.walking.Stride.{Stride}
-use Rattle.mon_app.specs.declared.walking.Stride.TheVariants.{Bulk, Next}
+use Rattle.mon_client.specs.Network.{Agents}
+use Rattle.mon_app.specs.AppFault.{IsUnopened}
+use Rattle.mon_client.specs.Question.{QuestionParts}
+use Rattle.mon_client.specs.Walk.{IsWalk, asking_by}
+use Rattle.mon_client.specs.declared.fault.WalkFault.{WalkFault}
+use Rattle.mon_client.specs.declared.fault.WalkFault.TheVariants as faults
+use Rattle.mon_client.specs.declared.walking.Stride.{Stride}
+use Rattle.mon_client.specs.declared.walking.Stride.TheVariants.{Bulk, Next}
 use Rattle.mon_cli.specs.declared.meaning.WalkArgs.{WalkArgs}
 use Rattle.mon_commands.specs.Client.{shown_if}
 use Rattle.mon_commands.specs.Query.{IsQuery}

@@ -2,9 +2,9 @@
 
 ghost use Rattle.std.specs.Prelude.{◌≡◌, IfErr, IfOk, Some, option_copied};
 ghost use Rattle.mon_agent.specs.State.{policy_of, settings_of};
-ghost use Rattle.mon_app.specs.AtPort.{Happens};
-ghost use Rattle.mon_app.specs.Network.{ports_by};
-ghost use Rattle.mon_app.specs.Served.{AnswersIt, stands};
+ghost use Rattle.mon_serving.specs.AtPort.{Happens};
+ghost use Rattle.mon_serving.specs.Network.{ports_by};
+ghost use Rattle.mon_serving.specs.Served.{AnswersIt, stands};
 ghost use Rattle.mon_console.specs.Failure.{IsUnopened};
 ghost use Rattle.mon_console.specs.Printing.{shown_names};
 ghost use Rattle.mon_host.specs.Log.{GoesOnBy};
@@ -14,11 +14,12 @@ ghost use Rattle.mon_commands.specs.Serving.{IsDeafFor, IsNextServed, IsServedAt
 
 use mon_agent::Agent;
 use mon_answers::{Scene, answer_lines};
-use mon_app::{AppFault, Buffers, Listens, Port, Served, serve_one};
+use mon_app::AppFault;
 use mon_cli::{AgentArgs, AnswerArgs, Named};
 use mon_console::{Failure, names_of, print, read_input_text, read_text, settings_failure};
 use mon_host::{Host, Level};
 use mon_mib::{Device, FuseDevice, Moment, SimDevice};
+use mon_serving::{Buffers, Listens, Port, Served, serve_one};
 use mon_settings::{AgentSettings, SettingsKind, read_agent};
 use mon_smi::{Labels, Names};
 use mon_udp::Addr;

@@ -1,13 +1,14 @@
 //! The client commands: `get`, `next`, `bulk` and `set`.
 
-ghost use Rattle.mon_app.specs.Network.{agents_by};
-ghost use Rattle.mon_app.specs.Question.{asked_in};
+ghost use Rattle.mon_client.specs.Network.{agents_by};
+ghost use Rattle.mon_client.specs.Question.{asked_in};
 ghost use Rattle.mon_host.specs.Log.{GoesOnBy};
 ghost use Rattle.mon_commands.specs.Client.{IsAnswerText, IsAnswered, IsAnsweredAs, IsAsking, IsAskingMany, IsGetting, IsGettingNext, IsSetting, PrintsAnswer};
 
 use crate::query::{Query, query_of, read_value};
-use mon_app::{AppFault, Asking, Opens, Question, Repeats, answer_text};
+use mon_app::AppFault;
 use mon_cli::{BulkArgs, Request, SetArgs};
+use mon_client::{Asking, Opens, Question, Repeats, answer_text};
 use mon_console::{Failure, answer_failure, print};
 use mon_host::Host;
 use mon_smi::{InNumbers, NameTexts};

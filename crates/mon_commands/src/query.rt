@@ -4,9 +4,10 @@ ghost use Rattle.std.specs.Prelude.{map};
 ghost use Rattle.mon_host.specs.Log.{GoesOnBy};
 ghost use Rattle.mon_commands.specs.Query.{AreAsked, IsGivenValue, IsQuery, IsQueryBy, IsWhom};
 
-use mon_app::{AppFault, ValueKind, value_of};
+use mon_app::AppFault;
 use mon_ber::Value;
 use mon_cli::Request;
+use mon_client::{ValueKind, value_of};
 use mon_console::{AgentAt, Failure, agent_at, asked_for, community, names_of};
 use mon_host::Host;
 use mon_oid::Oid;

@@ -1,12 +1,12 @@
 //! The client command `walk`.
 
-ghost use Rattle.mon_app.specs.Network.{agents_by};
+ghost use Rattle.mon_client.specs.Network.{agents_by};
 ghost use Rattle.mon_commands.specs.Walking.{IsShown, IsStride, IsWalkAt, IsWalkFailure, IsWalkOf, IsWalking};
 ghost use Rattle.mon_host.specs.Log.{GoesOnBy};
 
 use crate::query::{Query, query_of};
-use mon_app::{Opens, Stride, WalkFault, WalkPlan};
 use mon_cli::WalkArgs;
+use mon_client::{Opens, Stride, WalkFault, WalkPlan};
 use mon_console::{AgentAt, Failure, answer_failure};
 use mon_host::Host;
 use mon_smi::{InNumbers, NameTexts};
@@ -112,7 +112,7 @@ fn walk_agent<N: Opens, S: NameTexts, H: Host>(
         (H.log host.old) (H.log host.new) }
 {
     let mut wire = net.open(route.agent.address)?;
-    mon_app::walk(alloc, host, &mut wire, &route.plan, names)
+    mon_client::walk(alloc, host, &mut wire, &route.plan, names)
 }
 
 /// Why a walk through this agent failed.

@@ -5,7 +5,7 @@ use Rattle.std.specs.Fmt.{signed_decimal}
 use Rattle.std.specs.Prelude.{IfOk, Option, Some, None, Result, String, ℤ, pos, negsuc, zero, suc, codes, option_map, string_bytes, unwrap_or}
 use Rattle.std.specs.declared.alloc.AllocError.{AllocError}
 use Rattle.std.proofs.Common.{Bor}
-use Rattle.mon_app.specs.Status.{status_name}
+use Rattle.mon_poller.specs.Status.{status_name}
 use Rattle.mon_console.specs.Agents.{answered_with, status_line, status_word}
 use Rattle.mon_console.proofs.Lines.{of_6, of_8, reads_as}
 

@@ -1,7 +1,7 @@
 -- Why an agent gave no answer.
 use Rattle.std.specs.Prelude.{ℕ, zero, ℤ, pos, List, ◌++◌, Some, codes, unwrap_or}
 use Rattle.std.specs.Fmt.{signed_decimal}
-use Rattle.mon_app.specs.Status.{status_name}
+use Rattle.mon_poller.specs.Status.{status_name}
 use Rattle.mon_app.specs.declared.fault.AppFault.{AppFault}
 use Rattle.mon_app.specs.declared.fault.AppFault.TheVariants.{AgentStatus, SocketFault}
 use Rattle.mon_console.specs.Failure.{IsOfSocket, IsOf, IsSaid}

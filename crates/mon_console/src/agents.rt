@@ -6,8 +6,9 @@ ghost use Rattle.mon_console.specs.Failure.{IsOfText};
 ghost use Rattle.mon_udp.specs.Addr.{addr_of};
 
 use crate::failure::Failure;
-use mon_app::{AppFault, status_name};
+use mon_app::AppFault;
 use mon_faults::Fault;
+use mon_poller::status_name;
 use mon_udp::Addr;
 use std::alloc::{AllocError, Global};
 

@@ -2,12 +2,12 @@
 use Rattle.std.proofs.Common.{◌≡◌, ◌∙◌, ◌++◌, ◌∷◌, ℕ, ℤ, pos, List, [], Option, Result, Ok, Err, ap, append_assoc, refl, subst, sym}
 use Rattle.std.specs.Prelude.{IsErrAnd}
 use Rattle.std.proofs.lemmas.List.{append-nil}
-use Rattle.mon_app.specs.Asking.{IsAsked}
-use Rattle.mon_app.specs.AtWire.{AtWire}
-use Rattle.mon_app.specs.Printed.{IsQuestionAnswered, answer_of}
-use Rattle.mon_app.specs.Question.{QuestionParts as Question}
+use Rattle.mon_client.specs.Asking.{IsAsked}
+use Rattle.mon_client.specs.AtWire.{AtWire}
+use Rattle.mon_client.specs.Printed.{IsQuestionAnswered, answer_of}
+use Rattle.mon_client.specs.Question.{QuestionParts as Question}
 use Rattle.mon_app.specs.declared.fault.AppFault.{AppFault}
-use Rattle.mon_app.specs.declared.question.Asking.{Asking}
+use Rattle.mon_client.specs.declared.question.Asking.{Asking}
 use Rattle.mon_console.specs.declared.failure.Failure.{Failure}
 use Rattle.mon_host.specs.Then.{Quietly, Then}
 use Rattle.mon_pdu.specs.declared.message.Binding.{Binding}

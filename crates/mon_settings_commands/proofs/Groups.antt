@@ -8,7 +8,7 @@ use Rattle.mon_survey.specs.declared.choice.Choice.{Choice}
 use Rattle.mon_survey.specs.declared.fault.SurveyFault.{SurveyFault}
 use Rattle.mon_survey.specs.declared.fault.SurveyFault.TheVariants as faults
 use Rattle.mon_survey.specs.declared.longest.Drafted.{Drafted}
-use Rattle.mon_app.specs.Network.{Agents}
+use Rattle.mon_client.specs.Network.{Agents}
 use Rattle.mon_settings_commands.specs.Fitting.{AreFitting}
 use Rattle.mon_settings_commands.specs.Parts.{AreGroupsFrom, HasGroups, HasNoPlan}
 use Rattle.mon_settings_commands.specs.Settings.{IsSettingsOf}

@@ -1,8 +1,8 @@
 -- A survey by a wire that was opened to its agent.
 use Rattle.std.proofs.Common.{List, ℕ, inr}
 use Rattle.std.specs.Prelude.{Option, Result, Ok, Err}
-use Rattle.mon_app.specs.AtWire.{AtWire}
-use Rattle.mon_app.specs.Network.{HappensBy, agents_by}
+use Rattle.mon_client.specs.AtWire.{AtWire}
+use Rattle.mon_client.specs.Network.{HappensBy, agents_by}
 use Rattle.mon_app.specs.declared.fault.AppFault.{AppFault}
 use Rattle.mon_console.specs.declared.failure.Failure.{Failure}
 use Rattle.mon_udp.specs.declared.addr.Addr.{Addr}

@@ -3,7 +3,7 @@ use Rattle.std.proofs.Common.{◌≡◌, ◌≢◌, ◌≤◌, ◌<◌, ◌+◌,
 use Rattle.std.proofs.lemmas.Bool.Decides.{nat_tests}
 use Rattle.std.proofs.lemmas.List.{length-append, length-map, map-append}
 use Rattle.std.specs.Prelude.{OnOk, Result, Ok, Err}
-use Rattle.mon_app.specs.Network.{Agents}
+use Rattle.mon_client.specs.Network.{Agents}
 use Rattle.std.proofs.Math.Nat.{mul-le-mul_right}
 use Rattle.mon_app.specs.declared.fault.AppFault.TheVariants.{BadText}
 use Rattle.mon_console.specs.Failure.{IsMemory, IsSaid}

@@ -1,7 +1,7 @@
 -- Settings by smaller targets, where a poll was answered tooBig.
 use Rattle.std.proofs.Common.{◌≡◌, List, [], Result, Ok, Err, true, false, inl, inr, refl, subst, sym}
 use Rattle.std.specs.Prelude.{IsErrAnd, Some, None}
-use Rattle.mon_app.specs.Network.{Agents}
+use Rattle.mon_client.specs.Network.{Agents}
 use Rattle.mon_console.specs.declared.failure.Failure.{Failure}
 use Rattle.mon_poller.specs.declared.target.Target.{Target}
 use Rattle.mon_survey.specs.Size.{half_of, sizes_from}

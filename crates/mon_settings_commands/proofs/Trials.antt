@@ -3,10 +3,10 @@
 use Rattle.std.proofs.Common.{◌≡◌, ◌∙◌, ◌≤◌, ◌-◌, ◌∷◌, ℕ, List, [], Option, Result, Ok, Err, ap, arith, drop, get_or, inr, length, refl, subst, sym, take}
 use Rattle.std.proofs.lemmas.List.{take_all}
 use Rattle.std.specs.Prelude.{IsErrAnd}
-use Rattle.mon_app.specs.AtWire.{AtWire}
-use Rattle.mon_app.specs.Network.{HappensBy, agents_by}
+use Rattle.mon_client.specs.AtWire.{AtWire}
+use Rattle.mon_client.specs.Network.{HappensBy, agents_by}
 use Rattle.mon_app.specs.declared.fault.AppFault.{AppFault}
-use Rattle.mon_app.specs.declared.question.Asking.TheVariants.{Get}
+use Rattle.mon_client.specs.declared.question.Asking.TheVariants.{Get}
 use Rattle.mon_console.specs.declared.failure.Failure.{Failure}
 use Rattle.mon_pdu.specs.declared.message.Binding.{Binding}
 use Rattle.mon_poller.specs.Target.{poll_names}

@@ -1,7 +1,7 @@
 -- Whom the command `settings` asks, and what it says of the answers.
 use Rattle.std.specs.Prelude.{◌≡◌, ◌++◌, ◌==◌, ◌∷◌, ℕ, List, [], All, Option, Some, None, Result}
 use Rattle.std.specs.Prelude.{Ok, Err, codes, decimal, option_copied, if◌then◌else◌}
-use Rattle.mon_app.specs.Network.{Agents}
+use Rattle.mon_client.specs.Network.{Agents}
 use Rattle.mon_cli.specs.declared.meaning.SettingsArgs.{SettingsArgs}
 use Rattle.mon_console.specs.declared.failure.Failure.{Failure}
 use Rattle.mon_host.specs.AtHost.{AtHost, Noted}

@@ -1,7 +1,7 @@
 -- The command `settings`.
 use Rattle.std.specs.Prelude.{ℕ, List, [], Option, Some, None, Result, map, option_copied}
 use Rattle.std.specs.Prelude.{string_bytes}
-use Rattle.mon_app.specs.Network.{Agents}
+use Rattle.mon_client.specs.Network.{Agents}
 use Rattle.mon_cli.specs.declared.meaning.SettingsArgs.{SettingsArgs}
 use Rattle.mon_console.specs.Naming.{AreNames}
 use Rattle.mon_console.specs.declared.failure.Failure.{Failure}

@@ -2,7 +2,7 @@
 use Rattle.std.specs.Prelude.{◌≡◌, ◌≢◌, ◌⊎◌, ℕ, pos, List, [], ◌∷◌, Option, Some, None, Result, Ok}
 use Rattle.std.specs.Prelude.{Err}
 use Rattle.std.specs.Global.{Vec}
-use Rattle.mon_app.specs.declared.question.Asking.TheVariants.{Get}
+use Rattle.mon_client.specs.declared.question.Asking.TheVariants.{Get}
 use Rattle.mon_ber.specs.declared.value.Value.{Value}
 use Rattle.mon_ber.specs.declared.value.Value.TheVariants.{Integer}
 use Rattle.mon_console.specs.Failure.{IsMemory}

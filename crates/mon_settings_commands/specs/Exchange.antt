@@ -2,11 +2,11 @@
 use Rattle.std.specs.Prelude.{◌≡◌, ℕ, pos, nat_lt, ◌+◌, List, [], ◌∷◌, ◌++◌, Option, Result, Ok}
 use Rattle.std.specs.Prelude.{Err, if◌then◌else◌}
 use Rattle.std.specs.Global.{Vec}
-use Rattle.mon_app.specs.AtWire.{AtWire}
-use Rattle.mon_app.specs.Printed.{IsQuestionAnswered}
-use Rattle.mon_app.specs.Question.{QuestionParts as Question}
+use Rattle.mon_client.specs.AtWire.{AtWire}
+use Rattle.mon_client.specs.Printed.{IsQuestionAnswered}
+use Rattle.mon_client.specs.Question.{QuestionParts as Question}
 use Rattle.mon_app.specs.declared.fault.AppFault.{AppFault}
-use Rattle.mon_app.specs.declared.question.Asking.{Asking}
+use Rattle.mon_client.specs.declared.question.Asking.{Asking}
 use Rattle.mon_console.specs.Agents.{IsUnanswered}
 use Rattle.mon_console.specs.declared.failure.Failure.{Failure}
 use Rattle.mon_faults.specs.declared.fault.Fault.TheVariants.{App}

@@ -1,6 +1,6 @@
 -- Settings whose polls the agent answers.
 use Rattle.std.specs.Prelude.{◌≡◌, ◌⊎◌, ◌<◌, true, false, List, [], ◌∷◌, Result, Ok, Err}
-use Rattle.mon_app.specs.Network.{Agents}
+use Rattle.mon_client.specs.Network.{Agents}
 use Rattle.mon_console.specs.declared.failure.Failure.{Failure}
 use Rattle.mon_placing.specs.Network.{IsSeat}
 use Rattle.mon_survey.specs.declared.longest.Drafted.{Drafted}

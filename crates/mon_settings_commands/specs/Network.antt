@@ -4,7 +4,7 @@ use Rattle.std.specs.Prelude.{Some}
 use Rattle.std.specs.Prelude.{None, Result, Ok, Err, codes, decimal, length, map, string_bytes}
 use Rattle.std.specs.Prelude.{if◌then◌else◌}
 use Rattle.std.specs.Global.{Vec}
-use Rattle.mon_app.specs.Network.{Agents}
+use Rattle.mon_client.specs.Network.{Agents}
 use Rattle.mon_app.specs.declared.fault.AppFault.TheVariants.{BadText}
 use Rattle.mon_cli.specs.declared.meaning.SettingsArgs.{SettingsArgs}
 use Rattle.mon_console.specs.Failure.{IsMemory, IsSaid}

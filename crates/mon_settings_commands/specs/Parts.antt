@@ -2,7 +2,7 @@
 use Rattle.std.specs.Prelude.{◌≡◌, ◌⊎◌, ◌+◌, ℕ, zero, suc, true, false, List, [], ◌∷◌, ◌++◌, Some}
 use Rattle.std.specs.Prelude.{Result, Ok, Err, codes, decimal, length, string_bytes}
 use Rattle.std.specs.Global.{Vec}
-use Rattle.mon_app.specs.Network.{Agents}
+use Rattle.mon_client.specs.Network.{Agents}
 use Rattle.mon_app.specs.declared.fault.AppFault.TheVariants.{FileFault}
 use Rattle.mon_console.specs.Files.{IsWrite}
 use Rattle.mon_console.specs.Failure.{IsMemory, IsOfStream, IsSaid}

@@ -1,7 +1,8 @@
 -- What the command `settings` asks of an agent.
 use Rattle.std.specs.Prelude.{◌≡◌, ◌⊎◌, ℕ, List, [], ◌∷◌, Bool, true, false, Result, Ok, Err}
-use Rattle.mon_app.specs.AtWire.{AtWire}
-use Rattle.mon_app.specs.Network.{Agents, IsUnopened}
+use Rattle.mon_client.specs.AtWire.{AtWire}
+use Rattle.mon_client.specs.Network.{Agents}
+use Rattle.mon_app.specs.AppFault.{IsUnopened}
 use Rattle.mon_app.specs.declared.fault.AppFault.{AppFault}
 use Rattle.mon_console.specs.Agents.{IsUnanswered}
 use Rattle.mon_console.specs.declared.agents.AgentAt.{AgentAt}

@@ -2,11 +2,11 @@
 use Rattle.std.specs.Prelude.{◌≡◌, ◌⊎◌, ◌==◌, ℕ, ℤ, pos, negsuc, Bool, false, List, [], ◌∷◌, ◌++◌}
 use Rattle.std.specs.Prelude.{Result, Ok, Err, codes, decimal, length, if◌then◌else◌}
 use Rattle.std.specs.Fmt.{signed_decimal}
-use Rattle.mon_app.specs.AtWire.{AtWire}
-use Rattle.mon_app.specs.Network.{Agents}
+use Rattle.mon_client.specs.AtWire.{AtWire}
+use Rattle.mon_client.specs.Network.{Agents}
 use Rattle.mon_app.specs.declared.fault.AppFault.{AppFault}
 use Rattle.mon_app.specs.declared.fault.AppFault.TheVariants.{AgentStatus, Timeout}
-use Rattle.mon_app.specs.declared.question.Asking.TheVariants.{Get}
+use Rattle.mon_client.specs.declared.question.Asking.TheVariants.{Get}
 use Rattle.mon_console.specs.Agents.{IsUnanswered, status_word}
 use Rattle.mon_console.specs.Failure.{IsSaid}
 use Rattle.mon_console.specs.declared.failure.Failure.{Failure}

@@ -1,10 +1,10 @@
 -- What is asked of a column of interfaces, turn by turn, and what the answers result in.
 use Rattle.std.specs.Prelude.{◌≡◌, ◌⊎◌, ◌<◌, ◌≤◌, ℕ, zero, suc, ◌+◌, pos, List, [], ◌∷◌, ◌++◌, Bool}
 use Rattle.std.specs.Prelude.{true, false, Result, Ok, Err, codes, decimal}
-use Rattle.mon_app.specs.Walk.{Exceeds, IsPast, IsUnderStart}
+use Rattle.mon_client.specs.Walk.{Exceeds, IsPast, IsUnderStart}
 use Rattle.mon_app.specs.declared.fault.AppFault.TheVariants.{NotIncreasing, Timeout}
-use Rattle.mon_app.specs.declared.question.Asking.{Asking}
-use Rattle.mon_app.specs.declared.question.Asking.TheVariants.{GetBulk}
+use Rattle.mon_client.specs.declared.question.Asking.{Asking}
+use Rattle.mon_client.specs.declared.question.Asking.TheVariants.{GetBulk}
 use Rattle.mon_console.specs.Failure.{IsOf, IsSaid}
 use Rattle.mon_console.specs.declared.failure.Failure.{Failure}
 use Rattle.mon_faults.specs.declared.fault.Fault.TheVariants.{App}

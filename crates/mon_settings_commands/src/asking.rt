@@ -1,10 +1,10 @@
 //! Questions to one agent: its engine, and the cells of its tables of interfaces.
 
 ghost use Rattle.std.specs.Prelude.{◌≡◌, ◌∷◌, ◌++◌, ◌<◌, ◌≤◌, [], IfErr, IfOk, IsTrue, MatchBool, MatchResult, Ok, OnOk, codes, string_bytes};
-ghost use Rattle.mon_app.specs.Network.{agents_by};
-ghost use Rattle.mon_app.specs.Printed.{bindings_in};
-ghost use Rattle.mon_app.specs.Walk.{IsPast, IsUnderStart};
-ghost use Rattle.mon_app.specs.declared.question.Asking.TheVariants.{Get};
+ghost use Rattle.mon_client.specs.Network.{agents_by};
+ghost use Rattle.mon_client.specs.Printed.{bindings_in};
+ghost use Rattle.mon_client.specs.Walk.{IsPast, IsUnderStart};
+ghost use Rattle.mon_client.specs.declared.question.Asking.TheVariants.{Get};
 ghost use Rattle.mon_console.specs.Failure.{IsMemory};
 ghost use Rattle.mon_host.specs.AtHost.{Noted};
 ghost use Rattle.mon_host.specs.declared.level.Level.TheVariants.{Warning};
@@ -22,8 +22,9 @@ ghost use Rattle.mon_settings_commands.specs.Walked.{ArePut, IsPut, IsReplyPut, 
 use crate::failing::survey_failure;
 use crate::noting::form_of;
 use crate::settings::AgentOptions;
-use mon_app::{AppFault, Asking, Opens, Question, Repeats, Wire, send_request};
+use mon_app::AppFault;
 use mon_ber::Value;
+use mon_client::{Asking, Opens, Question, Repeats, Wire, send_request};
 use mon_console::{Failure, Fault, answer_failure};
 use mon_host::{Host, Level};
 use mon_oid::Oid;

@@ -13,10 +13,10 @@ ghost use Rattle.mon_settings_commands.specs.Settings.{IsOfLabels, labels_words}
 ghost use Rattle.mon_settings_commands.specs.Tried.{IsUnpolled, advice_for, first_name, poll_text, refused_line, silent_line};
 
 use crate::noting::form_of;
-use mon_app::{AppFault, status_name};
+use mon_app::AppFault;
 use mon_console::{Failure, Fault, answer_failure};
 use mon_placing::MachinesFault;
-use mon_poller::{Object, Target};
+use mon_poller::{Object, Target, status_name};
 use mon_station::Innermost;
 use mon_survey::SurveyFault;
 use std::alloc::{AllocError, Global};

@@ -1,7 +1,7 @@
 //! The settings of a network: a file for each station, and the lists of their addresses.
 
 ghost use Rattle.std.specs.Prelude.{◌≡◌, ◌≤◌, ◌<◌, ◌⊎◌, ◌+◌, ◌*◌, ◌^◌, ◌++◌, ◌∷◌, [], ℕ, Err, IfErr, IfOk, OnOk, Some, codes, length, nat_le, option_copied, option_map, string_bytes};
-ghost use Rattle.mon_app.specs.Network.{agents_by};
+ghost use Rattle.mon_client.specs.Network.{agents_by};
 ghost use Rattle.mon_console.specs.Failure.{IsMemory};
 ghost use Rattle.mon_host.specs.Log.{GoesOnBy};
 ghost use Rattle.mon_placing.specs.Network.{ArePlaced, IsSeat, seat_at, targets_text, units_text};
@@ -21,8 +21,8 @@ use crate::noting::{note_speeds, print_noted};
 use crate::parts::{groups_of, require_nothing_at};
 use crate::settings::{AgentOptions, Input};
 use crate::trying::{Wish, fit};
-use mon_app::Opens;
 use mon_cli::SettingsArgs;
+use mon_client::Opens;
 use mon_console::{Failure, names_of, print, write_file};
 use mon_host::Host;
 use mon_placing::{Machine, Network, laws, seat_path, targets_text, units_text};

@@ -2,7 +2,7 @@
 
 ghost use Rattle.std.specs.Prelude.{◌≡◌, ◌<◌, ◌≤◌, ◌⊎◌, ◌^◌, ◌∷◌, ◌++◌, [], Err, IfErr, IfOk, Ok, OnOk, Some, false, length, string_bytes};
 ghost use Rattle.mon_console.specs.Failure.{IsMemory};
-ghost use Rattle.mon_app.specs.Network.{agents_by};
+ghost use Rattle.mon_client.specs.Network.{agents_by};
 ghost use Rattle.mon_host.specs.Log.{GoesOnBy};
 ghost use Rattle.mon_settings_commands.specs.Fitting.{AreFitting};
 ghost use Rattle.mon_settings_commands.specs.Parts.{AreAbsent, AreParted, AreParts, AreWritten, HasGroups, HasNoCounter, HasNoPlan, IsAbsent, IsNamedWritten, IsPartAbsent, IsPartWritten, part_path};
@@ -15,7 +15,7 @@ use crate::labelling::write_labels;
 use crate::noting::print_noted;
 use crate::settings::Input;
 use crate::trying::{Wish, fit};
-use mon_app::Opens;
+use mon_client::Opens;
 use mon_console::{Failure, write_file};
 use mon_host::Host;
 use mon_survey::{Drafted, SurveyFault, TargetSize, plan};

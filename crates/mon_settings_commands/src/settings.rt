@@ -2,7 +2,7 @@
 //! the settings of a station that polls it.
 
 ghost use Rattle.std.specs.Prelude.{◌≡◌, ◌<◌, ◌≤◌, [], IfErr, IfOk, OnOk, option_copied, string_bytes};
-ghost use Rattle.mon_app.specs.Network.{agents_by};
+ghost use Rattle.mon_client.specs.Network.{agents_by};
 ghost use Rattle.mon_host.specs.Log.{GoesOnBy};
 ghost use Rattle.mon_settings_commands.specs.Appended.{IsAlone, IsAppendedOf, IsLonger, IsPutLonger};
 ghost use Rattle.mon_settings_commands.specs.AgentOptions.{IsAsked};
@@ -25,8 +25,8 @@ use crate::updating::print_updated;
 use crate::words::{
     given_or, kinds_of, percent_of, put_address, put_file, put_peers, require_peers,
 };
-use mon_app::Opens;
 use mon_cli::SettingsArgs;
+use mon_client::Opens;
 use mon_console::{AgentAt, Failure, agent_at, community, names_of};
 use mon_host::Host;
 use mon_smi::Names;

@@ -1,7 +1,7 @@
 //! Polls of settings, tried before the settings are printed or written.
 
 ghost use Rattle.std.specs.Prelude.{◌≡◌, IsTrue, Ok, true};
-ghost use Rattle.mon_app.specs.Network.{agents_by};
+ghost use Rattle.mon_client.specs.Network.{agents_by};
 ghost use Rattle.mon_settings_commands.specs.Exchange.{AsksBy};
 ghost use Rattle.mon_settings_commands.specs.Fitting.{IsDraft, IsFitting, IsWish};
 ghost use Rattle.mon_settings_commands.specs.Source.{source_in};
@@ -13,7 +13,8 @@ use crate::existing::Existing;
 use crate::failing::poll_failure;
 use crate::seating::seat_settings;
 use crate::settings::{AgentOptions, Input, News, appended, settings_of, updated};
-use mon_app::{AppFault, Asking, Opens, Wire};
+use mon_app::AppFault;
+use mon_client::{Asking, Opens, Wire};
 use mon_console::{Failure, Fault};
 use mon_placing::Seat;
 use mon_poller::{Target, poll_names};

@@ -1,7 +1,7 @@
 //! Settings that are there, brought up to date with the agent's interfaces as they are now.
 
 ghost use Rattle.std.specs.Prelude.{◌≡◌, IfErr, IfOk, map, option_copied, string_bytes, unwrap_or};
-ghost use Rattle.mon_app.specs.Network.{agents_by};
+ghost use Rattle.mon_client.specs.Network.{agents_by};
 ghost use Rattle.mon_host.specs.Log.{GoesOnBy};
 ghost use Rattle.mon_survey.specs.Moved.{at_in};
 ghost use Rattle.mon_settings_commands.specs.Command.{AreUpdatedSettings, IsUpdatedBy};
@@ -15,8 +15,8 @@ use crate::labelling::old_labels;
 use crate::noting::note_speeds;
 use crate::settings::{Addition, AgentOptions, Input, News, print_drafted};
 use crate::trying::{Wish, fit};
-use mon_app::Opens;
 use mon_cli::SettingsArgs;
+use mon_client::Opens;
 use mon_console::{Failure, replace_file};
 use mon_host::{Host, Level};
 use mon_survey::{Drafted, Known, Renamed, TargetSize, change_lines, known_names, relabel};

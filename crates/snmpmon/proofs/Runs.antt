@@ -1,7 +1,8 @@
 -- A command, what comes before it, and the end of the program after it.
 use Rattle.std.proofs.Common.{◌≡◌, ◌∙◌, List, ℕ, [], ◌∷◌, ◌++◌, refl, sym, ap, subst, inr, codes}
 use Rattle.std.specs.Prelude.{Bool, true, false, IsErrAnd, Option, Some, Result, Ok, Err}
-use Rattle.mon_app.specs.Network.{Agents, Ports}
+use Rattle.mon_client.specs.Network.{Agents}
+use Rattle.mon_serving.specs.Network.{Ports}
 use Rattle.mon_carry_commands.specs.Saving.{Saved}
 use Rattle.mon_health_commands.specs.Health.{Stations}
 use Rattle.mon_cli.specs.declared.meaning.Invocation.{Invocation}

@@ -9,7 +9,8 @@ use Rattle.clap.specs.declared.parser.matches.ArgMatches.{ArgMatches}
 use Rattle.clap.specs.declared.error.Error.{Error}
 use Rattle.clap.specs.declared.error.kind.ErrorKind.{ErrorKind as UsageKind}
 use Rattle.clap.specs.declared.error.kind.ErrorKind.TheVariants as usage
-use Rattle.mon_app.specs.Network.{Agents, Ports}
+use Rattle.mon_client.specs.Network.{Agents}
+use Rattle.mon_serving.specs.Network.{Ports}
 use Rattle.mon_cli.specs.Invocation.{AsksFor, LacksColumns, LacksInterval, LacksMachines}
 use Rattle.mon_cli.specs.Invocation.{LacksNumber}
 use Rattle.mon_cli.specs.Invocation.{LacksRounds, LacksSource, LacksSplit, is_on}

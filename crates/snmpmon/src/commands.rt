@@ -2,7 +2,8 @@
 
 ghost use Rattle.std.specs.Prelude.{◌≡◌, false, map, string_bytes};
 ghost use Rattle.clap.specs.Values.{kind_of};
-ghost use Rattle.mon_app.specs.Network.{agents_by, ports_by};
+ghost use Rattle.mon_client.specs.Network.{agents_by};
+ghost use Rattle.mon_serving.specs.Network.{ports_by};
 ghost use Rattle.mon_cli.specs.Invocation.{IsWithin};
 ghost use Rattle.mon_health_commands.specs.Health.{stations_by};
 ghost use Rattle.mon_host.specs.Log.{GoesOnBy};
@@ -10,9 +11,9 @@ ghost use Rattle.mon_host.specs.Reason.{why};
 ghost use Rattle.snmpmon.specs.Start.{Does, Hints, IsBefore, IsEnd, IsRefused, IsRun, IsRunFor, IsShown, IsStart, IsStartOf, IsStartWith, IsUnlisted, IsUsage, is_station, reads_input, status_of};
 
 use clap::error::ErrorKind;
-use mon_app::{Listens, Opens};
 use mon_carry_commands::{Saves, carry_windows};
 use mon_cli::{Invocation, VERSION, read, read_command};
+use mon_client::Opens;
 use mon_commands::{
     bulk, get, next, print_answers, print_names, print_recorded, print_rehearsal, run_self_test,
     serve_agent, set, walk,
@@ -21,6 +22,7 @@ use mon_console::{Failure, Fault, print};
 use mon_file_commands::print_saved_report;
 use mon_health_commands::{Connects, ask_health};
 use mon_host::{Host, Level, Reason};
+use mon_serving::Listens;
 use mon_settings_commands::print_settings;
 use mon_station_commands::run_station;
 use std::alloc::{AllocError, Global};

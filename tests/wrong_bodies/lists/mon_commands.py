@@ -580,13 +580,13 @@ BUGS = {
     ),
     "walks_the_same_twice": (
         "src/walking.rt",
-        "    mon_app::walk(alloc, host, &mut wire, &route.plan, names)",
-        "    mon_app::walk(alloc, host, &mut wire, &route.plan, names)?;\n    mon_app::walk(alloc, host, &mut wire, &route.plan, names)",
+        "    mon_client::walk(alloc, host, &mut wire, &route.plan, names)",
+        "    mon_client::walk(alloc, host, &mut wire, &route.plan, names)?;\n    mon_client::walk(alloc, host, &mut wire, &route.plan, names)",
     ),
     "forgets_how_a_walk_ended": (
         "src/walking.rt",
-        "    mon_app::walk(alloc, host, &mut wire, &route.plan, names)",
-        "    let _ = mon_app::walk(alloc, host, &mut wire, &route.plan, names);\n    Ok(())",
+        "    mon_client::walk(alloc, host, &mut wire, &route.plan, names)",
+        "    let _ = mon_client::walk(alloc, host, &mut wire, &route.plan, names);\n    Ok(())",
     ),
     "says_whom_it_walks": (
         "src/walking.rt",
@@ -610,17 +610,17 @@ BUGS = {
     ),
     "walks_from_the_root": (
         "src/walking.rt",
-        "    mon_app::walk(alloc, host, &mut wire, &route.plan, names)",
-        "    let Ok(root) = mon_oid::Oid::from_parts(alloc, &[1, 3]) else {\n        return Err(WalkFault::App(mon_app::AppFault::OutOfMemory));\n    };\n    mon_app::walk(alloc, host, &mut wire, &WalkPlan { start: &root, ..*plan }, names)",
+        "    mon_client::walk(alloc, host, &mut wire, &route.plan, names)",
+        "    let Ok(root) = mon_oid::Oid::from_parts(alloc, &[1, 3]) else {\n        return Err(WalkFault::App(mon_app::AppFault::OutOfMemory));\n    };\n    mon_client::walk(alloc, host, &mut wire, &WalkPlan { start: &root, ..*plan }, names)",
     ),
     "walks_for_one_at_once": (
         "src/walking.rt",
-        "    mon_app::walk(alloc, host, &mut wire, &route.plan, names)",
-        "    mon_app::walk(alloc, host, &mut wire, &WalkPlan { stride: Stride::Next, ..*plan }, names)",
+        "    mon_client::walk(alloc, host, &mut wire, &route.plan, names)",
+        "    mon_client::walk(alloc, host, &mut wire, &WalkPlan { stride: Stride::Next, ..*plan }, names)",
     ),
     "times_out_at_once": (
         "src/walking.rt",
-        "    let mut wire = net.open(route.agent.address)?;\n    mon_app::walk(alloc, host, &mut wire, &route.plan, names)",
+        "    let mut wire = net.open(route.agent.address)?;\n    mon_client::walk(alloc, host, &mut wire, &route.plan, names)",
         "    Err(WalkFault::App(mon_app::AppFault::Timeout))",
     ),
     "calls_an_agents_fault_one_of_output": (

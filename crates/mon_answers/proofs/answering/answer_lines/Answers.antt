@@ -7,7 +7,7 @@ use Rattle.hex.specs.Hex.{decode_of}
 use Rattle.mon_vacm.specs.Tables.{PolicyTables}
 use Rattle.mon_mib.specs.declared.settings.Settings.{Settings}
 use Rattle.mon_agent.specs.State.{policy_of, settings_of}
-use Rattle.mon_app.specs.Served.{AnswersIt, stands}
+use Rattle.mon_serving.specs.Served.{AnswersIt, stands}
 use Rattle.mon_answers.specs.Answered.{ArePrinted, IsPrinted, Appends, is_read}
 use Rattle.mon_answers.proofs.Turns.{line_printed, moved}
 use Rattle.mon_answers.proofs.answering.answer_lines.Goals as goal

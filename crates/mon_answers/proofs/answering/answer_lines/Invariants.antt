@@ -1,7 +1,7 @@
 use Rattle.std.proofs.Common.{◌≡◌, map, string_bytes}
 use Rattle.std.specs.List.{filter}
 use Rattle.mon_agent.specs.State.{policy_of, settings_of}
-use Rattle.mon_app.specs.Served.{AnswersIt, stands}
+use Rattle.mon_serving.specs.Served.{AnswersIt, stands}
 use Rattle.mon_answers.specs.Answered.{ArePrinted, is_read}
 use Rattle.mon_answers.proofs.answering.answer_lines.Given as goal
 

@@ -3,7 +3,7 @@ use Rattle.mon_vacm.specs.Tables.{PolicyTables}
 use Rattle.mon_mib.specs.declared.settings.Settings.{Settings}
 use Rattle.mon_agent.specs.declared.reply.Reply.{Reply}
 use Rattle.mon_agent.specs.State.{policy_of, settings_of}
-use Rattle.mon_app.specs.Served.{AnswersIt, stands}
+use Rattle.mon_serving.specs.Served.{AnswersIt, stands}
 use Rattle.mon_answers.specs.Answered.{AreArrivals, IsLastReply, arrives}
 use Rattle.mon_answers.proofs.Turns.{if_ok, moved, one_more}
 use Rattle.mon_answers.proofs.answering.answer_repeated.Goals as goal

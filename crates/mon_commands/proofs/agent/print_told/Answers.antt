@@ -1,7 +1,7 @@
 use Rattle.std.proofs.Common.{List, ℕ, map, subst}
 use Rattle.std.specs.Prelude.{Ok, Option, string_bytes}
 use Rattle.mon_agent.specs.State.{policy_of, settings_of}
-use Rattle.mon_app.specs.Served.{AnswersIt, stands}
+use Rattle.mon_serving.specs.Served.{AnswersIt, stands}
 use Rattle.mon_host.proofs.Promised.{then_fails}
 use Rattle.mon_host.specs.Log.{GoesOnBy}
 use Rattle.mon_commands.specs.Agent.{AreAnswers, PrintsAnswers}

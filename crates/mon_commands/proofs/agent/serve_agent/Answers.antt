@@ -1,4 +1,4 @@
-use Rattle.mon_app.specs.Network.{ports_by}
+use Rattle.mon_serving.specs.Network.{ports_by}
 use Rattle.mon_commands.specs.Agent.{AreAgentSettings, IsSimulated}
 use Rattle.mon_commands.specs.Serving.{IsServingAgent}
 use Rattle.mon_commands.proofs.Steps.{failed, follows, silent_fails, silent_then}

@@ -1,7 +1,7 @@
 use Rattle.std.proofs.Common.{◌∙◌, arith, refl}
 use Rattle.std.specs.Prelude.{Ok, Err}
 use Rattle.mon_agent.specs.State.{policy_of, settings_of}
-use Rattle.mon_app.specs.Served.{AnswersIt, stands}
+use Rattle.mon_serving.specs.Served.{AnswersIt, stands}
 use Rattle.mon_commands.specs.Serving.{IsNextServed}
 use Rattle.mon_commands.proofs.Servings.{Meanwhile, cut_off, moved, none_served, not_begun, one_served}
 use Rattle.mon_commands.proofs.agent.serve_all.Goals as goal

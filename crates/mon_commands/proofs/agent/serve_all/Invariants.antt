@@ -1,6 +1,6 @@
 use Rattle.std.proofs.Common.{◌≡◌}
 use Rattle.mon_agent.specs.State.{policy_of, settings_of}
-use Rattle.mon_app.specs.Served.{AnswersIt, stands}
+use Rattle.mon_serving.specs.Served.{AnswersIt, stands}
 use Rattle.mon_commands.specs.Serving.{AreServed}
 use Rattle.mon_commands.proofs.Servings.{Meanwhile}
 use Rattle.mon_commands.proofs.agent.serve_all.Given as goal

@@ -1,5 +1,5 @@
-use Rattle.mon_app.specs.Network.{ports_by}
-use Rattle.mon_app.specs.Served.{stands}
+use Rattle.mon_serving.specs.Network.{ports_by}
+use Rattle.mon_serving.specs.Served.{stands}
 use Rattle.mon_commands.proofs.Heard.{deaf, heard}
 use Rattle.mon_commands.proofs.agent.serve_at.Goals as goal
 

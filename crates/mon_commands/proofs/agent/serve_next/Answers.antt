@@ -1,5 +1,5 @@
 use Rattle.mon_agent.specs.State.{policy_of, settings_of}
-use Rattle.mon_app.specs.Served.{AnswersIt, stands}
+use Rattle.mon_serving.specs.Served.{AnswersIt, stands}
 use Rattle.mon_commands.proofs.Servings.{came, none_came}
 use Rattle.mon_commands.proofs.agent.serve_next.Goals as goal
 

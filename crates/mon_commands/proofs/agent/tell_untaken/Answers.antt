@@ -1,5 +1,5 @@
 use Rattle.std.proofs.Common.{◌≡◌, subst, sym}
-use Rattle.mon_app.specs.declared.serving.Served.{Served}
+use Rattle.mon_serving.specs.declared.serving.Served.{Served}
 use Rattle.mon_commands.proofs.Servings.{told_of_memory}
 use Rattle.mon_commands.proofs.agent.tell_untaken.Goals as goal
 use Rattle.mon_commands.specs.Serving.{untaken_lines}

@@ -1,5 +1,5 @@
 use Rattle.std.proofs.Common.{◌∙◌}
-use Rattle.mon_app.specs.Served.{stands}
+use Rattle.mon_serving.specs.Served.{stands}
 use Rattle.mon_commands.proofs.agent.told_answers.Goals as goal
 
 pub returns : goal.returns

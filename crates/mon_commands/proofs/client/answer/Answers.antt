@@ -1,6 +1,6 @@
 use Rattle.std.proofs.Common.{List, sym, subst}
 use Rattle.std.specs.Prelude.{Bool}
-use Rattle.mon_app.specs.Network.{agents_by}
+use Rattle.mon_client.specs.Network.{agents_by}
 use Rattle.mon_smi.specs.Labels.{name_text}
 use Rattle.mon_smi.specs.declared.definition.Definition.{Definition}
 use Rattle.mon_commands.specs.Client.{IsAnsweredAs, shown_if}

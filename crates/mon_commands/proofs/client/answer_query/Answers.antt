@@ -1,5 +1,5 @@
 use Rattle.std.proofs.Common.{inl}
-use Rattle.mon_app.specs.Network.{agents_by}
+use Rattle.mon_client.specs.Network.{agents_by}
 use Rattle.mon_commands.proofs.Wires.{answered, unopened}
 use Rattle.mon_commands.proofs.client.answer_query.Goals as goal
 

@@ -1,6 +1,6 @@
 use Rattle.std.proofs.Common.{List, ℕ, inr, subst}
 use Rattle.std.specs.Prelude.{Err}
-use Rattle.mon_app.specs.Network.{agents_by}
+use Rattle.mon_client.specs.Network.{agents_by}
 use Rattle.mon_commands.specs.Client.{IsAnswerText, question_about}
 use Rattle.mon_commands.proofs.client.answer_shown.Goals as goal
 

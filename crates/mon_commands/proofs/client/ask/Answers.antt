@@ -1,4 +1,4 @@
-use Rattle.mon_app.specs.Network.{agents_by}
+use Rattle.mon_client.specs.Network.{agents_by}
 use Rattle.mon_host.proofs.Promised.{then_fails}
 use Rattle.mon_commands.specs.Client.{IsAsking, PrintsAnswer}
 use Rattle.mon_commands.specs.Query.{IsQuery}

@@ -1,4 +1,4 @@
-use Rattle.mon_app.specs.Network.{agents_by}
+use Rattle.mon_client.specs.Network.{agents_by}
 use Rattle.mon_commands.specs.Client.{IsAnswered, PrintsAnswer}
 use Rattle.mon_commands.proofs.Steps.{failed, silent_fails}
 use Rattle.mon_commands.proofs.client.print_answer.Goals as goal

@@ -1,5 +1,5 @@
 use Rattle.std.proofs.Common.{List}
-use Rattle.mon_app.specs.Network.{agents_by}
+use Rattle.mon_client.specs.Network.{agents_by}
 use Rattle.mon_commands.specs.Query.{IsQuery}
 use Rattle.mon_commands.specs.Walking.{IsWalkBy, IsWalkOf, IsWalking}
 use Rattle.mon_commands.proofs.Steps.{failed, follows}

@@ -1,4 +1,4 @@
-use Rattle.mon_app.specs.Network.{agents_by}
+use Rattle.mon_client.specs.Network.{agents_by}
 use Rattle.mon_commands.proofs.Walks.{walked, without_wire}
 use Rattle.mon_commands.proofs.walking.walk_agent.Goals as goal
 

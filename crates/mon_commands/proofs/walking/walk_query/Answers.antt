@@ -1,6 +1,6 @@
 use Rattle.std.proofs.Common.{◌≡◌, ◌∙◌, List, length, rules, subst, sym}
 use Rattle.std.specs.Prelude.{Bool}
-use Rattle.mon_app.specs.Network.{agents_by}
+use Rattle.mon_client.specs.Network.{agents_by}
 use Rattle.mon_commands.specs.Client.{shown_if}
 use Rattle.mon_commands.specs.Walking.{IsShown}
 use Rattle.mon_commands.proofs.Walks.{only_one, walked_one}

@@ -1,6 +1,6 @@
 use Rattle.std.proofs.Common.{List}
 use Rattle.std.specs.Prelude.{Err}
-use Rattle.mon_app.specs.Network.{agents_by}
+use Rattle.mon_client.specs.Network.{agents_by}
 use Rattle.mon_commands.specs.Walking.{IsShown, IsWalkAt}
 use Rattle.mon_host.proofs.Promised.{weaker}
 use Rattle.mon_host.specs.AtHost.{AtHost}

@@ -1,6 +1,6 @@
 use Rattle.std.proofs.Common.{Bor, List, ℕ, map, subst}
 use Rattle.std.specs.Prelude.{Ok}
-use Rattle.mon_app.specs.Network.{agents_by}
+use Rattle.mon_client.specs.Network.{agents_by}
 use Rattle.mon_console.specs.Naming.{AreNames}
 use Rattle.mon_host.specs.AtHost.{AtHost}
 use Rattle.mon_host.specs.Log.{GoesOnBy}

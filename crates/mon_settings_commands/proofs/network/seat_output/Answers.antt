@@ -1,6 +1,6 @@
 use Rattle.std.proofs.Common.{◌∙◌, ap, inr, string_bytes, subst, sym}
 use Rattle.std.specs.Prelude.{Err, Ok}
-use Rattle.mon_app.specs.Network.{agents_by}
+use Rattle.mon_client.specs.Network.{agents_by}
 use Rattle.mon_placing.specs.Network.{IsSeat, seat_path}
 use Rattle.mon_placing.specs.declared.network.Seat.{Seat}
 use Rattle.mon_settings_commands.specs.Fitting.{AreFitting}

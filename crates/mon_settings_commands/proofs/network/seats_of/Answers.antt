@@ -1,6 +1,6 @@
 use Rattle.std.proofs.Common.{◌⊎◌, ◌*◌, ℕ, List, ap, length, subst, sym}
 use Rattle.std.specs.Prelude.{Err}
-use Rattle.mon_app.specs.Network.{agents_by}
+use Rattle.mon_client.specs.Network.{agents_by}
 use Rattle.mon_console.specs.Failure.{IsMemory}
 use Rattle.mon_console.specs.declared.failure.Failure.{Failure}
 use Rattle.mon_placing.specs.Network.{seat_at}

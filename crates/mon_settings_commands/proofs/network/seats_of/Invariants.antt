@@ -1,5 +1,5 @@
 use Rattle.std.proofs.Common.{◌≡◌, length}
-use Rattle.mon_app.specs.Network.{agents_by}
+use Rattle.mon_client.specs.Network.{agents_by}
 use Rattle.mon_settings_commands.specs.Network.{AreSeatFiles}
 use Rattle.mon_settings_commands.specs.Source.{source_in}
 use Rattle.mon_settings_commands.proofs.network.seats_of.Given as goal

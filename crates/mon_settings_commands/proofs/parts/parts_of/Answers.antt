@@ -1,7 +1,7 @@
 use Rattle.std.proofs.Common.{List, ap, inl, inr, length, subst, sym}
 use Rattle.std.specs.Global.{Vec}
 use Rattle.std.specs.Prelude.{Result}
-use Rattle.mon_app.specs.Network.{agents_by}
+use Rattle.mon_client.specs.Network.{agents_by}
 use Rattle.mon_console.specs.declared.failure.Failure.{Failure}
 use Rattle.mon_survey.specs.declared.longest.Drafted.{Drafted}
 use Rattle.mon_settings_commands.specs.Parts.{AreGroupsFrom, AreParted}

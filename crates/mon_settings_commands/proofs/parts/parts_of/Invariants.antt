@@ -1,5 +1,5 @@
 use Rattle.std.proofs.Common.{◌≡◌, length}
-use Rattle.mon_app.specs.Network.{agents_by}
+use Rattle.mon_client.specs.Network.{agents_by}
 use Rattle.mon_settings_commands.specs.Parts.{AreGroupsFrom}
 use Rattle.mon_settings_commands.specs.Source.{source_in}
 use Rattle.mon_settings_commands.proofs.parts.parts_of.Given as goal

@@ -1,6 +1,6 @@
 use Rattle.std.proofs.Common.{List, [], length, subst}
 use Rattle.std.specs.Prelude.{Err, Ok}
-use Rattle.mon_app.specs.Network.{agents_by}
+use Rattle.mon_client.specs.Network.{agents_by}
 use Rattle.mon_host.specs.Log.{GoesOnBy}
 use Rattle.mon_host.proofs.Promised.{then_follows}
 use Rattle.mon_survey.specs.declared.longest.Drafted.{Drafted}

@@ -1,6 +1,6 @@
 use Rattle.std.proofs.Common.{List, ℕ, subst}
 use Rattle.std.specs.Prelude.{Ok, option_copied}
-use Rattle.mon_app.specs.Network.{agents_by}
+use Rattle.mon_client.specs.Network.{agents_by}
 use Rattle.mon_host.specs.Log.{GoesOnBy}
 use Rattle.mon_host.proofs.Promised.{then_follows}
 use Rattle.mon_settings_commands.specs.Appended.{AreOldLabels, IsAlone, IsAppendedOf, IsExisting, IsLonger}

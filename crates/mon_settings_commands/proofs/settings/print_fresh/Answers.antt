@@ -1,6 +1,6 @@
 use Rattle.std.proofs.Common.{List, ℕ, sym, subst, ap, ◌∙◌}
 use Rattle.std.specs.Prelude.{Option, option_copied, option_map}
-use Rattle.mon_app.specs.Network.{agents_by}
+use Rattle.mon_client.specs.Network.{agents_by}
 use Rattle.mon_host.specs.Log.{GoesOnBy}
 use Rattle.mon_settings_commands.specs.Command.{AreFreshSettings}
 use Rattle.mon_settings_commands.specs.declared.network.SplitPaths.{SplitPaths}

@@ -1,6 +1,6 @@
 use Rattle.std.proofs.Common.{Bor, List, ℕ, subst, sym}
 use Rattle.std.specs.Prelude.{Option, option_copied}
-use Rattle.mon_app.specs.Network.{agents_by}
+use Rattle.mon_client.specs.Network.{agents_by}
 use Rattle.mon_host.specs.Log.{GoesOnBy}
 use Rattle.mon_settings_commands.specs.Command.{AreTextsFor}
 use Rattle.mon_settings_commands.specs.Source.{source_in}

@@ -1,4 +1,4 @@
-use Rattle.mon_app.specs.Network.{agents_by}
+use Rattle.mon_client.specs.Network.{agents_by}
 use Rattle.mon_settings_commands.specs.Command.{ArePutTexts}
 use Rattle.mon_settings_commands.specs.Notes.{AreSpeedsNoted}
 use Rattle.mon_settings_commands.specs.Source.{source_in}

@@ -1,4 +1,5 @@
-use Rattle.mon_app.specs.Network.{agents_by, ports_by}
+use Rattle.mon_client.specs.Network.{agents_by}
+use Rattle.mon_serving.specs.Network.{ports_by}
 use Rattle.mon_health_commands.specs.Health.{stations_by}
 use Rattle.snmpmon.proofs.Runs.{runs}
 use Rattle.snmpmon.proofs.commands.run_to_end.Goals as goal

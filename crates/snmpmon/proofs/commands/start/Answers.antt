@@ -1,7 +1,8 @@
 use Rattle.std.proofs.Common.{◌∷◌, List, inl, inr, map, refl, string_bytes, subst}
 use Rattle.std.specs.Prelude.{String}
 use Rattle.std.specs.Global.{Global}
-use Rattle.mon_app.specs.Network.{agents_by, ports_by}
+use Rattle.mon_client.specs.Network.{agents_by}
+use Rattle.mon_serving.specs.Network.{ports_by}
 use Rattle.mon_health_commands.specs.Health.{stations_by}
 use Rattle.mon_host.specs.AtHost.{AtHost, Listed, Unlisted}
 use Rattle.mon_host.specs.Log.{GoesOnBy}

@@ -1,6 +1,7 @@
 use Rattle.std.proofs.Common.{List, inl, inr, map, string_bytes}
 use Rattle.clap.specs.Values.{kind_of}
-use Rattle.mon_app.specs.Network.{agents_by, ports_by}
+use Rattle.mon_client.specs.Network.{agents_by}
+use Rattle.mon_serving.specs.Network.{ports_by}
 use Rattle.mon_health_commands.specs.Health.{stations_by}
 use Rattle.mon_host.proofs.Promised.{weaker}
 use Rattle.mon_host.specs.AtHost.{AtHost}

@@ -1,5 +1,0 @@
-use Rattle.mon_app.proofs.Meanings.{one_value}
-use Rattle.mon_app.proofs.laws.one_value.Goals as goal
-
-pub returns : goal.returns
-returns c = one_value c.one_reading.ensures

@@ -1,5 +1,0 @@
-use Rattle.std.proofs.Common.{length}
-use Rattle.mon_app.proofs.question.+same_names.Given as goal
-
-abbrev pub decreases-same_names : goal.decreases-same_names
-decreases-same_names l = length l.names.now

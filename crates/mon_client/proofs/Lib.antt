@@ -1,0 +1,3 @@
+pub mod Askings
+pub mod Meanings
+pub mod Walks

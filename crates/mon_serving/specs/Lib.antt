@@ -1,0 +1,4 @@
+pub mod AtPort
+pub mod AtSocket
+pub mod Network
+pub mod Served
