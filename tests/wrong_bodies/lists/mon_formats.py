@@ -38,13 +38,13 @@ BUGS = {
     ),
     "open_metrics_as_prometheus_by_series": (
         "src/prometheus/series.rt",
-        "            Format::OpenMetrics => Exposition::OpenMetrics,",
-        "            Format::OpenMetrics => Exposition::Prometheus,",
+        "        Format::OpenMetrics => Exposition::OpenMetrics,",
+        "        Format::OpenMetrics => Exposition::Prometheus,",
     ),
     "series_after_the_last_text": (
         "src/prometheus/series.rt",
-        "        text.clear();\n        put_by(",
-        "        put_by(",
+        "        text.clear();\n        let texts = self.texts.as_slice();\n",
+        "        let texts = self.texts.as_slice();\n",
     ),
     "series_of_one_engine": (
         "src/prometheus/series.rt",
