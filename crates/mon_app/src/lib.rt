@@ -5,7 +5,7 @@
 #![tactic(auto)]
 
 mod counted;
-mod fault;
+pub mod fault;
 mod input;
 pub mod laws;
 mod line;
