@@ -13,7 +13,7 @@ use Rattle.mon_saved.specs.Restored.{IsRestored}
 use Rattle.mon_saved.specs.Written.{image_of, written_image}
 use Rattle.mon_station.specs.Alike.{WindowsAreOfTaken}
 use Rattle.mon_station.specs.Lived.{BeginsFrom, IsLived, IsReopened, Reopens, entries_of, in_front, last_state, saved_states}
-use Rattle.mon_station.specs.declared.event.Event.TheVariants.{StartPoll, Timeout, FromAgent, FromPeer, Share, Save}
+use Rattle.mon_station.specs.declared.event.Event.TheVariants.{Save}
 use Rattle.mon_station.specs.Saved.{saved_octets}
 use Rattle.mon_station.specs.State.{State}
 use Rattle.mon_station.specs.Taken.{Entry, Restart, Answered, Origin, Nothing, Saved, Other, at_place, taken}

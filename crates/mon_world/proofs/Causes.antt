@@ -1,6 +1,6 @@
 -- Causes of faults, from what a station says.
-use Rattle.std.proofs.Common.{ℕ, ◌≡◌, ◌≤◌, ◌<◌, ◌+◌, ◌-◌, ◌^◌, ◌⊎◌, ◌∙◌, true, false, Bool, List, length, Result, Ok, Err, refl, sym, ap, subst, inl, inr, arith}
-use Rattle.std.specs.Prelude.{IfErr, nat_lt}
+use Rattle.std.proofs.Common.{ℕ, ◌≡◌, ◌≤◌, ◌+◌, ◌-◌, ◌^◌, ◌∙◌, true, false, List, length, Result, Ok, Err, refl, sym, ap, subst, arith}
+use Rattle.std.specs.Prelude.{IfErr}
 use Rattle.mon_board.specs.Watch.{Watch}
 use Rattle.mon_disk.specs.declared.disk.Disk.{Ghosts}
 use Rattle.mon_disk.specs.declared.fault.KeeperFault.{KeeperFault}
@@ -24,8 +24,8 @@ use Rattle.mon_world.specs.declared.fault.WorldFault.TheVariants as world
 use Rattle.mon_world.specs.declared.sending.Sent.{Sent}
 use Rattle.mon_world.specs.declared.step.Step.{Step}
 use Rattle.mon_world.specs.Cause.{IsFaultOfBeginning, IsFaultOfCopy, IsFaultOfReopening, IsFaultOfSave, IsFileReason, IsForReason}
-use Rattle.mon_world.specs.Fault.{IsOpeningRefusal, IsRefusal, IsRestartCause, IsSaveCause, IsSaveRefusal, IsStationCause, IsStopCause, copy_fault, station_refusal}
-use Rattle.mon_world.specs.Places.{IsNoNumberTo, IsNumberTo}
+use Rattle.mon_world.specs.Fault.{IsOpeningRefusal, IsRestartCause, IsSaveCause, IsStationCause, IsStopCause, copy_fault, station_refusal}
+use Rattle.mon_world.specs.Places.{IsNumberTo}
 
 -- ---- an event
 pub event_cause : (n s : ℕ) (f : StationFault) → IsNumberTo n s → IsStationCause n s (station_refusal f)

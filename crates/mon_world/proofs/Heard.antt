@@ -1,23 +1,21 @@
 -- What a station received is true of its peers, unless claims were forged; so what it does not owe
 -- was taken.
-use Rattle.std.proofs.Common.{ℕ, zero, suc, ◌≡◌, ◌∙◌, inl, inr, Bool, true, false, List, [], ◌∷◌, Option, Some, None, Ok, Err, refl, sym, ap, subst, arith}
+use Rattle.std.proofs.Common.{ℕ, zero, suc, ◌≡◌, ◌∙◌, inl, inr, Bool, true, false, List, [], ◌∷◌, Option, Some, None, Ok, refl, sym, ap, subst, arith}
 use Rattle.std.specs.Prelude.{◌==◌, not, Contains}
 use Rattle.std.specs.List.{AllByRecursion, list_any}
 use Rattle.std.proofs.lemmas.Bool.{and_parts, cases_Bool, eqb-true, or_cases}
 use Rattle.mon_window.specs.Window.{In}
-use Rattle.mon_board.specs.Board.{window_of}
 use Rattle.mon_board.specs.Watch.{IsWatch}
 use Rattle.mon_board.specs.declared.instance.Instance.{Instance}
-use Rattle.mon_board.specs.Windows.{kept_by}
 use Rattle.mon_exchange.specs.Debts.{Heard, has_said, is_owed, is_owed_at, latest_heard}
 use Rattle.mon_saved.specs.declared.image.Image.{Image}
 use Rattle.mon_saved.specs.Image.{SpellsImage}
 use Rattle.mon_config.specs.StationCore.{Core}
 use Rattle.mon_station.specs.Alike.{WindowsAreOfTaken}
 use Rattle.mon_station.specs.declared.fault.StationFault.{StationFault}
-use Rattle.mon_station.specs.Lived.{IsLived, entries_of, last_state}
+use Rattle.mon_station.specs.Lived.{entries_of, last_state}
 use Rattle.mon_station.specs.ReadEvent.{ReadEvent}
-use Rattle.mon_station.specs.declared.event.Event.TheVariants.{StartPoll, Timeout, FromAgent, FromPeer, Share, Save}
+use Rattle.mon_station.specs.declared.event.Event.TheVariants.{FromPeer}
 use Rattle.mon_station.specs.State.{State}
 use Rattle.mon_station.specs.Taken.{Entry, Restart, Answered, taken}
 use Rattle.mon_world.specs.Debts.{heard_of_claim, heard_by, heard_in}

@@ -1,5 +1,5 @@
 -- Every claim that was sent is true of its sender.
-use Rattle.std.proofs.Common.{ℕ, ◌≡◌, ◌∙◌, inl, inr, true, false, List, [], ◌∷◌, ◌++◌, Option, Some, None, Ok, Err, map, refl, sym, ap, subst, arith}
+use Rattle.std.proofs.Common.{ℕ, ◌≡◌, ◌∙◌, inl, inr, true, false, List, [], ◌∷◌, ◌++◌, Option, Some, None, Ok, map, refl, sym, ap, subst, arith}
 use Rattle.std.specs.Prelude.{◌==◌}
 use Rattle.std.specs.List.{AllByRecursion}
 use Rattle.std.proofs.lemmas.Bool.{cases_Bool, eq-eqb}
@@ -8,7 +8,6 @@ use Rattle.mon_window.proofs.Promised.{in_left, in_right}
 use Rattle.mon_board.specs.Board.{window_of}
 use Rattle.mon_board.specs.Watch.{IsWatch}
 use Rattle.mon_board.specs.declared.instance.Instance.{Instance}
-use Rattle.mon_board.specs.Windows.{kept_by}
 use Rattle.mon_board.proofs.Promised.{kept_within}
 use Rattle.mon_exchange.specs.declared.claim.Claim.{Claim}
 use Rattle.mon_exchange.specs.Debts.{Heard}
@@ -19,7 +18,7 @@ use Rattle.mon_config.specs.StationCore.{Core}
 use Rattle.mon_station.specs.Alike.{WindowsAreOfTaken}
 use Rattle.mon_station.specs.Lived.{IsLived, entries_of, last_state}
 use Rattle.mon_station.specs.ReadEvent.{ReadEvent}
-use Rattle.mon_station.specs.declared.event.Event.TheVariants.{StartPoll, Timeout, FromAgent, FromPeer, Share, Save}
+use Rattle.mon_station.specs.declared.event.Event.TheVariants.{FromPeer, Share}
 use Rattle.mon_station.specs.State.{State, setting_of}
 use Rattle.mon_station.specs.Taken.{Entry, Restart, Answered, taken}
 use Rattle.mon_station.specs.Told.{claims_sent}

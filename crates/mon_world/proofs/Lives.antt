@@ -13,7 +13,7 @@ use Rattle.mon_saved.specs.Written.{image_of}
 use Rattle.mon_station.specs.declared.fault.StationFault.{StationFault}
 use Rattle.mon_station.specs.Lived.{BeginsFrom, HandledIn, IsLived, IsReopened, Reopens, entries_of, in_front, last_state, saved_states}
 use Rattle.mon_station.specs.ReadEvent.{ReadEvent}
-use Rattle.mon_station.specs.declared.event.Event.TheVariants.{StartPoll, Timeout, FromAgent, FromPeer, Share, Save}
+use Rattle.mon_station.specs.declared.event.Event.TheVariants.{Save}
 use Rattle.mon_station.specs.Saved.{saved_octets}
 use Rattle.mon_station.specs.State.{State, IsHandled, setting_of}
 use Rattle.mon_station.specs.Taken.{Entry, Restart, Answered, Origin, Nothing, Saved, Other, at_place, past_of, taken}

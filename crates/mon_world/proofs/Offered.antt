@@ -1,6 +1,6 @@
 -- Every sample that a station took, or a claim says, was offered by an agent, unless claims were
 -- forged.
-use Rattle.std.proofs.Common.{ℕ, zero, suc, ◌≡◌, ◌∙◌, inl, inr, Bool, true, false, List, [], ◌∷◌, Option, Some, None, Ok, Err, refl, sym, ap, subst}
+use Rattle.std.proofs.Common.{ℕ, zero, suc, ◌≡◌, ◌∙◌, inl, inr, Bool, true, false, List, [], ◌∷◌, Option, Some, None, Ok, refl, sym, ap, subst}
 use Rattle.std.specs.Prelude.{◌==◌, if◌then◌else◌}
 use Rattle.std.specs.FinSet as set
 use Rattle.std.specs.List.{AllByRecursion}
@@ -8,7 +8,6 @@ use Rattle.std.specs.Ordering.{nat_cmp}
 use Rattle.std.proofs.lemmas.Bool.{cases_Bool, eqb-true}
 use Rattle.mon_window.specs.Window.{Samples, In}
 use Rattle.mon_window.proofs.Promised.{in_cons, in_either, in_empty, in_head, in_none, in_tail}
-use Rattle.mon_board.specs.Board.{window_of}
 use Rattle.mon_board.specs.Watch.{Watch, IsWatch}
 use Rattle.mon_board.specs.Windows.{Has, paired, samples_of, set_of, kept_by}
 use Rattle.mon_board.specs.declared.instance.Instance.{Instance}
@@ -20,11 +19,11 @@ use Rattle.mon_saved.specs.Image.{SpellsImage}
 use Rattle.mon_config.specs.StationCore.{Core}
 use Rattle.mon_station.specs.Alike.{WindowsAreOfTaken}
 use Rattle.mon_station.specs.declared.fault.StationFault.{StationFault}
-use Rattle.mon_station.specs.Lived.{IsLived, entries_of, last_state}
+use Rattle.mon_station.specs.Lived.{entries_of}
 use Rattle.mon_station.specs.ReadEvent.{ReadEvent}
-use Rattle.mon_station.specs.declared.event.Event.TheVariants.{StartPoll, Timeout, FromAgent, FromPeer, Share, Save}
+use Rattle.mon_station.specs.declared.event.Event.TheVariants.{FromAgent, FromPeer, Save}
 use Rattle.mon_station.specs.State.{State}
-use Rattle.mon_station.specs.Taken.{Entry, Restart, Answered, Origin, Nothing, Saved, Other, Past, SavedTaken, at_place, begun_with, from_save, has_sizes, past_after, past_of, saves_after, taken}
+use Rattle.mon_station.specs.Taken.{Entry, Restart, Answered, Origin, Nothing, Saved, Other, Past, SavedTaken, at_place, begun_with, from_save, has_sizes, past_after, past_of, saves_after}
 use Rattle.mon_station.specs.Verdict.{Setting, added, claim_pairs}
 use Rattle.mon_world.specs.Debts.{agent_offers, offered_in}
 use Rattle.mon_world.specs.Moves.{Move, AreLives, AreMoves, AreUnforged, IsNumberedIn, MayBegin, WasSent, lives_of, sent_in}

@@ -18,9 +18,9 @@ use Rattle.mon_saved.specs.declared.image.Image.{Image}
 use Rattle.mon_saved.specs.Image.{SpellsImage}
 use Rattle.mon_config.specs.StationCore.{Core}
 use Rattle.mon_station.specs.Alike.{WindowsAreOfTaken}
-use Rattle.mon_station.specs.Lived.{IsLived, entries_of, last_state}
+use Rattle.mon_station.specs.Lived.{entries_of, last_state}
 use Rattle.mon_station.specs.State.{State, known_of, owed_count, owed_to, setting_of}
-use Rattle.mon_station.specs.Taken.{Entry, taken}
+use Rattle.mon_station.specs.Taken.{taken}
 use Rattle.mon_station.specs.Verdict.{slot_of}
 use Rattle.mon_world.specs.Debts.{heard_in, owed_by}
 use Rattle.mon_world.specs.Moves.{AreMoves, AreUnforged, Move, lives_of}

@@ -1,5 +1,5 @@
 -- A station's marks say what the claims that it accepted in its present life have said.
-use Rattle.std.proofs.Common.{ℕ, ◌≡◌, ◌∙◌, inl, inr, Bool, true, false, List, [], ◌∷◌, ◌++◌, Option, Some, None, Ok, Err, refl, sym, ap, subst}
+use Rattle.std.proofs.Common.{ℕ, ◌≡◌, ◌∙◌, inl, inr, Bool, true, false, List, [], ◌∷◌, ◌++◌, Option, Some, None, Ok, refl, sym, ap, subst}
 use Rattle.std.specs.Prelude.{◌==◌, ◌≢◌, ◌&&◌, if◌then◌else◌}
 use Rattle.std.specs.FinSet as set
 use Rattle.std.specs.Ordering.{nat_cmp}
@@ -19,7 +19,7 @@ use Rattle.mon_saved.specs.Restored.{saved_pairs}
 use Rattle.mon_station.specs.declared.fault.StationFault.{StationFault}
 use Rattle.mon_station.specs.Lived.{BeginsFrom, IsLived, Reopens, last_state, saved_states}
 use Rattle.mon_station.specs.ReadEvent.{ReadEvent, Said}
-use Rattle.mon_station.specs.declared.event.Event.TheVariants.{StartPoll, Timeout, FromAgent, FromPeer, Share, Save}
+use Rattle.mon_station.specs.declared.event.Event.TheVariants.{FromPeer}
 use Rattle.mon_station.specs.Saved.{IsBegun, saved_octets}
 use Rattle.mon_station.specs.State.{State, IsAfter, IsHandled, known_after, known_of, marks_after, marks_by, setting_of}
 use Rattle.mon_station.specs.Taken.{Entry, Restart, Answered, Origin, Nothing, Saved, Other, at_place}

@@ -13,7 +13,6 @@ use Rattle.mon_station.specs.declared.fault.StationFault.{StationFault}
 use Rattle.mon_station.specs.declared.fault.StationFault.TheVariants as station
 use Rattle.mon_station.specs.declared.station.Station.{Station}
 use Rattle.mon_station.specs.Saved.{IsFaultOfFile}
-use Rattle.mon_station.specs.State.{State}
 use Rattle.mon_world.specs.declared.fault.WorldFault.{WorldFault}
 use Rattle.mon_world.specs.declared.fault.WorldFault.TheVariants.{OutOfMemory, Refused}
 use Rattle.mon_world.specs.declared.step.Step.{Step}

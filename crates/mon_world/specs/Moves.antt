@@ -8,7 +8,6 @@ use Rattle.mon_station.specs.declared.fault.StationFault.{StationFault}
 use Rattle.mon_station.specs.declared.fault.StationFault.TheVariants as fault
 use Rattle.mon_station.specs.Lived.{IsLived, last_state}
 use Rattle.mon_station.specs.ReadEvent.{ReadEvent, IsNumbered}
-use Rattle.mon_station.specs.declared.event.Event.TheVariants.{StartPoll, Timeout, FromAgent}
 use Rattle.mon_station.specs.declared.event.Event.TheVariants.{FromPeer, Share, Save}
 use Rattle.mon_station.specs.State.{State}
 use Rattle.mon_station.specs.Taken.{Entry, Restart, Answered, Origin, Nothing, Saved}

@@ -1,4 +1,4 @@
-use Rattle.std.proofs.Common.{ℕ, ◌≡◌, ◌∙◌, List, Some, length, ap, sym}
+use Rattle.std.proofs.Common.{ℕ, ◌∙◌, List, Some, length, ap, sym}
 use Rattle.mon_station.specs.State.{State}
 use Rattle.mon_world.specs.Moves.{Move}
 use Rattle.mon_world.specs.Shows.{OweTruly}
