@@ -49,11 +49,7 @@ impl SharedPrinting {
     ///
     /// # Errors
     /// `AllocError` if there is no memory for it.
-    pub fn new(
-        alloc: Global,
-        printing: Printing,
-        instances: &[Watched],
-    ) -> Result<Self, AllocError>
+    pub fn new(alloc: Global, printing: Printing, instances: &[Watched]) -> Result<Self, AllocError>
         ensures { IfOk result (λ shared. shared ≡ printing) }
     {
         let format = printing.format;

@@ -401,6 +401,10 @@ BUGS = {
 
 # Those that break a promise as a whole, each with its function: tests/bodies tries them.
 PROMISES = {
+    "series_without_their_station": "prometheus::series::SeriesLabels::new",
+    "series_fit_all_entries": "prometheus::series::SeriesLabels::fit",
+    "series_after_the_last_text": "prometheus::series::SeriesLabels::report",
+    "series_by_their_names_alone": "prometheus::series::is_of",
     "series_without_the_number_that_is_given": "prometheus::put_report",
     "a_silent_peer_is_up": "prometheus::peer::PeerMetric::value",
     "the_peers_are_left_out": "prometheus::station::put_station",
