@@ -108,12 +108,12 @@ pub fn write_rate<W: Write>(writer: &mut W, ok: bool, rate: u128) -> bool
     ensures { AppendsIf (W.contents writer.old) ok (W.contents writer.new) result
         (rate_text (Some rate)) }
 {
-    let hundreds = 48 + (rate / 100 % 10) as u8;
-    let tens = 48 + (rate / 10 % 10) as u8;
-    let ones = 48 + (rate % 10) as u8;
+    let below = (rate % 1000) as u16;
+    let hundreds = b'0' + (below / 100) as u8;
+    let tens = b'0' + (below / 10 % 10) as u8;
+    let ones = b'0' + (below % 10) as u8;
     let ok = put_wide(writer, ok, rate / 1000);
-    let ok = put(writer, ok, b".");
-    put(writer, ok, &[hundreds, tens, ones])
+    put(writer, ok, &[b'.', hundreds, tens, ones])
 }
 
 /// Writes how much was counted, in how many seconds, and the rate.
