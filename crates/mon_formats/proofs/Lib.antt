@@ -10,5 +10,6 @@ pub mod Plain
 pub mod Pushed
 pub mod Samples
 pub mod Sound
+pub mod Values
 mod LabelTexts
 mod Series

@@ -89,9 +89,13 @@ read_value (c ∷ d ∷ rest) =
 unfoldable pub label_text : List ℕ → List ℕ → List ℕ
 label_text label value = label ++ codes "=\"" ++ flat_map escaped value ++ codes "\""
 
--- a metric's line, with its labels
+-- the end of a metric's line: the closing brace of its labels, and its value
+unfoldable pub line_end : List ℕ → List ℕ
+line_end value = codes "} " ++ value ++ codes "\n"
+
+-- a metric's line, with its labels, which begin with their opening brace
 unfoldable pub metric_line : List ℕ → List ℕ → List ℕ → List ℕ
-metric_line metric labels value = metric ++ codes "{" ++ labels ++ codes "} " ++ value ++ codes "\n"
+metric_line metric labels value = metric ++ labels ++ line_end value
 
 -- a line that says something of a metric to Prometheus
 unfoldable pub comment_line : List ℕ → List ℕ → List ℕ → List ℕ
@@ -215,13 +219,13 @@ abbrev pub given_labels : Option InstanceLabels → List ℕ
 given_labels None = []
 given_labels (Some l) = joined_labels l
 
--- the number of a station as a label
+-- the number of a station as the first label
 unfoldable pub station_label : (station : ℕ) → List ℕ
-station_label station = label_text (codes "station") (decimal station)
+station_label station = codes "{" ++ label_text (codes "station") (decimal station)
 
 -- what the labels of an instance begin with: the number of the station, if it is given
 abbrev pub before_labels : (station : Option ℕ) → List ℕ
-before_labels None = []
+before_labels None = codes "{"
 before_labels (Some station) = station_label station ++ codes ","
 
 -- the labels of an instance: the number of the station, if it is given; its engine id in hex
@@ -266,14 +270,14 @@ rate_line labels None = []
 rate_line labels (Some q) = metric_line (name_of Rate) labels (rate_text (Some q))
 
 -- 1 where an alarm is raised, 0 where it is clear
-abbrev pub state_digit : AlarmState → List ℕ
-state_digit Clear = codes "0"
-state_digit (Raised boots time) = codes "1"
+abbrev pub state_number : AlarmState → ℕ
+state_number Clear = 0
+state_number (Raised boots time) = 1
 
 -- the state of a rule's alarm
 abbrev pub alarm_line : List ℕ → AnAlarm → List ℕ
 alarm_line labels alarm = metric_line (name_of Alarm) (alarm_labels labels alarm.rule)
-    (state_digit alarm.state)
+    (decimal (state_number alarm.state))
 
 -- the speed of an instance's interface in bits a second, if the labels that are given for it have
 -- one
@@ -397,7 +401,7 @@ version = codes "0.1.0"
 -- which program and which station it is: the version is one more label
 unfoldable pub info_text : Exposition → (station : ℕ) → List ℕ
 info_text format station = station_head format Info ++ metric_line (station_name Info)
-    (station_label station ++ more_label (codes "version") version) (codes "1")
+    (station_label station ++ more_label (codes "version") version) (decimal 1)
 
 -- how many notifications the station dropped; nothing where it sends none
 abbrev pub dropped_if : Exposition → (station : ℕ) → Option ℕ → List ℕ
@@ -542,7 +546,7 @@ target_metric format station metric targets = target_head format metric
 unfoldable pub reason_line : {A : Type 0} → (station : ℕ) → TargetFigures → String A → List ℕ
 reason_line station t reason =
     metric_line (target_name Refusal) (target_labels station t
-    ++ more_label (codes "reason") (string_bytes reason)) (codes "1")
+    ++ more_label (codes "reason") (string_bytes reason)) (decimal 1)
 
 -- that line, where there is a reason
 abbrev pub reason_if : {A : Type 0} → (station : ℕ) → TargetFigures → Option (String A) → List ℕ

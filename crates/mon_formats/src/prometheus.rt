@@ -1,20 +1,21 @@
 //! A report as Prometheus reads it.
 
 ghost use Rattle.std.specs.Prelude.{◌≡◌, ◌<◌, ◌++◌, [], IfOk, List, OnOk, Some, decimal};
-ghost use Rattle.std.specs.Prelude.{get_or, length, option_map, slice_get, ℕ};
 ghost use Rattle.std.specs.Fmt.{signed_decimal};
+ghost use Rattle.std.specs.Prelude.{get_or, length, option_map, slice_get, ℕ};
 ghost use Rattle.std.specs.List.{flat_map};
 ghost use Rattle.mon_report.specs.Report.{Entry as AnEntry};
-ghost use Rattle.mon_page.specs.Cells.{newest_of, value_of, rate_of};
+ghost use Rattle.mon_formats.specs.declared.prometheus.metric.Metric.TheVariants.{Number};
+ghost use Rattle.mon_page.specs.Cells.{newest_of, rate_of, value_of};
 ghost use Rattle.mon_page.specs.Freshness.{fresh, is_fresh};
 ghost use Rattle.mon_page.specs.Labelled.{Labelled as AnyLabelled, labelled};
 ghost use Rattle.mon_formats.specs.LabelTexts.{AreLabelTexts, HaveLabels};
 ghost use Rattle.mon_formats.specs.declared.prometheus.station.StationMetric.TheVariants.{Age};
-ghost use Rattle.mon_formats.specs.Prometheus.{ages_text, alarm_labels, alarm_line, end_text};
+ghost use Rattle.mon_formats.specs.Prometheus.{ages_text, alarm_line, end_text};
 ghost use Rattle.mon_formats.specs.Prometheus.{counted_line, instance_labels, instances_text, lines_of};
 ghost use Rattle.mon_formats.specs.Prometheus.{metric_line, metric_text, name_of, number_line};
 ghost use Rattle.mon_formats.specs.Prometheus.{prometheus_report, rate_line, report_by, samples_line};
-ghost use Rattle.mon_formats.specs.Prometheus.{speed_line, state_digit, station_name, threshold_text};
+ghost use Rattle.mon_formats.specs.Prometheus.{speed_line, state_number, station_name, threshold_text};
 
 pub(crate) mod instance;
 mod metric;
@@ -27,7 +28,7 @@ pub(crate) mod text;
 use instance::{Labelled, labels_of, speed_of};
 use itoa::Buffer;
 use metric::Metric;
-use mon_alarms::{AlarmState, Rule};
+use mon_alarms::AlarmState;
 use mon_page::{Extras, Figures, InstanceLabels, is_fresh};
 use mon_rates::is_counter;
 use mon_report::{Alarm, Entry};
@@ -35,7 +36,7 @@ use mon_sample::Sample;
 use mon_smi::NameTexts;
 use station::{StationMetric, put_metric_head, put_station};
 use std::alloc::{AllocError, Global};
-use text::{Exposition, put_end, put_head, put_label, put_line, put_thousandths};
+use text::{Exposition, put_end, put_head, put_label, put_line, put_number_end, put_rate_end};
 
 /// Instances with what is given for them and the texts of their labels, which all lines of an
 /// instance have, and of a running station in how many rounds each had no new sample.
@@ -289,9 +290,7 @@ fn put_age(text: &mut Vec<u8>, labels: &[u8], age: u32) -> Result<(), AllocError
     ensures { OnOk result (text.new.items
         ≡ text.old.items ++ metric_line (station_name Age) labels.now (decimal age)) }
 {
-    let mut buffer = Buffer::new();
-    let number = buffer.format(age);
-    put_line(text, StationMetric::Age.name(), labels, number.as_bytes())
+    put_line(text, StationMetric::Age.name(), labels, u64::from(age))
 }
 
 /// Adds the lines of a metric for an instance with these labels.
@@ -317,6 +316,7 @@ fn put_lines(
 }
 
 /// Adds the line of the newest value, if it is a counter's.
+#[tactic(auto, using(crate::proofs::Values::of_counter))]
 fn put_counted(text: &mut Vec<u8>, labels: &[u8], samples: &[Sample]) -> Result<(), AllocError>
     ensures { OnOk result (text.new.items ≡ text.old.items ++ counted_line labels.now
         (newest_of samples.now)) }
@@ -327,7 +327,7 @@ fn put_counted(text: &mut Vec<u8>, labels: &[u8], samples: &[Sample]) -> Result<
     if !is_counter(newest.kind()) {
         return Ok(());
     }
-    put_value(text, Metric::Counted, labels, newest)
+    put_line(text, Metric::Counted.name(), labels, newest.value())
 }
 
 /// Adds the line of the newest value, if it is no counter's.
@@ -341,31 +341,28 @@ fn put_number(text: &mut Vec<u8>, labels: &[u8], samples: &[Sample]) -> Result<(
     if is_counter(newest.kind()) {
         return Ok(());
     }
-    put_value(text, Metric::Number, labels, newest)
+    put_value(text, labels, newest)
 }
 
-/// Adds a line with the number that a sample's value means.
-fn put_value(
-    text: &mut Vec<u8>,
-    metric: Metric,
-    labels: &[u8],
-    sample: &Sample,
-) -> Result<(), AllocError>
-    ensures { OnOk result (text.new.items ≡ text.old.items ++ metric_line (name_of metric)
-        labels.now (signed_decimal (value_of sample.now))) }
+/// Adds a line with the number that the value means of a sample that is no counter's.
+#[tactic(auto, unfolding(crate::specs::Prometheus::metric_line, crate::specs::Prometheus::line_end))]
+fn put_value(text: &mut Vec<u8>, labels: &[u8], sample: &Sample) -> Result<(), AllocError>
+    ensures { OnOk result (text.new.items ≡ text.old.items
+        ++ metric_line (name_of Number) labels.now (signed_decimal (value_of sample.now))) }
 {
     let mut buffer = Buffer::new();
-    let number = buffer.format(sample.number());
-    put_line(text, metric.name(), labels, number.as_bytes())
+    text.extend_from_slice(Metric::Number.name().as_bytes())?;
+    text.extend_from_slice(labels)?;
+    text.extend_from_slice(b"} ")?;
+    text.extend_from_slice(buffer.format(sample.number()).as_bytes())?;
+    text.extend_from_slice(b"\n")
 }
 
 /// Adds the line that says how many samples there are.
 fn put_samples(text: &mut Vec<u8>, labels: &[u8], samples: &[Sample]) -> Result<(), AllocError>
     ensures { OnOk result (text.new.items ≡ text.old.items ++ samples_line labels.now samples.now) }
 {
-    let mut buffer = Buffer::new();
-    let count = buffer.format(samples.len());
-    put_line(text, Metric::Samples.name(), labels, count.as_bytes())
+    put_line(text, Metric::Samples.name(), labels, samples.len() as u64)
 }
 
 /// Adds the line of an instance's rate, if it has one.
@@ -386,11 +383,8 @@ fn put_rate_line(text: &mut Vec<u8>, labels: &[u8], thousandths: u128) -> Result
         (Some thousandths)) }
 {
     text.extend_from_slice(Metric::Rate.name().as_bytes())?;
-    text.extend_from_slice(b"{")?;
     text.extend_from_slice(labels)?;
-    text.extend_from_slice(b"} ")?;
-    put_thousandths(text, thousandths)?;
-    text.extend_from_slice(b"\n")
+    put_rate_end(text, thousandths)
 }
 
 /// Adds a line for each alarm of an instance.
@@ -412,26 +406,15 @@ fn put_alarms(
 
 /// Adds the line of an alarm: its rule's thresholds are labels, and its value says whether it is
 /// raised.
-#[tactic(auto, unfolding(crate::specs::Prometheus::metric_line))]
+#[tactic(auto, unfolding(crate::specs::Prometheus::metric_line, crate::specs::Prometheus::alarm_labels))]
 fn put_alarm(text: &mut Vec<u8>, labels: &[u8], alarm: &Alarm) -> Result<(), AllocError>
     ensures { OnOk result (text.new.items ≡ text.old.items ++ alarm_line labels.now alarm.now) }
 {
     text.extend_from_slice(Metric::Alarm.name().as_bytes())?;
-    text.extend_from_slice(b"{")?;
-    put_alarm_labels(text, labels, &alarm.rule)?;
-    text.extend_from_slice(b"} ")?;
-    text.extend_from_slice(state_digit(alarm.state).as_bytes())?;
-    text.extend_from_slice(b"\n")
-}
-
-/// Adds the labels of a rule's alarm: those of its instance, and its thresholds.
-#[tactic(auto, unfolding(crate::specs::Prometheus::alarm_labels))]
-fn put_alarm_labels(text: &mut Vec<u8>, labels: &[u8], rule: &Rule) -> Result<(), AllocError>
-    ensures { OnOk result (text.new.items ≡ text.old.items ++ alarm_labels labels.now rule.now) }
-{
     text.extend_from_slice(labels)?;
-    put_threshold(text, "rising", rule.rising())?;
-    put_threshold(text, "falling", rule.falling())
+    put_threshold(text, "rising", alarm.rule.rising())?;
+    put_threshold(text, "falling", alarm.rule.falling())?;
+    put_number_end(text, state_number(alarm.state))
 }
 
 /// Adds a threshold in thousandths as one more label.
@@ -446,12 +429,12 @@ fn put_threshold(labels: &mut Vec<u8>, label: &str, threshold: i64) -> Result<()
 }
 
 /// 1 where an alarm is raised, 0 where it is clear.
-fn state_digit(alarm: AlarmState) -> &'static str
-    ensures { result.now ≡ state_digit alarm }
+fn state_number(alarm: AlarmState) -> u64
+    ensures { result ≡ state_number alarm }
 {
     match alarm {
-        AlarmState::Clear => "0",
-        AlarmState::Raised { .. } => "1",
+        AlarmState::Clear => 0,
+        AlarmState::Raised { .. } => 1,
     }
 }
 
@@ -462,7 +445,5 @@ fn put_speed(text: &mut Vec<u8>, labels: &[u8], speed: Option<u64>) -> Result<()
     let Some(bits) = speed else {
         return Ok(());
     };
-    let mut buffer = Buffer::new();
-    let number = buffer.format(bits);
-    put_line(text, Metric::Speed.name(), labels, number.as_bytes())
+    put_line(text, Metric::Speed.name(), labels, bits)
 }

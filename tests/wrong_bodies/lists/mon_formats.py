@@ -128,23 +128,23 @@ BUGS = {
     ),
     "thousandths_of_zero": (
         "src/prometheus/text.rt",
-        "    if write_rate(text, true, thousandths) {",
-        "    if write_rate(text, true, 0) {",
+        "        Ok(whole) => put_point_end(text, whole, below),",
+        "        Ok(_) => put_point_end(text, 0, below),",
     ),
     "thousandths_are_left_out": (
         "src/prometheus/text.rt",
-        "    if write_rate(text, true, thousandths) {",
-        "    let _ = write_rate(&mut Vec::new(*text.allocator()), true, thousandths);\n    if true {",
+        "        Ok(whole) => put_point_end(text, whole, below),",
+        "        Ok(whole) => {\n            let _ = below;\n            put_number_end(text, whole)\n        }",
     ),
     "alarm_without_the_labels_of_its_instance": (
         "src/prometheus.rt",
-        "    text.extend_from_slice(labels)?;\n    put_threshold(text, \"rising\", rule.rising())?;",
-        "    let _ = labels;\n    put_threshold(text, \"rising\", rule.rising())?;",
+        "    text.extend_from_slice(labels)?;\n    put_threshold(text, \"rising\", alarm.rule.rising())?;",
+        "    let _ = labels;\n    put_threshold(text, \"rising\", alarm.rule.rising())?;",
     ),
     "alarm_with_thresholds_the_other_way_round": (
         "src/prometheus.rt",
-        "    put_threshold(text, \"rising\", rule.rising())?;",
-        "    put_threshold(text, \"rising\", rule.falling())?;",
+        "    put_threshold(text, \"rising\", alarm.rule.rising())?;",
+        "    put_threshold(text, \"rising\", alarm.rule.falling())?;",
     ),
     "rate_under_the_name_of_the_number": (
         "src/prometheus.rt",
@@ -153,8 +153,8 @@ BUGS = {
     ),
     "target_with_the_labels_of_another_station": (
         "src/prometheus/target.rt",
-        "    put_target_labels(alloc, text, station, target)?;\n    text.extend_from_slice(b\"} \")?;",
-        "    put_target_labels(alloc, text, 1, target)?;\n    text.extend_from_slice(b\"} \")?;",
+        "    put_target_labels(alloc, text, station, target)?;\n    put_number_end",
+        "    put_target_labels(alloc, text, 1, target)?;\n    put_number_end",
     ),
     "alarm_line_has_the_limit_of_the_other_threshold": (
         "src/changes.rt",
@@ -238,7 +238,7 @@ BUGS = {
     "json_a_negative_value_as_a_text": ("src/as_json.rt", "    if number.unsigned_abs() <= u128::from(LARGEST_NUMBER) {\n", "    if number >= 0 && number.unsigned_abs() <= u128::from(LARGEST_NUMBER) {\n"),
     "json_of_a_value_nothing": ("src/as_json.rt", "    text.extend_from_slice(before)?;\n    text.extend_from_slice(digits.format(number).as_bytes())", "    let _ = (number, &mut digits);\n    text.extend_from_slice(before)"),
     "named_upper_digits": ("src/named.rt", "hex::encode(alloc, entry.engine())?", "hex::encode_upper(alloc, entry.engine())?"),
-    "prometheus_raised_alarm_told_as_0": ("src/prometheus.rt", '        AlarmState::Raised { .. } => "1",', '        AlarmState::Raised { .. } => "0",'),
+    "prometheus_raised_alarm_told_as_0": ("src/prometheus.rt", '        AlarmState::Raised { .. } => 1,', '        AlarmState::Raised { .. } => 0,'),
     "prometheus_alarms_over_the_window": ("src/prometheus.rt", "        put_alarm(text, labels, alarm)?;", "        let state = mon_alarms::state(&alarm.rule, entry.samples());\n        let alarm = Alarm {\n            rule: alarm.rule,\n            state,\n        };\n        put_alarm(text, labels, &alarm)?;"),
     "prometheus_first_alarm_alone": ("src/prometheus.rt", "        put_alarm(text, labels, alarm)?;", "        put_alarm(text, labels, &alarms[0])?;\n        let _ = alarm;"),
     "json_raised_of_the_first_alarm": ("src/as_json.rt", "    for alarm in alarms {\n        push_alarm", "    for alarm in &alarms[..alarms.len().min(1)] {\n        push_alarm"),
@@ -334,7 +334,7 @@ BUGS = {
     "json_of_no_rate_is_0": ("src/as_json.rt", "        None => Ok(Value::Null),\n        Some(rate) =>", "        None => exact_value(alloc, 0),\n        Some(rate) =>"),
     "json_polls_taken_as_given_up": ("src/as_json.rt", '"given_up", u128::from(figures.given_up)', '"given_up", u128::from(figures.taken)'),
     "a_metric_without_its_head": ("src/prometheus.rt", "    put_head(\n        listing.format,\n        text,\n        metric.name(),\n        metric.help(),\n        metric.kind(),\n    )?;\n    for place in 0..listing.entries.len() {", "    for place in 0..listing.entries.len() {"),
-    "the_debt_for_the_peer": ("src/prometheus/station.rt", "peer_labels(alloc, station, peer)?;", "peer_labels(alloc, station, count)?;"),
+    "the_debt_for_the_peer": ("src/prometheus/station.rt", "put_peer_labels(text, station, peer)?;", "put_peer_labels(text, station, count)?;"),
     "no_object_without_a_dot": ("src/prometheus/instance.rt", '    match name.rsplit_once(\'.\') {\n        Some(parts) => parts,\n        None => (name, ""),', '    match name.rsplit_once(\'.\') {\n        Some(parts) => parts,\n        None => ("", name),'),
     "lines_behind_what_the_buffer_had": ("src/named.rt", "    text.clear();\n", ""),
     "json_behind_what_the_buffer_had": ("src/as_json.rt", "    text.clear();\n", ""),
@@ -361,12 +361,12 @@ BUGS = {
     "json_without_the_ages": ("src/as_json.rt", "        let fresh = fresh_at(station, place);", "        let fresh = fresh_at(None, place);"),
     "json_no_round_was_in_1970": ("src/as_json.rt", "        None => Ok(Value::Null),\n        Some(seconds) =>", "        None => exact_value(alloc, 0),\n        Some(seconds) =>"),
     "json_the_incarnation_for_the_number": ("src/as_json.rt", '"number", Value::from(figures.station)', '"number", Value::from(figures.incarnation)'),
-    "metrics_no_round_was_in_1970": ("src/prometheus/station.rt", "        None => Ok(()),\n        Some(seconds) =>", "        None => put_plain(text, station, StationMetric::LastRound, 0),\n        Some(seconds) =>"),
+    "metrics_no_round_was_in_1970": ("src/prometheus/station.rt", "        None => Ok(()),\n        Some(seconds) =>", "        None => put_plain(format, text, station, StationMetric::LastRound, 0),\n        Some(seconds) =>"),
     "metrics_the_incarnation_for_the_number": ("src/prometheus/station.rt", "    let station = figures.station;\n    let starts", "    let station = figures.incarnation;\n    let starts"),
     # The station's number as a label, its peers, its version and interval, and the speed of interfaces.
     "series_without_the_number_that_is_given": ("src/prometheus.rt", "extras.labels, station)?;", "extras.labels, station.and(None))?;"),
-    "series_have_the_number_of_another_station": ("src/prometheus/instance.rt", "        Some(station) => put_first(labels, station),", "        Some(station) => put_first(labels, station.saturating_add(1)),"),
-    "series_have_a_number_that_is_not_given": ("src/prometheus/instance.rt", "        None => Ok(()),\n        Some(station) =>", "        None => put_first(labels, 0),\n        Some(station) =>"),
+    "series_have_the_number_of_another_station": ("src/prometheus/instance.rt", "            put_station_label(labels, station)?;", "            put_station_label(labels, station.saturating_add(1))?;"),
+    "series_have_a_number_that_is_not_given": ("src/prometheus/instance.rt", "        None => labels.extend_from_slice(b\"{\"),", "        None => put_station_label(labels, 0),"),
     "the_number_of_a_target_for_the_stations": ("src/prometheus/target.rt", "    put_station_label(labels, station)?;", "    let _ = station;\n    put_station_label(labels, target.number)?;"),
     "the_device_before_the_target": (
         "src/prometheus/instance.rt",
@@ -396,7 +396,7 @@ BUGS = {
     "open_metrics_has_no_word": ("src/format.rt", '            "openmetrics" => Some(Format::OpenMetrics),\n', ""),
     "heads_of_targets_in_prometheus_text": ("src/prometheus/station.rt", "    put_targets(format, text,", "    put_targets(Exposition::Prometheus, text,"),
     "heads_of_instances_in_prometheus_text": ("src/prometheus.rt", "        listing.format,\n        text,\n        metric.name(),", "        Exposition::Prometheus,\n        text,\n        metric.name(),"),
-    "a_speed_in_kilobits": ("src/prometheus.rt", "buffer.format(bits)", "buffer.format(bits / 1000)"),
+    "a_speed_in_kilobits": ("src/prometheus.rt", "labels, bits)", "labels, bits / 1000)"),
 }
 
 # Those that break a promise as a whole, each with its function: tests/bodies tries them.

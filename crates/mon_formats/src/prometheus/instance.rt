@@ -1,6 +1,6 @@
 //! The labels of an instance.
 
-ghost use Rattle.std.specs.Prelude.{◌≡◌, ◌++◌, IfOk, OnOk, Some, codes, option_map};
+ghost use Rattle.std.specs.Prelude.{◌≡◌, ◌++◌, IfOk, OnOk, codes, option_map};
 ghost use Rattle.hex.specs.Hex.{encode_lower};
 ghost use Rattle.mon_formats.specs.Prometheus.{at_first_dot, at_last_dot, before_labels, given_labels};
 ghost use Rattle.mon_formats.specs.Prometheus.{instance_labels, is_in_numbers, joined_labels, label_if};
@@ -45,22 +45,17 @@ pub(crate) fn labels_of<S: NameTexts>(
     Ok(labels)
 }
 
-/// Adds the number of the station as the first label, if it is given.
+/// Adds the brace, and the number of the station as the first label, if it is given.
 fn put_before(labels: &mut Vec<u8>, station: Option<u32>) -> Result<(), AllocError>
     ensures { OnOk result (labels.new.items ≡ labels.old.items ++ before_labels station) }
 {
     match station {
-        None => Ok(()),
-        Some(station) => put_first(labels, station),
+        None => labels.extend_from_slice(b"{"),
+        Some(station) => {
+            put_station_label(labels, station)?;
+            labels.extend_from_slice(b",")
+        }
     }
-}
-
-/// Adds the number of the station as the first label.
-fn put_first(labels: &mut Vec<u8>, station: u32) -> Result<(), AllocError>
-    ensures { OnOk result (labels.new.items ≡ labels.old.items ++ before_labels (Some station)) }
-{
-    put_station_label(labels, station)?;
-    labels.extend_from_slice(b",")
 }
 
 /// Adds an engine id in hex digits as one more label.
@@ -82,20 +77,13 @@ fn put_object(labels: &mut Vec<u8>, name: &str) -> Result<(), AllocError>
     ensures { OnOk result (labels.new.items ≡ labels.old.items
         ++ object_labels (object_and_index name.now)) }
 {
-    let (object, index) = object_and_index(name);
-    put_more(labels, "object", object.as_bytes())?;
-    put_more(labels, "index", index.as_bytes())
-}
-
-/// The object and the index of the instance with this name.
-fn object_and_index(name: &str) -> (&str, &str)
-    ensures { (result.0.now, result.1.now) ≡ object_and_index name.now }
-{
-    if is_in_numbers(name) {
+    let (object, index) = if is_in_numbers(name) {
         at_last_dot(name)
     } else {
         at_first_dot(name)
-    }
+    };
+    put_more(labels, "object", object.as_bytes())?;
+    put_more(labels, "index", index.as_bytes())
 }
 
 /// Returns `true` if a name begins with a digit.

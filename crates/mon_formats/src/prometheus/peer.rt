@@ -1,14 +1,16 @@
 //! What a station says of its peers.
 
-ghost use Rattle.std.specs.Prelude.{◌≡◌, ◌++◌, IfOk, OnOk};
+ghost use Rattle.std.specs.Prelude.{◌≡◌, ◌++◌, OnOk};
 ghost use Rattle.mon_formats.specs.Prometheus.{peer_help, peer_labels, peer_line, peer_metric};
 ghost use Rattle.mon_formats.specs.Prometheus.{peer_name, peer_value, peers_text};
 
 use crate::prometheus::target::one_if;
-use crate::prometheus::text::{Exposition, Kind, put_head, put_line, put_more, put_station_label};
+use crate::prometheus::text::{
+    Exposition, Kind, put_head, put_more, put_number_end, put_station_label,
+};
 use itoa::Buffer;
 use mon_page::PeerFigures;
-use std::alloc::{AllocError, Global};
+use std::alloc::AllocError;
 
 /// A metric of a peer.
 #[derive(Clone, Copy, Debug, PartialEq, Eq)]
@@ -79,17 +81,16 @@ fn put_peer_metric(
     ensures { OnOk result (text.new.items
         ≡ text.old.items ++ peer_metric format station metric peers.now) }
 {
-    let alloc = *text.allocator();
     put_head(format, text, metric.name(), metric.help(), Kind::Gauge)?;
     for peer in peers {
-        put_peer(alloc, text, station, peer, metric)?;
+        put_peer(text, station, peer, metric)?;
     }
     Ok(())
 }
 
 /// Adds the line of a metric for a peer.
+#[tactic(auto, unfolding(crate::specs::Prometheus::metric_line))]
 fn put_peer(
-    alloc: Global,
     text: &mut Vec<u8>,
     station: u32,
     peer: &PeerFigures,
@@ -97,20 +98,21 @@ fn put_peer(
 ) -> Result<(), AllocError>
     ensures { OnOk result (text.new.items ≡ text.old.items ++ peer_line station metric peer.now) }
 {
-    let labels = peer_labels(alloc, station, peer.station)?;
-    let mut digits = Buffer::new();
-    let number = digits.format(metric.value(peer));
-    put_line(text, metric.name(), labels.as_slice(), number.as_bytes())
+    text.extend_from_slice(metric.name().as_bytes())?;
+    put_peer_labels(text, station, peer.station)?;
+    put_number_end(text, metric.value(peer))
 }
 
-/// The labels of a peer: the station's number, and the peer's.
+/// Adds the labels of a peer: the station's number, and the peer's.
 #[tactic(auto, unfolding(crate::specs::Prometheus::peer_labels))]
-pub(crate) fn peer_labels(alloc: Global, station: u32, peer: u32) -> Result<Vec<u8>, AllocError>
-    ensures { IfOk result (λ labels. labels.items ≡ peer_labels station peer) }
+pub(crate) fn put_peer_labels(
+    labels: &mut Vec<u8>,
+    station: u32,
+    peer: u32,
+) -> Result<(), AllocError>
+    ensures { OnOk result (labels.new.items ≡ labels.old.items ++ peer_labels station peer) }
 {
-    let mut labels = Vec::new(alloc);
     let mut digits = Buffer::new();
-    put_station_label(&mut labels, station)?;
-    put_more(&mut labels, "peer", digits.format(peer).as_bytes())?;
-    Ok(labels)
+    put_station_label(labels, station)?;
+    put_more(labels, "peer", digits.format(peer).as_bytes())
 }

@@ -2,17 +2,17 @@
 
 ghost use Rattle.std.specs.Prelude.{◌≡◌, ◌++◌, OnOk};
 ghost use Rattle.mon_formats.specs.Prometheus.{debt_line, debts_text, dropped_if, duration_text, info_text};
-ghost use Rattle.mon_formats.specs.Prometheus.{last_round_if, plain_metric, rounds_text, station_head, station_help};
-ghost use Rattle.mon_formats.specs.Prometheus.{station_line, station_name, station_text, station_type};
+ghost use Rattle.mon_formats.specs.Prometheus.{plain_metric, rounds_text, station_head, station_help};
+ghost use Rattle.mon_formats.specs.Prometheus.{station_name, station_text, station_type};
 
 use crate::VERSION;
-use crate::prometheus::peer::{peer_labels, put_peers};
+use crate::prometheus::peer::{put_peer_labels, put_peers};
 use crate::prometheus::target::put_targets;
-use crate::prometheus::text::{Exposition, Kind, put_head, put_line, put_more, put_station_label};
-use itoa::Buffer;
+use crate::prometheus::text::{
+    Exposition, Kind, put_head, put_line, put_more, put_number_end, put_rate_end, put_station_label,
+};
 use mon_page::Figures;
-use mon_report::write_rate;
-use std::alloc::{AllocError, Global};
+use std::alloc::AllocError;
 
 /// A metric of the station itself.
 #[derive(Clone, Copy, PartialEq, Eq)]
@@ -181,7 +181,10 @@ fn put_rounds(format: Exposition, text: &mut Vec<u8>, figures: &Figures) -> Resu
         StationMetric::Overruns,
         figures.overruns,
     )?;
-    put_last_round(format, text, station, figures.round_at)
+    match figures.round_at {
+        None => Ok(()),
+        Some(seconds) => put_plain(format, text, station, StationMetric::LastRound, seconds),
+    }
 }
 
 /// Adds which program and which station it is: both are labels.
@@ -189,12 +192,11 @@ fn put_rounds(format: Exposition, text: &mut Vec<u8>, figures: &Figures) -> Resu
 fn put_info(format: Exposition, text: &mut Vec<u8>, station: u32) -> Result<(), AllocError>
     ensures { OnOk result (text.new.items ≡ text.old.items ++ info_text format station) }
 {
-    let metric = StationMetric::Info;
     let mut labels = Vec::new(*text.allocator());
     put_station_label(&mut labels, station)?;
     put_more(&mut labels, "version", VERSION.as_bytes())?;
-    put_metric_head(format, text, metric)?;
-    put_line(text, metric.name(), labels.as_slice(), b"1")
+    put_metric_head(format, text, StationMetric::Info)?;
+    put_line(text, StationMetric::Info.name(), labels.as_slice(), 1)
 }
 
 /// Adds the first two lines of a metric.
@@ -208,27 +210,8 @@ pub(crate) fn put_metric_head(
     put_head(format, text, metric.name(), metric.help(), metric.kind())
 }
 
-/// Adds the line of a metric that has no label but the station's number.
-#[tactic(auto, unfolding(crate::specs::Prometheus::metric_line))]
-fn put_station_line(
-    text: &mut Vec<u8>,
-    station: u32,
-    metric: StationMetric,
-    value: &[u8],
-) -> Result<(), AllocError>
-    ensures { OnOk result (text.new.items
-        ≡ text.old.items ++ station_line station metric value.now) }
-{
-    text.extend_from_slice(metric.name().as_bytes())?;
-    text.extend_from_slice(b"{")?;
-    put_station_label(text, station)?;
-    text.extend_from_slice(b"} ")?;
-    text.extend_from_slice(value)?;
-    text.extend_from_slice(b"\n")
-}
-
-/// Adds a metric of one line.
-#[tactic(auto, unfolding(crate::specs::Prometheus::plain_metric))]
+/// Adds a metric of one line, which has no label but the station's number.
+#[tactic(auto, unfolding(crate::specs::Prometheus::plain_metric, crate::specs::Prometheus::metric_line))]
 fn put_plain(
     format: Exposition,
     text: &mut Vec<u8>,
@@ -239,13 +222,14 @@ fn put_plain(
     ensures { OnOk result (text.new.items ≡ text.old.items ++ plain_metric format station metric
         value) }
 {
-    let mut buffer = Buffer::new();
     put_metric_head(format, text, metric)?;
-    put_station_line(text, station, metric, buffer.format(value).as_bytes())
+    text.extend_from_slice(metric.name().as_bytes())?;
+    put_station_label(text, station)?;
+    put_number_end(text, value)
 }
 
 /// Adds how long the last round took, which is given in milliseconds.
-#[tactic(auto, unfolding(crate::specs::Prometheus::duration_text))]
+#[tactic(auto, unfolding(crate::specs::Prometheus::duration_text, crate::specs::Prometheus::metric_line))]
 fn put_duration(
     format: Exposition,
     text: &mut Vec<u8>,
@@ -255,29 +239,10 @@ fn put_duration(
     ensures { OnOk result (text.new.items ≡ text.old.items ++ duration_text format station
         milliseconds) }
 {
-    let metric = StationMetric::Duration;
-    let mut seconds = Vec::new(*text.allocator());
-    if !write_rate(&mut seconds, true, u128::from(milliseconds)) {
-        return Err(AllocError);
-    }
-    put_metric_head(format, text, metric)?;
-    put_station_line(text, station, metric, seconds.as_slice())
-}
-
-/// Adds when the last round ended, in seconds since 1970, if one did.
-fn put_last_round(
-    format: Exposition,
-    text: &mut Vec<u8>,
-    station: u32,
-    round_at: Option<u64>,
-) -> Result<(), AllocError>
-    ensures { OnOk result (text.new.items
-        ≡ text.old.items ++ last_round_if format station round_at) }
-{
-    match round_at {
-        None => Ok(()),
-        Some(seconds) => put_plain(format, text, station, StationMetric::LastRound, seconds),
-    }
+    put_metric_head(format, text, StationMetric::Duration)?;
+    text.extend_from_slice(StationMetric::Duration.name().as_bytes())?;
+    put_station_label(text, station)?;
+    put_rate_end(text, u128::from(milliseconds))
 }
 
 /// Adds how many samples the station owes each peer.
@@ -290,31 +255,19 @@ fn put_debts(
 ) -> Result<(), AllocError>
     ensures { OnOk result (text.new.items ≡ text.old.items ++ debts_text format station debts.now) }
 {
-    let alloc = *text.allocator();
     put_metric_head(format, text, StationMetric::Debt)?;
     for (peer, count) in debts {
-        put_debt(alloc, text, station, *peer, *count)?;
+        put_debt(text, station, *peer, *count)?;
     }
     Ok(())
 }
 
 /// Adds a peer's line: its number is a label, and the value is how many samples it is owed.
-fn put_debt(
-    alloc: Global,
-    text: &mut Vec<u8>,
-    station: u32,
-    peer: u32,
-    count: u32,
-) -> Result<(), AllocError>
+#[tactic(auto, unfolding(crate::specs::Prometheus::metric_line))]
+fn put_debt(text: &mut Vec<u8>, station: u32, peer: u32, count: u32) -> Result<(), AllocError>
     ensures { OnOk result (text.new.items ≡ text.old.items ++ debt_line station (peer, count)) }
 {
-    let labels = peer_labels(alloc, station, peer)?;
-    let mut digits = Buffer::new();
-    let number = digits.format(count);
-    put_line(
-        text,
-        StationMetric::Debt.name(),
-        labels.as_slice(),
-        number.as_bytes(),
-    )
+    text.extend_from_slice(StationMetric::Debt.name().as_bytes())?;
+    put_peer_labels(text, station, peer)?;
+    put_number_end(text, u64::from(count))
 }

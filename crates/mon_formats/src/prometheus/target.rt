@@ -1,10 +1,12 @@
 //! What a station says of its targets.
 
-ghost use Rattle.std.specs.Prelude.{◌≡◌, ◌++◌, OnOk, IfOk, string_bytes};
+ghost use Rattle.std.specs.Prelude.{◌≡◌, ◌++◌, OnOk, string_bytes};
 ghost use Rattle.mon_formats.specs.Prometheus.{one_if, reason_if, reason_line, refusals_text, target_help, target_labels, target_line, target_metric, target_name, target_type, target_value, targets_text};
 
 use crate::prometheus::instance::put_engine;
-use crate::prometheus::text::{Exposition, Kind, put_head, put_line, put_more, put_station_label};
+use crate::prometheus::text::{
+    Exposition, Kind, put_head, put_more, put_number_end, put_station_label,
+};
 use itoa::Buffer;
 use mon_page::TargetFigures;
 use std::alloc::{AllocError, Global};
@@ -138,26 +140,13 @@ fn put_target(
     ensures { OnOk result (text.new.items
         ≡ text.old.items ++ target_line station metric target.now) }
 {
-    let mut buffer = Buffer::new();
     text.extend_from_slice(metric.name().as_bytes())?;
-    text.extend_from_slice(b"{")?;
     put_target_labels(alloc, text, station, target)?;
-    text.extend_from_slice(b"} ")?;
-    text.extend_from_slice(buffer.format(metric.value(target)).as_bytes())?;
-    text.extend_from_slice(b"\n")
+    put_number_end(text, metric.value(target))
 }
 
-/// The labels of a target: the station's number, the target's address and number, and its engine id
-/// in hex digits.
-fn target_labels(alloc: Global, station: u32, target: &TargetFigures) -> Result<Vec<u8>, AllocError>
-    ensures { IfOk result (λ labels. labels.items ≡ target_labels station target.now) }
-{
-    let mut labels = Vec::new(alloc);
-    put_target_labels(alloc, &mut labels, station, target)?;
-    Ok(labels)
-}
-
-/// Adds the labels of a target.
+/// Adds the labels of a target: the station's number, the target's address and number, and its
+/// engine id in hex digits.
 #[tactic(auto, unfolding(crate::specs::Prometheus::target_labels))]
 fn put_target_labels(
     alloc: Global,
@@ -212,7 +201,7 @@ fn put_refusal(
 }
 
 /// Adds the line of a target whose last response was refused for this reason.
-#[tactic(auto, unfolding(crate::specs::Prometheus::reason_line))]
+#[tactic(auto, unfolding(crate::specs::Prometheus::reason_line, crate::specs::Prometheus::metric_line))]
 fn put_reason(
     alloc: Global,
     text: &mut Vec<u8>,
@@ -223,7 +212,8 @@ fn put_reason(
     ensures { OnOk result (text.new.items
         ≡ text.old.items ++ reason_line station target.now reason.now) }
 {
-    let mut labels = target_labels(alloc, station, target)?;
-    put_more(&mut labels, "reason", reason.as_bytes())?;
-    put_line(text, TargetMetric::Refusal.name(), labels.as_slice(), b"1")
+    text.extend_from_slice(TargetMetric::Refusal.name().as_bytes())?;
+    put_target_labels(alloc, text, station, target)?;
+    put_more(text, "reason", reason.as_bytes())?;
+    put_number_end(text, 1)
 }

@@ -1,14 +1,13 @@
 //! The parts of Prometheus' text format and of OpenMetrics.
 
-ghost use Rattle.std.specs.Prelude.{◌≡◌, ◌≤◌, ◌++◌, OnOk, Some, true};
+ghost use Rattle.std.specs.Prelude.{◌≡◌, ◌<◌, ◌≤◌, ◌+◌, ◌*◌, ◌++◌, OnOk, Some, decimal, true};
 ghost use Rattle.std.specs.List.{flat_map, list_all};
-ghost use Rattle.mon_formats.specs.declared.prometheus.text.Kind.TheVariants as kinds;
 ghost use Rattle.mon_formats.specs.Prometheus.{escaped, label_text, metric_line, head_text, comment_line};
-ghost use Rattle.mon_formats.specs.Prometheus.{end_text, family_name, suffix_length, type_word};
+ghost use Rattle.mon_formats.specs.Prometheus.{end_text, family_name, line_end, suffix_length, type_word};
 ghost use Rattle.mon_formats.specs.Prometheus.{is_plain, more_label, station_label};
 ghost use Rattle.mon_report.specs.Report.{rate_text};
 
-use itoa::Buffer;
+use itoa::{Buffer, write_digits};
 use mon_report::write_rate;
 use std::alloc::AllocError;
 
@@ -40,7 +39,10 @@ impl Kind {
         match self {
             Kind::Counter => "counter",
             Kind::Gauge => "gauge",
-            Kind::Info => info_word(format),
+            Kind::Info => match format {
+                Exposition::Prometheus => "gauge",
+                Exposition::OpenMetrics => "info",
+            },
         }
     }
 
@@ -59,27 +61,8 @@ impl Kind {
     }
 }
 
-/// Returns the word for the type of an info.
-fn info_word(format: Exposition) -> &'static str
-    ensures { result.now ≡ type_word format kinds.Info }
-{
-    match format {
-        Exposition::Prometheus => "gauge",
-        Exposition::OpenMetrics => "info",
-    }
-}
-
-/// Returns what the head of a metric calls it, whose samples have this name.
-#[tactic(auto, unfolding(crate::specs::Prometheus::family_name))]
-fn family_name(format: Exposition, kind: Kind, sample: &str) -> &[u8]
-    ensures { result.now ≡ family_name format kind sample.now }
-{
-    let name = sample.as_bytes();
-    &name[..name.len().saturating_sub(kind.suffix_length(format))]
-}
-
-/// Adds what a metric is, and of which type.
-#[tactic(auto, unfolding(crate::specs::Prometheus::head_text))]
+/// Adds what a metric is, and of which type, by the name of its family.
+#[tactic(auto, unfolding(crate::specs::Prometheus::head_text, crate::specs::Prometheus::family_name))]
 pub(crate) fn put_head(
     format: Exposition,
     text: &mut Vec<u8>,
@@ -90,7 +73,8 @@ pub(crate) fn put_head(
     ensures { OnOk result (text.new.items
         ≡ text.old.items ++ head_text format metric.now help.now kind) }
 {
-    let family = family_name(format, kind, metric);
+    let name = metric.as_bytes();
+    let family = &name[..name.len().saturating_sub(kind.suffix_length(format))];
     put_comment(text, "HELP", family, help)?;
     put_comment(text, "TYPE", family, kind.word(format))
 }
@@ -125,34 +109,69 @@ fn put_comment(
     text.extend_from_slice(b"\n")
 }
 
-/// Adds a line of a metric with its labels.
+/// Adds a line of a metric with its labels, which begin with their brace, and a number as its
+/// value.
 #[tactic(auto, unfolding(crate::specs::Prometheus::metric_line))]
 pub(crate) fn put_line(
     text: &mut Vec<u8>,
     metric: &str,
     labels: &[u8],
-    value: &[u8],
+    number: u64,
 ) -> Result<(), AllocError>
     ensures { OnOk result (text.new.items ≡ text.old.items ++ metric_line metric.now labels.now
-        value.now) }
+        (decimal number)) }
 {
     text.extend_from_slice(metric.as_bytes())?;
-    text.extend_from_slice(b"{")?;
     text.extend_from_slice(labels)?;
-    text.extend_from_slice(b"} ")?;
-    text.extend_from_slice(value)?;
-    text.extend_from_slice(b"\n")
+    put_number_end(text, number)
 }
 
-/// Adds a number of thousandths with three digits after the point.
-pub(crate) fn put_thousandths(text: &mut Vec<u8>, thousandths: u128) -> Result<(), AllocError>
-    ensures { OnOk result (text.new.items ≡ text.old.items ++ rate_text (Some thousandths)) }
+/// Adds the end of a line with a number as its value, all at once.
+pub(crate) fn put_number_end(text: &mut Vec<u8>, number: u64) -> Result<(), AllocError>
+    ensures { OnOk result (text.new.items ≡ text.old.items ++ line_end (decimal number)) }
 {
-    if write_rate(text, true, thousandths) {
-        Ok(())
-    } else {
-        Err(AllocError)
+    let mut end = [b'\n'; 23];
+    let start = write_digits(number, &mut end, 22);
+    end[start - 1] = b' ';
+    end[start - 2] = b'}';
+    text.extend_from_slice(&end[start - 2..])
+}
+
+/// Adds the end of a line with a number of thousandths as its value, which is written with three
+/// digits after the point.
+#[tactic(auto, unfolding(crate::specs::Prometheus::line_end))]
+pub(crate) fn put_rate_end(text: &mut Vec<u8>, thousandths: u128) -> Result<(), AllocError>
+    ensures { OnOk result (text.new.items
+        ≡ text.old.items ++ line_end (rate_text (Some thousandths))) }
+{
+    let below = (thousandths % 1000) as u16;
+    match u64::try_from(thousandths / 1000) {
+        Ok(whole) => put_point_end(text, whole, below),
+        Err(_) => {
+            text.extend_from_slice(b"} ")?;
+            if !write_rate(text, true, thousandths) {
+                return Err(AllocError);
+            }
+            text.extend_from_slice(b"\n")
+        }
     }
+}
+
+/// Adds the end of a line with a number and thousandths behind the point as its value, all at once.
+fn put_point_end(text: &mut Vec<u8>, whole: u64, below: u16) -> Result<(), AllocError>
+    requires { below < 1000 }
+    ensures { OnOk result (text.new.items
+        ≡ text.old.items ++ line_end (rate_text (Some (1000 * whole + below)))) }
+{
+    let mut end = [b'\n'; 27];
+    end[25] = b'0' + (below % 10) as u8;
+    end[24] = b'0' + (below / 10 % 10) as u8;
+    end[23] = b'0' + (below / 100) as u8;
+    end[22] = b'.';
+    let start = write_digits(whole, &mut end, 22);
+    end[start - 1] = b' ';
+    end[start - 2] = b'}';
+    text.extend_from_slice(&end[start - 2..])
 }
 
 /// Adds a label with its value.
@@ -175,12 +194,13 @@ pub(crate) fn put_more(text: &mut Vec<u8>, label: &str, value: &[u8]) -> Result<
     put_label(text, label, value)
 }
 
-/// Adds the number of a station as a label.
+/// Adds the number of a station as the first label.
 #[tactic(auto, unfolding(crate::specs::Prometheus::station_label))]
 pub(crate) fn put_station_label(text: &mut Vec<u8>, station: u32) -> Result<(), AllocError>
     ensures { OnOk result (text.new.items ≡ text.old.items ++ station_label station) }
 {
     let mut digits = Buffer::new();
+    text.extend_from_slice(b"{")?;
     put_label(text, "station", digits.format(station).as_bytes())
 }
 
