@@ -9,7 +9,6 @@ use crate::rows::{Row, is_in, is_out};
 use mon_display::{Column, Unit, column_of, interface_text, percent_text, rate_text};
 use mon_page::{InstanceLabels, fresh_rate, state_cell};
 use mon_report::Entry;
-use mon_sample::Sample;
 use mon_smi::NameTexts;
 use std::alloc::{AllocError, Global};
 use std::marker::Model;
@@ -99,6 +98,7 @@ fn paired_cells<S: NameTexts>(
         state_at(alloc, listing, place)?,
         state_at(alloc, listing, out)?,
     );
+    let samples = count_at(listing, place) + count_at(listing, out);
     Ok(Cells {
         value: String::from_str(alloc, "-")?,
         rate: rate_at(alloc, listing, place)?,
@@ -106,31 +106,24 @@ fn paired_cells<S: NameTexts>(
         out: rate_at(alloc, listing, out)?,
         out_part: part_at(alloc, listing, out)?,
         alarm: joined_state(state, other),
-        samples: count_both(listing, place, out).to_string(alloc)?,
+        samples: samples.to_string(alloc)?,
         age: age_cell(alloc, older(listing.age(place), listing.age(out)))?,
         name: name_of(alloc, names, listing, row)?,
     })
 }
 
-/// Returns the newest value of the instance at a place.
+/// Returns the newest value of the instance at a place, or a dash if it has no sample.
 fn value_at(alloc: Global, listing: &Listing, place: usize) -> Result<String, AllocError>
     ensures { IfOk result (λ text. string_bytes text ≡ value_at
         (slice_get listing.now.entries place)) }
 {
-    match listing.entry(place) {
-        None => Ok(String::new(alloc)),
-        Some(entry) => value_cell(alloc, entry.samples()),
-    }
-}
-
-/// Returns the number of the newest sample, or a dash.
-fn value_cell(alloc: Global, samples: &[Sample]) -> Result<String, AllocError>
-    ensures { IfOk result (λ text. string_bytes text ≡ value_cell (newest_of samples.now)) }
-{
-    let Some(newest) = samples.last() else {
-        return String::from_str(alloc, "-");
+    let Some(entry) = listing.entry(place) else {
+        return Ok(String::new(alloc));
     };
-    newest.number().to_string(alloc)
+    match entry.samples().last() {
+        None => String::from_str(alloc, "-"),
+        Some(newest) => newest.number().to_string(alloc),
+    }
 }
 
 /// Returns `true` if a column is one of octets.
@@ -140,33 +133,19 @@ fn is_octets(column: Column) -> bool
     is_in(column) || is_out(column)
 }
 
-/// Returns the rate of the instance at a place: of octets in bits.
+/// Returns the rate of the instance at a place: of octets in bits; a dash if there is none.
 fn rate_at(alloc: Global, listing: &Listing, place: usize) -> Result<String, AllocError>
     ensures { IfOk result (λ text. string_bytes text ≡ rate_at listing.now place
         (slice_get listing.now.entries place)) }
 {
-    match listing.entry(place) {
-        None => Ok(String::new(alloc)),
-        Some(entry) => {
-            let octets = is_octets(column_of(entry.name().parts()));
-            rate_words(alloc, octets, fresh_rate(entry, listing.is_fresh(place)))
-        }
-    }
-}
-
-/// Returns a rate in thousandths as a text: of octets in bits; a dash if there is none.
-fn rate_words(alloc: Global, octets: bool, rate: Option<u128>) -> Result<String, AllocError>
-    ensures { IfOk result (λ text. string_bytes text ≡ rate_words octets rate) }
-{
-    match rate {
+    let Some(entry) = listing.entry(place) else {
+        return Ok(String::new(alloc));
+    };
+    let octets = is_octets(column_of(entry.name().parts()));
+    match fresh_rate(entry, listing.is_fresh(place)) {
         None => String::from_str(alloc, "-"),
-        Some(rate) => {
-            if octets {
-                rate_text(alloc, Unit::Bits, bits_of(rate))
-            } else {
-                rate_text(alloc, Unit::Each, rate)
-            }
-        }
+        Some(rate) if octets => rate_text(alloc, Unit::Bits, bits_of(rate)),
+        Some(rate) => rate_text(alloc, Unit::Each, rate),
     }
 }
 
@@ -177,33 +156,22 @@ fn bits_of(rate: u128) -> u128
     rate.saturating_mul(8)
 }
 
-/// Returns the rate of the instance at a place as a part of the speed of its interface.
+/// Returns the rate of the instance at a place as a part of the speed of its interface: nothing
+/// unless it is one of octets and both are known.
 fn part_at(alloc: Global, listing: &Listing, place: usize) -> Result<String, AllocError>
     ensures { IfOk result (λ text. string_bytes text ≡ part_at listing.now place
         (slice_get listing.now.entries place)) }
 {
-    match listing.entry(place) {
-        None => Ok(String::new(alloc)),
-        Some(entry) => {
-            if !is_octets(column_of(entry.name().parts())) {
-                return Ok(String::new(alloc));
-            }
-            let rate = fresh_rate(entry, listing.is_fresh(place));
-            part_words(alloc, speed_in(listing.labels(place)), rate)
-        }
+    let Some(entry) = listing.entry(place) else {
+        return Ok(String::new(alloc));
+    };
+    if !is_octets(column_of(entry.name().parts())) {
+        return Ok(String::new(alloc));
     }
-}
-
-/// Returns a rate of octets as a part of a speed, if both are known.
-fn part_words(alloc: Global, speed: Option<u64>, rate: Option<u128>) -> Result<String, AllocError>
-    ensures { IfOk result (λ text. string_bytes text ≡ part_words speed rate) }
-{
-    match speed {
-        None => Ok(String::new(alloc)),
-        Some(speed) => match rate {
-            None => Ok(String::new(alloc)),
-            Some(rate) => percent_text(alloc, bits_of(rate), speed),
-        },
+    let rate = fresh_rate(entry, listing.is_fresh(place));
+    match (speed_in(listing.labels(place)), rate) {
+        (Some(speed), Some(rate)) => percent_text(alloc, bits_of(rate), speed),
+        _ => Ok(String::new(alloc)),
     }
 }
 
@@ -266,14 +234,6 @@ fn count_at(listing: &Listing, place: usize) -> u128
     }
 }
 
-/// Returns how many samples two instances have.
-fn count_both(listing: &Listing, place: usize, out: usize) -> u128
-    ensures { result ≡ count_at (slice_get listing.now.entries place)
-        + count_at (slice_get listing.now.entries out) }
-{
-    count_at(listing, place) + count_at(listing, out)
-}
-
 /// Returns the greater of two ages.
 fn older(age: Option<u32>, other: Option<u32>) -> Option<u32>
     ensures { result ≡ older age other }
@@ -295,7 +255,7 @@ fn age_cell(alloc: Global, age: Option<u32>) -> Result<String, AllocError>
     }
 }
 
-/// Returns the name of a row.
+/// Returns the name of a row, of its interface by the labels and the names of its instances.
 fn name_of<S: NameTexts>(
     alloc: Global,
     names: &S,
@@ -305,7 +265,14 @@ fn name_of<S: NameTexts>(
     ensures { IfOk result (λ text. string_bytes text
         ≡ name_of (S.shown names.now) listing.now row) }
 {
-    let interface = interface_at(alloc, listing.labels(row.place))?;
+    let interface = match listing.labels(row.place) {
+        None => String::new(alloc),
+        Some(labels) => interface_text(
+            alloc,
+            labels.if_name.as_deref(),
+            labels.if_alias.as_deref(),
+        )?,
+    };
     let name = name_at(alloc, names, listing, row.place)?;
     match row.out {
         None => joined_by(alloc, " ", &interface, &name),
@@ -360,20 +327,5 @@ fn name_at<S: NameTexts>(
     match listing.entry(place) {
         None => Ok(String::new(alloc)),
         Some(entry) => names.text(alloc, entry.name()),
-    }
-}
-
-/// Returns the interface by its labels.
-fn interface_at(alloc: Global, labels: Option<&InstanceLabels>) -> Result<String, AllocError>
-    ensures { IfOk result (λ text. string_bytes text ≡ interface_at
-        (option_map (λ l. l.now) labels.entry)) }
-{
-    match labels {
-        None => Ok(String::new(alloc)),
-        Some(labels) => interface_text(
-            alloc,
-            labels.if_name.as_deref(),
-            labels.if_alias.as_deref(),
-        ),
     }
 }

@@ -44,7 +44,7 @@ pub(crate) struct Lines<'a> {
     pub(crate) shape: Shape,
 }
 
-/// Returns the widths of the columns of these rows.
+/// Returns the widths of the columns of these rows, with their titles.
 pub(crate) fn widths_of<S: NameTexts>(
     alloc: Global,
     names: &S,
@@ -64,7 +64,13 @@ pub(crate) fn widths_of<S: NameTexts>(
     for row in rows {
         widths = widened(widths, &cells_of(alloc, names, listing, *row)?);
     }
-    Ok(titled_widths(widths))
+    Ok(Widths {
+        value: titled("VALUE".len(), widths.value),
+        rate: titled("RATE".len(), widths.rate),
+        part: titled("%".len(), widths.part),
+        out: titled("OUT".len(), widths.out),
+        out_part: titled("%".len(), widths.out_part),
+    })
 }
 
 /// Returns widths that are no less than those of a row's cells.
@@ -80,19 +86,6 @@ fn widened(widths: Widths, cells: &Cells) -> Widths
     }
 }
 
-/// Returns widths with those of the titles.
-fn titled_widths(widths: Widths) -> Widths
-    ensures { result ≡ titled_widths widths }
-{
-    Widths {
-        value: titled("VALUE".len(), widths.value),
-        rate: titled("RATE".len(), widths.rate),
-        part: titled("%".len(), widths.part),
-        out: titled("OUT".len(), widths.out),
-        out_part: titled("%".len(), widths.out_part),
-    }
-}
-
 /// Returns the width of a column whose widest cell has this width.
 fn titled(title: usize, width: usize) -> usize
     ensures { result ≡ titled title width }
@@ -104,44 +97,31 @@ fn titled(title: usize, width: usize) -> usize
 }
 
 /// Adds the line of titles.
+#[tactic(auto, unfolding(crate::specs::Table::title_cells))]
 pub(crate) fn put_title(alloc: Global, text: &mut String, shape: Shape) -> Result<(), AllocError>
     ensures { OnOk result (string_bytes text.new ≡ string_bytes text.old
         ++ title_line shape.widths shape.is_aged) }
 {
-    put_titles(alloc, text, shape)?;
-    text.push_str("NAME\n")
-}
-
-/// Adds the titles before the names'.
-#[tactic(auto, unfolding(crate::specs::Table::title_cells))]
-fn put_titles(alloc: Global, text: &mut String, shape: Shape) -> Result<(), AllocError>
-    ensures { OnOk result (string_bytes text.new ≡ string_bytes text.old
-        ++ title_cells shape.widths shape.is_aged) }
-{
     put_figure_titles(alloc, text, shape.widths)?;
     put_left(alloc, text, 6, "ALARM")?;
     put_right(alloc, text, 7, "SAMPLES")?;
-    put_age_if(alloc, text, shape.is_aged, "AGE")
+    put_age_if(alloc, text, shape.is_aged, "AGE")?;
+    text.push_str("NAME\n")
 }
 
-/// Adds the titles before the alarms.
+/// Adds the titles before the alarms: rates are those of octets in if there is a column of octets
+/// out.
 #[tactic(auto, unfolding(crate::specs::Table::figure_cells))]
 fn put_figure_titles(alloc: Global, text: &mut String, widths: Widths) -> Result<(), AllocError>
     ensures { OnOk result (string_bytes text.new ≡ string_bytes text.old
         ++ figure_cells widths (codes "VALUE") (rate_title widths) (codes "%") (codes "OUT") (codes "%")) }
 {
+    let rate = if widths.out == 0 { "RATE" } else { "IN" };
     put_right_if(alloc, text, widths.value, "VALUE")?;
-    put_right_if(alloc, text, widths.rate, rate_title(widths))?;
+    put_right_if(alloc, text, widths.rate, rate)?;
     put_right_if(alloc, text, widths.part, "%")?;
     put_right_if(alloc, text, widths.out, "OUT")?;
     put_right_if(alloc, text, widths.out_part, "%")
-}
-
-/// Returns the title of the column of rates.
-fn rate_title(widths: Widths) -> &'static str
-    ensures { result.now ≡ rate_title widths }
-{
-    if widths.out == 0 { "RATE" } else { "IN" }
 }
 
 /// Adds the lines of rows, and above those of a device its line.
@@ -223,30 +203,17 @@ fn device_of(alloc: Global, labels: Option<&InstanceLabels>) -> Result<String, A
 }
 
 /// Adds the line of a row.
+#[tactic(auto, unfolding(crate::specs::Table::row_cells))]
 fn put_row(alloc: Global, text: &mut String, cells: &Cells, shape: Shape) -> Result<(), AllocError>
     ensures { OnOk result (string_bytes text.new ≡ string_bytes text.old
         ++ row_line shape.widths shape.is_aged (texts_of cells.now)) }
 {
-    put_cells(alloc, text, cells, shape)?;
-    text.push_str(&cells.name)?;
-    text.push_str("\n")
-}
-
-/// Adds the cells of a row before its name.
-#[tactic(auto, unfolding(crate::specs::Table::row_cells))]
-fn put_cells(
-    alloc: Global,
-    text: &mut String,
-    cells: &Cells,
-    shape: Shape,
-) -> Result<(), AllocError>
-    ensures { OnOk result (string_bytes text.new ≡ string_bytes text.old
-        ++ row_cells shape.widths shape.is_aged (texts_of cells.now)) }
-{
     put_figures(alloc, text, cells, shape.widths)?;
     put_left(alloc, text, 6, cells.alarm)?;
     put_right(alloc, text, 7, &cells.samples)?;
-    put_age_if(alloc, text, shape.is_aged, &cells.age)
+    put_age_if(alloc, text, shape.is_aged, &cells.age)?;
+    text.push_str(&cells.name)?;
+    text.push_str("\n")
 }
 
 /// Adds the cells before the alarms.

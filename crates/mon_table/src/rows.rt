@@ -22,34 +22,19 @@ pub(crate) fn rows_of(alloc: Global, entries: &[Entry]) -> Result<Vec<Row>, Allo
 {
     let mut rows = Vec::new(alloc);
     for (place, entry) in entries.iter().enumerate() {
-        push_row(&mut rows, row_at(entries, place, entry))?;
+        if let Some(row) = row_at(entries, place, entry) {
+            rows.push(row)?;
+        }
     }
     Ok(rows)
 }
 
-/// Adds a row, if there is one.
-fn push_row(rows: &mut Vec<Row>, row: Option<Row>) -> Result<(), AllocError>
-    ensures { OnOk result (rows.new.items ≡ rows.old.items ++ with_row row []) }
-{
-    match row {
-        None => Ok(()),
-        Some(row) => Ok(rows.push(row)?),
-    }
-}
-
-/// Returns the row that begins with the instance at a place, if one does.
+/// Returns the row that begins with the instance at a place, if one does: none begins with octets
+/// out of an interface that has octets in.
 fn row_at(entries: &[Entry], place: usize, entry: &Entry) -> Option<Row>
     ensures { result ≡ row_at entries.now place entry.now }
 {
     let (into, out) = (find_in(entries, entry), find_out(entries, entry));
-    row_between(place, into, out)
-}
-
-/// Returns the row that begins with the instance at a place, of the interface with these octets in
-/// and out.
-fn row_between(place: usize, into: Option<usize>, out: Option<usize>) -> Option<Row>
-    ensures { result ≡ row_between place into out }
-{
     if is_at(place, into) {
         return Some(Row { place, out });
     }
