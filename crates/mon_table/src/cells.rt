@@ -1,8 +1,8 @@
 //! What the cells of a row say.
 
 ghost use Rattle.std.specs.Prelude.{◌≡◌, ◌<◌, ◌^◌, ◌+◌, IfOk, Some, option_map, slice_get, string_bytes};
-ghost use Rattle.mon_page.specs.Cells.{age_cell, newest_of, value_cell};
-ghost use Rattle.mon_table.specs.Cells.{bits_of, cells_if, cells_of, count_at, interface_at, is_either, is_octets, joined_by, joined_state, lone_cells, name_at, name_of, named, older, other_name, paired_cells, part_at, part_words, rate_at, rate_words, speed_in, state_at, texts_of, value_at};
+ghost use Rattle.mon_page.specs.Cells.{age_cell};
+ghost use Rattle.mon_table.specs.Cells.{bits_of, cells_if, cells_of, count_at, is_either, is_octets, joined_by, joined_state, name_at, name_of, named, older, other_name, paired_cells, part_at, rate_at, speed_in, state_at, texts_of, value_at};
 
 use crate::listing::Listing;
 use crate::rows::{Row, is_in, is_out};
@@ -53,33 +53,22 @@ pub(crate) fn cells_of<S: NameTexts>(
     ensures { IfOk result (λ cells. texts_of cells ≡ cells_of (S.shown names.now) listing.now row) }
 {
     match row.out {
-        None => lone_cells(alloc, names, listing, row),
+        None => {
+            let place = row.place;
+            Ok(Cells {
+                value: value_at(alloc, listing, place)?,
+                rate: rate_at(alloc, listing, place)?,
+                part: part_at(alloc, listing, place)?,
+                out: String::new(alloc),
+                out_part: String::new(alloc),
+                alarm: state_at(alloc, listing, place)?,
+                samples: count_at(listing, place).to_string(alloc)?,
+                age: age_cell(alloc, listing.age(place))?,
+                name: name_of(alloc, names, listing, row)?,
+            })
+        }
         Some(place) => paired_cells(alloc, names, listing, row, place),
     }
-}
-
-/// Returns the cells of a row of one instance.
-fn lone_cells<S: NameTexts>(
-    alloc: Global,
-    names: &S,
-    listing: &Listing,
-    row: Row,
-) -> Result<Cells, AllocError>
-    ensures { IfOk result (λ cells. texts_of cells
-        ≡ lone_cells (S.shown names.now) listing.now row) }
-{
-    let place = row.place;
-    Ok(Cells {
-        value: value_at(alloc, listing, place)?,
-        rate: rate_at(alloc, listing, place)?,
-        part: part_at(alloc, listing, place)?,
-        out: String::new(alloc),
-        out_part: String::new(alloc),
-        alarm: state_at(alloc, listing, place)?,
-        samples: count_at(listing, place).to_string(alloc)?,
-        age: age_cell(alloc, listing.age(place))?,
-        name: name_of(alloc, names, listing, row)?,
-    })
 }
 
 /// Returns the cells of a row of In and Out, of which Out is at this place.

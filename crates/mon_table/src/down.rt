@@ -1,6 +1,6 @@
 //! The targets that are down, below a table.
 
-ghost use Rattle.std.specs.Prelude.{◌≡◌, ◌++◌, codes, OnOk, string_bytes};
+ghost use Rattle.std.specs.Prelude.{◌≡◌, ◌++◌, OnOk, string_bytes};
 ghost use Rattle.std.specs.List.{flat_map};
 ghost use Rattle.mon_table.specs.Table.{down_if, down_line, place_text, reason_text, silence_text};
 

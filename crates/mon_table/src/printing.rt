@@ -4,7 +4,7 @@ ghost use Rattle.std.specs.Prelude.{◌≡◌, ◌++◌, codes, IfOk, None, OnOk
 ghost use Rattle.mon_page.specs.Cells.{age_cell};
 ghost use Rattle.mon_table.specs.Cells.{cells_of, texts_of};
 ghost use Rattle.mon_table.specs.Order.{engine_of};
-ghost use Rattle.mon_table.specs.Table.{age_if, before_engine, device_if_new, device_line, device_of, figure_cells, lines_from, rate_title, row_cells, row_line, title_cells, title_line, titled, titled_widths, to_left, to_right, to_right_if, widened, widths_of};
+ghost use Rattle.mon_table.specs.Table.{age_if, device_if_new, device_line, device_of, figure_cells, lines_from, rate_title, row_line, title_line, titled, to_left, to_right, to_right_if, widened, widths_of};
 
 use crate::cells::{Cells, cells_of};
 use crate::listing::Listing;
@@ -163,7 +163,7 @@ fn put_device_if_new(
     }
 }
 
-/// Adds the line of a device.
+/// Adds the line of a device: its address and its label, if they are known, and its engine id.
 #[tactic(auto, unfolding(crate::specs::Table::device_line))]
 fn put_device(
     alloc: Global,
@@ -174,32 +174,15 @@ fn put_device(
     ensures { OnOk result (string_bytes text.new ≡ string_bytes text.old
         ++ device_line (device_of (option_map (λ l. l.now) labels.entry)) engine.now) }
 {
-    put_before_engine(text, &device_of(alloc, labels)?)?;
+    let device = match labels {
+        None => String::new(alloc),
+        Some(labels) => device_text(alloc, labels.target.as_deref(), labels.device.as_deref())?,
+    };
+    if !device.is_empty() {
+        write!(text, "{device}, ")?;
+    }
     let digits = hex::encode(alloc, engine)?;
     writeln!(text, "engine {digits}")
-}
-
-/// Adds a device before its engine id, if it is known.
-fn put_before_engine(text: &mut String, device: &str) -> Result<(), AllocError>
-    ensures { OnOk result (string_bytes text.new ≡ string_bytes text.old
-        ++ before_engine device.now) }
-{
-    if device.is_empty() {
-        return Ok(());
-    }
-    text.push_str(device)?;
-    text.push_str(", ")
-}
-
-/// Returns the address and the label of an instance's device.
-fn device_of(alloc: Global, labels: Option<&InstanceLabels>) -> Result<String, AllocError>
-    ensures { IfOk result (λ text. string_bytes text ≡ device_of
-        (option_map (λ l. l.now) labels.entry)) }
-{
-    match labels {
-        None => Ok(String::new(alloc)),
-        Some(labels) => device_text(alloc, labels.target.as_deref(), labels.device.as_deref()),
-    }
 }
 
 /// Adds the line of a row.

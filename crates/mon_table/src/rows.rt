@@ -1,7 +1,7 @@
 //! Which rows a table has.
 
-ghost use Rattle.std.specs.Prelude.{◌≡◌, ◌++◌, [], IfOk, OnOk};
-ghost use Rattle.mon_table.specs.Rows.{in_from, is_at, is_beside, is_in, is_out, out_from, row_at, row_between, rows_from, same_index, with_row};
+ghost use Rattle.std.specs.Prelude.{◌≡◌, IfOk};
+ghost use Rattle.mon_table.specs.Rows.{in_from, is_at, is_beside, is_in, is_out, out_from, row_at, rows_from};
 
 use mon_display::{Column, column_of, interface_of};
 use mon_report::Entry;
@@ -82,18 +82,11 @@ fn find_out(entries: &[Entry], entry: &Entry) -> Option<usize>
 fn is_beside(entry: &Entry, other: &Entry) -> bool
     ensures { result ≡ is_beside entry.now other.now }
 {
-    other.engine() == entry.engine()
-        && same_index(
-            interface_of(entry.name().parts()),
-            interface_of(other.name().parts()),
-        )
-}
-
-/// Returns `true` if both are indexes, and equal.
-fn same_index(index: Option<u32>, other: Option<u32>) -> bool
-    ensures { result ≡ same_index index other }
-{
-    match (index, other) {
+    if other.engine() != entry.engine() {
+        return false;
+    }
+    let index = interface_of(entry.name().parts());
+    match (index, interface_of(other.name().parts())) {
         (Some(index), Some(other)) => index == other,
         _ => false,
     }
