@@ -2,12 +2,12 @@
 
 ghost use Rattle.std.specs.Prelude.{◌≡◌, ◌<◌, ◌^◌, ◌+◌, IfOk, Some, option_map, slice_get, string_bytes};
 ghost use Rattle.mon_page.specs.Cells.{age_cell};
-ghost use Rattle.mon_table.specs.Cells.{bits_of, cells_if, cells_of, count_at, is_either, is_octets, joined_by, joined_state, name_at, name_of, named, older, other_name, paired_cells, part_at, rate_at, speed_in, state_at, texts_of, value_at};
+ghost use Rattle.mon_table.specs.Cells.{bits_of, cells_if, cells_of, count_at, is_either, is_octets, joined_by, joined_state, name_at, name_of, older, other_name, paired_cells, part_at, rate_at, state_at, texts_of, value_at};
 
 use crate::listing::Listing;
 use crate::rows::{Row, is_in, is_out};
 use mon_display::{Column, Unit, column_of, interface_text, percent_text, rate_text};
-use mon_page::{InstanceLabels, fresh_rate, state_cell};
+use mon_page::{fresh_rate, state_cell};
 use mon_report::Entry;
 use mon_smi::NameTexts;
 use std::alloc::{AllocError, Global};
@@ -151,26 +151,15 @@ fn part_at(alloc: Global, listing: &Listing, place: usize) -> Result<String, All
     ensures { IfOk result (λ text. string_bytes text ≡ part_at listing.now place
         (slice_get listing.now.entries place)) }
 {
-    let Some(entry) = listing.entry(place) else {
+    let (Some(entry), Some(labels)) = (listing.entry(place), listing.labels(place)) else {
         return Ok(String::new(alloc));
     };
     if !is_octets(column_of(entry.name().parts())) {
         return Ok(String::new(alloc));
     }
-    let rate = fresh_rate(entry, listing.is_fresh(place));
-    match (speed_in(listing.labels(place)), rate) {
+    match (labels.speed, fresh_rate(entry, listing.is_fresh(place))) {
         (Some(speed), Some(rate)) => percent_text(alloc, bits_of(rate), speed),
         _ => Ok(String::new(alloc)),
-    }
-}
-
-/// Returns the speed among labels.
-fn speed_in(labels: Option<&InstanceLabels>) -> Option<u64>
-    ensures { result ≡ speed_in (option_map (λ l. l.now) labels.entry) }
-{
-    match labels {
-        None => None,
-        Some(labels) => labels.speed,
     }
 }
 
@@ -244,7 +233,8 @@ fn age_cell(alloc: Global, age: Option<u32>) -> Result<String, AllocError>
     }
 }
 
-/// Returns the name of a row, of its interface by the labels and the names of its instances.
+/// Returns the name of a row, of its interface by the labels and the names of its instances: of two
+/// instances the interface, or both names if it has no name.
 fn name_of<S: NameTexts>(
     alloc: Global,
     names: &S,
@@ -262,33 +252,16 @@ fn name_of<S: NameTexts>(
             labels.if_alias.as_deref(),
         )?,
     };
-    let name = name_at(alloc, names, listing, row.place)?;
+    let mut name = name_at(alloc, names, listing, row.place)?;
     match row.out {
         None => joined_by(alloc, " ", &interface, &name),
+        Some(_) if !interface.is_empty() => Ok(interface),
         Some(out) => {
-            let other = name_at(alloc, names, listing, out)?;
-            paired_name(alloc, interface, &name, &other)
+            name.push_str(", ")?;
+            name.push_str(&name_at(alloc, names, listing, out)?)?;
+            Ok(name)
         }
     }
-}
-
-/// Returns the name of a row of two instances: its interface, or both names if it has no name.
-fn paired_name(
-    alloc: Global,
-    interface: String,
-    name: &str,
-    other: &str,
-) -> Result<String, AllocError>
-    ensures { IfOk result (λ text. string_bytes text ≡ named (string_bytes interface) name.now
-        (Some other.now)) }
-{
-    if !interface.is_empty() {
-        return Ok(interface);
-    }
-    let mut text = String::from_str(alloc, name)?;
-    text.push_str(", ")?;
-    text.push_str(other)?;
-    Ok(text)
 }
 
 /// Returns two texts with something between them, unless one is empty.
