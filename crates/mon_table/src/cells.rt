@@ -1,8 +1,8 @@
 //! What the cells of a row say.
 
-ghost use Rattle.std.specs.Prelude.{◌≡◌, ◌<◌, ◌^◌, ◌+◌, IfOk, Some, option_map, slice_get, string_bytes};
+ghost use Rattle.std.specs.Prelude.{◌≡◌, ◌<◌, ◌^◌, IfOk, slice_get, string_bytes};
 ghost use Rattle.mon_page.specs.Cells.{age_cell};
-ghost use Rattle.mon_table.specs.Cells.{bits_of, cells_if, cells_of, count_at, is_either, is_octets, joined_by, joined_state, name_at, name_of, older, other_name, paired_cells, part_at, rate_at, state_at, texts_of, value_at};
+ghost use Rattle.mon_table.specs.Cells.{bits_of, cells_of, count_at, is_either, is_octets, joined_state, name_at, name_of, older, paired_cells, part_at, rate_at, state_at, texts_of, value_at};
 
 use crate::listing::Listing;
 use crate::rows::{Row, is_in, is_out};
@@ -244,7 +244,7 @@ fn name_of<S: NameTexts>(
     ensures { IfOk result (λ text. string_bytes text
         ≡ name_of (S.shown names.now) listing.now row) }
 {
-    let interface = match listing.labels(row.place) {
+    let mut interface = match listing.labels(row.place) {
         None => String::new(alloc),
         Some(labels) => interface_text(
             alloc,
@@ -254,7 +254,13 @@ fn name_of<S: NameTexts>(
     };
     let mut name = name_at(alloc, names, listing, row.place)?;
     match row.out {
-        None => joined_by(alloc, " ", &interface, &name),
+        None => {
+            if !interface.is_empty() && !name.is_empty() {
+                interface.push_str(" ")?;
+            }
+            interface.push_str(&name)?;
+            Ok(interface)
+        }
         Some(_) if !interface.is_empty() => Ok(interface),
         Some(out) => {
             name.push_str(", ")?;
@@ -262,18 +268,6 @@ fn name_of<S: NameTexts>(
             Ok(name)
         }
     }
-}
-
-/// Returns two texts with something between them, unless one is empty.
-fn joined_by(alloc: Global, between: &str, a: &str, b: &str) -> Result<String, AllocError>
-    ensures { IfOk result (λ text. string_bytes text ≡ joined_by between.now a.now b.now) }
-{
-    let mut text = String::from_str(alloc, a)?;
-    if !a.is_empty() && !b.is_empty() {
-        text.push_str(between)?;
-    }
-    text.push_str(b)?;
-    Ok(text)
 }
 
 /// Returns the name of the instance at a place, as it is shown.

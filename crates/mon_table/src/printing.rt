@@ -1,7 +1,6 @@
 //! The lines of a table.
 
-ghost use Rattle.std.specs.Prelude.{◌≡◌, ◌++◌, codes, IfOk, None, OnOk, map, max, option_copied, option_map, slice_get, string_bytes};
-ghost use Rattle.mon_page.specs.Cells.{age_cell};
+ghost use Rattle.std.specs.Prelude.{◌≡◌, ◌++◌, codes, IfOk, None, OnOk, map, max, option_copied, option_map, string_bytes};
 ghost use Rattle.mon_table.specs.Cells.{cells_of, texts_of};
 ghost use Rattle.mon_table.specs.Order.{engine_of};
 ghost use Rattle.mon_table.specs.Table.{age_if, device_if_new, device_line, device_of, figure_cells, lines_from, rate_title, row_line, title_line, titled, to_left, to_right, to_right_if, widened, widths_of};
