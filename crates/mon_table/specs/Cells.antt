@@ -1,5 +1,5 @@
 -- What the cells of a row say.
-use Rattle.std.specs.Prelude.{ℕ, ◌+◌, ◌-◌, ◌*◌, ◌^◌, max, min, Bool, true, false, ◌&&◌, ◌||◌, List}
+use Rattle.std.specs.Prelude.{ℕ, ◌+◌, ◌-◌, ◌*◌, ◌^◌, max, min, Bool, ◌||◌, List}
 use Rattle.std.specs.Prelude.{[], ◌∷◌, ◌++◌, length, Option, Some, None, option_map, slice_get}
 use Rattle.std.specs.Prelude.{codes, decimal, String, string_bytes, if◌then◌else◌}
 use Rattle.std.specs.Str.{bytes_eq}

@@ -1,6 +1,6 @@
 -- A report as a table for people: of each device a line and below it its rows, in columns that are
 -- as wide as their widest text.
-use Rattle.std.specs.Prelude.{◌≤◌, ℕ, ◌+◌, ◌-◌, max, ◌==◌, List, [], ◌∷◌, ◌++◌, Bool, true, false}
+use Rattle.std.specs.Prelude.{◌≤◌, ℕ, ◌-◌, max, ◌==◌, List, [], ◌∷◌, ◌++◌, Bool, true, false}
 use Rattle.std.specs.Prelude.{Option, Some, None, codes, decimal, length, map, slice_get}
 use Rattle.std.specs.Prelude.{if◌then◌else◌, String, string_bytes}
 use Rattle.std.specs.List.{flat_map, fold, repeat}

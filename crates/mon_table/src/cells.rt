@@ -1,15 +1,14 @@
 //! What the cells of a row say.
 
-ghost use Rattle.std.specs.Prelude.{◌≡◌, ◌<◌, ◌^◌, ◌+◌, IfOk, Some, option_map, slice_get, string_bytes};
-ghost use Rattle.mon_page.specs.Cells.{age_cell, newest_of, value_cell};
-ghost use Rattle.mon_table.specs.Cells.{bits_of, cells_if, cells_of, count_at, interface_at, is_either, is_octets, joined_by, joined_state, lone_cells, name_at, name_of, named, older, other_name, paired_cells, part_at, part_words, rate_at, rate_words, speed_in, state_at, texts_of, value_at};
+ghost use Rattle.std.specs.Prelude.{◌≡◌, ◌<◌, ◌^◌, IfOk, slice_get, string_bytes};
+ghost use Rattle.mon_page.specs.Cells.{age_cell};
+ghost use Rattle.mon_table.specs.Cells.{bits_of, cells_of, count_at, is_either, is_octets, joined_state, name_at, name_of, older, paired_cells, part_at, rate_at, state_at, texts_of, value_at};
 
 use crate::listing::Listing;
 use crate::rows::{Row, is_in, is_out};
 use mon_display::{Column, Unit, column_of, interface_text, percent_text, rate_text};
-use mon_page::{InstanceLabels, fresh_rate, state_cell};
+use mon_page::{fresh_rate, state_cell};
 use mon_report::Entry;
-use mon_sample::Sample;
 use mon_smi::NameTexts;
 use std::alloc::{AllocError, Global};
 use std::marker::Model;
@@ -54,33 +53,22 @@ pub(crate) fn cells_of<S: NameTexts>(
     ensures { IfOk result (λ cells. texts_of cells ≡ cells_of (S.shown names.now) listing.now row) }
 {
     match row.out {
-        None => lone_cells(alloc, names, listing, row),
+        None => {
+            let place = row.place;
+            Ok(Cells {
+                value: value_at(alloc, listing, place)?,
+                rate: rate_at(alloc, listing, place)?,
+                part: part_at(alloc, listing, place)?,
+                out: String::new(alloc),
+                out_part: String::new(alloc),
+                alarm: state_at(alloc, listing, place)?,
+                samples: count_at(listing, place).to_string(alloc)?,
+                age: age_cell(alloc, listing.age(place))?,
+                name: name_of(alloc, names, listing, row)?,
+            })
+        }
         Some(place) => paired_cells(alloc, names, listing, row, place),
     }
-}
-
-/// Returns the cells of a row of one instance.
-fn lone_cells<S: NameTexts>(
-    alloc: Global,
-    names: &S,
-    listing: &Listing,
-    row: Row,
-) -> Result<Cells, AllocError>
-    ensures { IfOk result (λ cells. texts_of cells
-        ≡ lone_cells (S.shown names.now) listing.now row) }
-{
-    let place = row.place;
-    Ok(Cells {
-        value: value_at(alloc, listing, place)?,
-        rate: rate_at(alloc, listing, place)?,
-        part: part_at(alloc, listing, place)?,
-        out: String::new(alloc),
-        out_part: String::new(alloc),
-        alarm: state_at(alloc, listing, place)?,
-        samples: count_at(listing, place).to_string(alloc)?,
-        age: age_cell(alloc, listing.age(place))?,
-        name: name_of(alloc, names, listing, row)?,
-    })
 }
 
 /// Returns the cells of a row of In and Out, of which Out is at this place.
@@ -99,6 +87,7 @@ fn paired_cells<S: NameTexts>(
         state_at(alloc, listing, place)?,
         state_at(alloc, listing, out)?,
     );
+    let samples = count_at(listing, place) + count_at(listing, out);
     Ok(Cells {
         value: String::from_str(alloc, "-")?,
         rate: rate_at(alloc, listing, place)?,
@@ -106,31 +95,24 @@ fn paired_cells<S: NameTexts>(
         out: rate_at(alloc, listing, out)?,
         out_part: part_at(alloc, listing, out)?,
         alarm: joined_state(state, other),
-        samples: count_both(listing, place, out).to_string(alloc)?,
+        samples: samples.to_string(alloc)?,
         age: age_cell(alloc, older(listing.age(place), listing.age(out)))?,
         name: name_of(alloc, names, listing, row)?,
     })
 }
 
-/// Returns the newest value of the instance at a place.
+/// Returns the newest value of the instance at a place, or a dash if it has no sample.
 fn value_at(alloc: Global, listing: &Listing, place: usize) -> Result<String, AllocError>
     ensures { IfOk result (λ text. string_bytes text ≡ value_at
         (slice_get listing.now.entries place)) }
 {
-    match listing.entry(place) {
-        None => Ok(String::new(alloc)),
-        Some(entry) => value_cell(alloc, entry.samples()),
-    }
-}
-
-/// Returns the number of the newest sample, or a dash.
-fn value_cell(alloc: Global, samples: &[Sample]) -> Result<String, AllocError>
-    ensures { IfOk result (λ text. string_bytes text ≡ value_cell (newest_of samples.now)) }
-{
-    let Some(newest) = samples.last() else {
-        return String::from_str(alloc, "-");
+    let Some(entry) = listing.entry(place) else {
+        return Ok(String::new(alloc));
     };
-    newest.number().to_string(alloc)
+    match entry.samples().last() {
+        None => String::from_str(alloc, "-"),
+        Some(newest) => newest.number().to_string(alloc),
+    }
 }
 
 /// Returns `true` if a column is one of octets.
@@ -140,33 +122,19 @@ fn is_octets(column: Column) -> bool
     is_in(column) || is_out(column)
 }
 
-/// Returns the rate of the instance at a place: of octets in bits.
+/// Returns the rate of the instance at a place: of octets in bits; a dash if there is none.
 fn rate_at(alloc: Global, listing: &Listing, place: usize) -> Result<String, AllocError>
     ensures { IfOk result (λ text. string_bytes text ≡ rate_at listing.now place
         (slice_get listing.now.entries place)) }
 {
-    match listing.entry(place) {
-        None => Ok(String::new(alloc)),
-        Some(entry) => {
-            let octets = is_octets(column_of(entry.name().parts()));
-            rate_words(alloc, octets, fresh_rate(entry, listing.is_fresh(place)))
-        }
-    }
-}
-
-/// Returns a rate in thousandths as a text: of octets in bits; a dash if there is none.
-fn rate_words(alloc: Global, octets: bool, rate: Option<u128>) -> Result<String, AllocError>
-    ensures { IfOk result (λ text. string_bytes text ≡ rate_words octets rate) }
-{
-    match rate {
+    let Some(entry) = listing.entry(place) else {
+        return Ok(String::new(alloc));
+    };
+    let octets = is_octets(column_of(entry.name().parts()));
+    match fresh_rate(entry, listing.is_fresh(place)) {
         None => String::from_str(alloc, "-"),
-        Some(rate) => {
-            if octets {
-                rate_text(alloc, Unit::Bits, bits_of(rate))
-            } else {
-                rate_text(alloc, Unit::Each, rate)
-            }
-        }
+        Some(rate) if octets => rate_text(alloc, Unit::Bits, bits_of(rate)),
+        Some(rate) => rate_text(alloc, Unit::Each, rate),
     }
 }
 
@@ -177,43 +145,21 @@ fn bits_of(rate: u128) -> u128
     rate.saturating_mul(8)
 }
 
-/// Returns the rate of the instance at a place as a part of the speed of its interface.
+/// Returns the rate of the instance at a place as a part of the speed of its interface: nothing
+/// unless it is one of octets and both are known.
 fn part_at(alloc: Global, listing: &Listing, place: usize) -> Result<String, AllocError>
     ensures { IfOk result (λ text. string_bytes text ≡ part_at listing.now place
         (slice_get listing.now.entries place)) }
 {
-    match listing.entry(place) {
-        None => Ok(String::new(alloc)),
-        Some(entry) => {
-            if !is_octets(column_of(entry.name().parts())) {
-                return Ok(String::new(alloc));
-            }
-            let rate = fresh_rate(entry, listing.is_fresh(place));
-            part_words(alloc, speed_in(listing.labels(place)), rate)
-        }
+    let (Some(entry), Some(labels)) = (listing.entry(place), listing.labels(place)) else {
+        return Ok(String::new(alloc));
+    };
+    if !is_octets(column_of(entry.name().parts())) {
+        return Ok(String::new(alloc));
     }
-}
-
-/// Returns a rate of octets as a part of a speed, if both are known.
-fn part_words(alloc: Global, speed: Option<u64>, rate: Option<u128>) -> Result<String, AllocError>
-    ensures { IfOk result (λ text. string_bytes text ≡ part_words speed rate) }
-{
-    match speed {
-        None => Ok(String::new(alloc)),
-        Some(speed) => match rate {
-            None => Ok(String::new(alloc)),
-            Some(rate) => percent_text(alloc, bits_of(rate), speed),
-        },
-    }
-}
-
-/// Returns the speed among labels.
-fn speed_in(labels: Option<&InstanceLabels>) -> Option<u64>
-    ensures { result ≡ speed_in (option_map (λ l. l.now) labels.entry) }
-{
-    match labels {
-        None => None,
-        Some(labels) => labels.speed,
+    match (labels.speed, fresh_rate(entry, listing.is_fresh(place))) {
+        (Some(speed), Some(rate)) => percent_text(alloc, bits_of(rate), speed),
+        _ => Ok(String::new(alloc)),
     }
 }
 
@@ -266,14 +212,6 @@ fn count_at(listing: &Listing, place: usize) -> u128
     }
 }
 
-/// Returns how many samples two instances have.
-fn count_both(listing: &Listing, place: usize, out: usize) -> u128
-    ensures { result ≡ count_at (slice_get listing.now.entries place)
-        + count_at (slice_get listing.now.entries out) }
-{
-    count_at(listing, place) + count_at(listing, out)
-}
-
 /// Returns the greater of two ages.
 fn older(age: Option<u32>, other: Option<u32>) -> Option<u32>
     ensures { result ≡ older age other }
@@ -295,7 +233,8 @@ fn age_cell(alloc: Global, age: Option<u32>) -> Result<String, AllocError>
     }
 }
 
-/// Returns the name of a row.
+/// Returns the name of a row, of its interface by the labels and the names of its instances: of two
+/// instances the interface, or both names if it has no name.
 fn name_of<S: NameTexts>(
     alloc: Global,
     names: &S,
@@ -305,46 +244,30 @@ fn name_of<S: NameTexts>(
     ensures { IfOk result (λ text. string_bytes text
         ≡ name_of (S.shown names.now) listing.now row) }
 {
-    let interface = interface_at(alloc, listing.labels(row.place))?;
-    let name = name_at(alloc, names, listing, row.place)?;
+    let mut interface = match listing.labels(row.place) {
+        None => String::new(alloc),
+        Some(labels) => interface_text(
+            alloc,
+            labels.if_name.as_deref(),
+            labels.if_alias.as_deref(),
+        )?,
+    };
+    let mut name = name_at(alloc, names, listing, row.place)?;
     match row.out {
-        None => joined_by(alloc, " ", &interface, &name),
+        None => {
+            if !interface.is_empty() && !name.is_empty() {
+                interface.push_str(" ")?;
+            }
+            interface.push_str(&name)?;
+            Ok(interface)
+        }
+        Some(_) if !interface.is_empty() => Ok(interface),
         Some(out) => {
-            let other = name_at(alloc, names, listing, out)?;
-            paired_name(alloc, interface, &name, &other)
+            name.push_str(", ")?;
+            name.push_str(&name_at(alloc, names, listing, out)?)?;
+            Ok(name)
         }
     }
-}
-
-/// Returns the name of a row of two instances: its interface, or both names if it has no name.
-fn paired_name(
-    alloc: Global,
-    interface: String,
-    name: &str,
-    other: &str,
-) -> Result<String, AllocError>
-    ensures { IfOk result (λ text. string_bytes text ≡ named (string_bytes interface) name.now
-        (Some other.now)) }
-{
-    if !interface.is_empty() {
-        return Ok(interface);
-    }
-    let mut text = String::from_str(alloc, name)?;
-    text.push_str(", ")?;
-    text.push_str(other)?;
-    Ok(text)
-}
-
-/// Returns two texts with something between them, unless one is empty.
-fn joined_by(alloc: Global, between: &str, a: &str, b: &str) -> Result<String, AllocError>
-    ensures { IfOk result (λ text. string_bytes text ≡ joined_by between.now a.now b.now) }
-{
-    let mut text = String::from_str(alloc, a)?;
-    if !a.is_empty() && !b.is_empty() {
-        text.push_str(between)?;
-    }
-    text.push_str(b)?;
-    Ok(text)
 }
 
 /// Returns the name of the instance at a place, as it is shown.
@@ -360,20 +283,5 @@ fn name_at<S: NameTexts>(
     match listing.entry(place) {
         None => Ok(String::new(alloc)),
         Some(entry) => names.text(alloc, entry.name()),
-    }
-}
-
-/// Returns the interface by its labels.
-fn interface_at(alloc: Global, labels: Option<&InstanceLabels>) -> Result<String, AllocError>
-    ensures { IfOk result (λ text. string_bytes text ≡ interface_at
-        (option_map (λ l. l.now) labels.entry)) }
-{
-    match labels {
-        None => Ok(String::new(alloc)),
-        Some(labels) => interface_text(
-            alloc,
-            labels.if_name.as_deref(),
-            labels.if_alias.as_deref(),
-        ),
     }
 }

@@ -1,6 +1,6 @@
 //! The targets that are down, below a table.
 
-ghost use Rattle.std.specs.Prelude.{◌≡◌, ◌++◌, codes, OnOk, string_bytes};
+ghost use Rattle.std.specs.Prelude.{◌≡◌, ◌++◌, OnOk, string_bytes};
 ghost use Rattle.std.specs.List.{flat_map};
 ghost use Rattle.mon_table.specs.Table.{down_if, down_line, place_text, reason_text, silence_text};
 
@@ -13,19 +13,11 @@ pub(crate) fn put_down(text: &mut String, targets: &[TargetFigures]) -> Result<(
         ++ flat_map down_if targets.now) }
 {
     for target in targets {
-        put_down_if(text, target)?;
+        if !target.up {
+            put_down_line(text, target)?;
+        }
     }
     Ok(())
-}
-
-/// Adds the line of a target, unless it is up.
-fn put_down_if(text: &mut String, target: &TargetFigures) -> Result<(), AllocError>
-    ensures { OnOk result (string_bytes text.new ≡ string_bytes text.old ++ down_if target.now) }
-{
-    if target.up {
-        return Ok(());
-    }
-    put_down_line(text, target)
 }
 
 /// Adds the line of a target that is down.
@@ -65,15 +57,9 @@ fn put_reason(text: &mut String, reason: &Option<String>) -> Result<(), AllocErr
 {
     match reason {
         None => Ok(()),
-        Some(reason) => put_reason_text(text, reason.as_str()),
+        Some(reason) => {
+            text.push_str(": ")?;
+            text.push_str(reason.as_str())
+        }
     }
-}
-
-/// Adds a reason.
-fn put_reason_text(text: &mut String, reason: &str) -> Result<(), AllocError>
-    ensures { OnOk result (string_bytes text.new ≡ string_bytes text.old
-        ++ (codes ": " ++ reason.now)) }
-{
-    text.push_str(": ")?;
-    text.push_str(reason)
 }

@@ -1,10 +1,9 @@
 //! The lines of a table.
 
-ghost use Rattle.std.specs.Prelude.{◌≡◌, ◌++◌, codes, IfOk, None, OnOk, map, max, option_copied, option_map, slice_get, string_bytes};
-ghost use Rattle.mon_page.specs.Cells.{age_cell};
+ghost use Rattle.std.specs.Prelude.{◌≡◌, ◌++◌, codes, IfOk, None, OnOk, map, max, option_copied, option_map, string_bytes};
 ghost use Rattle.mon_table.specs.Cells.{cells_of, texts_of};
 ghost use Rattle.mon_table.specs.Order.{engine_of};
-ghost use Rattle.mon_table.specs.Table.{age_if, before_engine, device_if_new, device_line, device_of, figure_cells, lines_from, rate_title, row_cells, row_line, title_cells, title_line, titled, titled_widths, to_left, to_right, to_right_if, widened, widths_of};
+ghost use Rattle.mon_table.specs.Table.{age_if, device_if_new, device_line, device_of, figure_cells, lines_from, rate_title, row_line, title_line, titled, to_left, to_right, to_right_if, widened, widths_of};
 
 use crate::cells::{Cells, cells_of};
 use crate::listing::Listing;
@@ -44,7 +43,7 @@ pub(crate) struct Lines<'a> {
     pub(crate) shape: Shape,
 }
 
-/// Returns the widths of the columns of these rows.
+/// Returns the widths of the columns of these rows, with their titles.
 pub(crate) fn widths_of<S: NameTexts>(
     alloc: Global,
     names: &S,
@@ -64,7 +63,13 @@ pub(crate) fn widths_of<S: NameTexts>(
     for row in rows {
         widths = widened(widths, &cells_of(alloc, names, listing, *row)?);
     }
-    Ok(titled_widths(widths))
+    Ok(Widths {
+        value: titled("VALUE".len(), widths.value),
+        rate: titled("RATE".len(), widths.rate),
+        part: titled("%".len(), widths.part),
+        out: titled("OUT".len(), widths.out),
+        out_part: titled("%".len(), widths.out_part),
+    })
 }
 
 /// Returns widths that are no less than those of a row's cells.
@@ -80,19 +85,6 @@ fn widened(widths: Widths, cells: &Cells) -> Widths
     }
 }
 
-/// Returns widths with those of the titles.
-fn titled_widths(widths: Widths) -> Widths
-    ensures { result ≡ titled_widths widths }
-{
-    Widths {
-        value: titled("VALUE".len(), widths.value),
-        rate: titled("RATE".len(), widths.rate),
-        part: titled("%".len(), widths.part),
-        out: titled("OUT".len(), widths.out),
-        out_part: titled("%".len(), widths.out_part),
-    }
-}
-
 /// Returns the width of a column whose widest cell has this width.
 fn titled(title: usize, width: usize) -> usize
     ensures { result ≡ titled title width }
@@ -104,44 +96,31 @@ fn titled(title: usize, width: usize) -> usize
 }
 
 /// Adds the line of titles.
+#[tactic(auto, unfolding(crate::specs::Table::title_cells))]
 pub(crate) fn put_title(alloc: Global, text: &mut String, shape: Shape) -> Result<(), AllocError>
     ensures { OnOk result (string_bytes text.new ≡ string_bytes text.old
         ++ title_line shape.widths shape.is_aged) }
 {
-    put_titles(alloc, text, shape)?;
-    text.push_str("NAME\n")
-}
-
-/// Adds the titles before the names'.
-#[tactic(auto, unfolding(crate::specs::Table::title_cells))]
-fn put_titles(alloc: Global, text: &mut String, shape: Shape) -> Result<(), AllocError>
-    ensures { OnOk result (string_bytes text.new ≡ string_bytes text.old
-        ++ title_cells shape.widths shape.is_aged) }
-{
     put_figure_titles(alloc, text, shape.widths)?;
     put_left(alloc, text, 6, "ALARM")?;
     put_right(alloc, text, 7, "SAMPLES")?;
-    put_age_if(alloc, text, shape.is_aged, "AGE")
+    put_age_if(alloc, text, shape.is_aged, "AGE")?;
+    text.push_str("NAME\n")
 }
 
-/// Adds the titles before the alarms.
+/// Adds the titles before the alarms: rates are those of octets in if there is a column of octets
+/// out.
 #[tactic(auto, unfolding(crate::specs::Table::figure_cells))]
 fn put_figure_titles(alloc: Global, text: &mut String, widths: Widths) -> Result<(), AllocError>
     ensures { OnOk result (string_bytes text.new ≡ string_bytes text.old
         ++ figure_cells widths (codes "VALUE") (rate_title widths) (codes "%") (codes "OUT") (codes "%")) }
 {
+    let rate = if widths.out == 0 { "RATE" } else { "IN" };
     put_right_if(alloc, text, widths.value, "VALUE")?;
-    put_right_if(alloc, text, widths.rate, rate_title(widths))?;
+    put_right_if(alloc, text, widths.rate, rate)?;
     put_right_if(alloc, text, widths.part, "%")?;
     put_right_if(alloc, text, widths.out, "OUT")?;
     put_right_if(alloc, text, widths.out_part, "%")
-}
-
-/// Returns the title of the column of rates.
-fn rate_title(widths: Widths) -> &'static str
-    ensures { result.now ≡ rate_title widths }
-{
-    if widths.out == 0 { "RATE" } else { "IN" }
 }
 
 /// Adds the lines of rows, and above those of a device its line.
@@ -183,7 +162,7 @@ fn put_device_if_new(
     }
 }
 
-/// Adds the line of a device.
+/// Adds the line of a device: its address and its label, if they are known, and its engine id.
 #[tactic(auto, unfolding(crate::specs::Table::device_line))]
 fn put_device(
     alloc: Global,
@@ -194,59 +173,29 @@ fn put_device(
     ensures { OnOk result (string_bytes text.new ≡ string_bytes text.old
         ++ device_line (device_of (option_map (λ l. l.now) labels.entry)) engine.now) }
 {
-    put_before_engine(text, &device_of(alloc, labels)?)?;
+    let device = match labels {
+        None => String::new(alloc),
+        Some(labels) => device_text(alloc, labels.target.as_deref(), labels.device.as_deref())?,
+    };
+    if !device.is_empty() {
+        write!(text, "{device}, ")?;
+    }
     let digits = hex::encode(alloc, engine)?;
     writeln!(text, "engine {digits}")
 }
 
-/// Adds a device before its engine id, if it is known.
-fn put_before_engine(text: &mut String, device: &str) -> Result<(), AllocError>
-    ensures { OnOk result (string_bytes text.new ≡ string_bytes text.old
-        ++ before_engine device.now) }
-{
-    if device.is_empty() {
-        return Ok(());
-    }
-    text.push_str(device)?;
-    text.push_str(", ")
-}
-
-/// Returns the address and the label of an instance's device.
-fn device_of(alloc: Global, labels: Option<&InstanceLabels>) -> Result<String, AllocError>
-    ensures { IfOk result (λ text. string_bytes text ≡ device_of
-        (option_map (λ l. l.now) labels.entry)) }
-{
-    match labels {
-        None => Ok(String::new(alloc)),
-        Some(labels) => device_text(alloc, labels.target.as_deref(), labels.device.as_deref()),
-    }
-}
-
 /// Adds the line of a row.
+#[tactic(auto, unfolding(crate::specs::Table::row_cells))]
 fn put_row(alloc: Global, text: &mut String, cells: &Cells, shape: Shape) -> Result<(), AllocError>
     ensures { OnOk result (string_bytes text.new ≡ string_bytes text.old
         ++ row_line shape.widths shape.is_aged (texts_of cells.now)) }
 {
-    put_cells(alloc, text, cells, shape)?;
-    text.push_str(&cells.name)?;
-    text.push_str("\n")
-}
-
-/// Adds the cells of a row before its name.
-#[tactic(auto, unfolding(crate::specs::Table::row_cells))]
-fn put_cells(
-    alloc: Global,
-    text: &mut String,
-    cells: &Cells,
-    shape: Shape,
-) -> Result<(), AllocError>
-    ensures { OnOk result (string_bytes text.new ≡ string_bytes text.old
-        ++ row_cells shape.widths shape.is_aged (texts_of cells.now)) }
-{
     put_figures(alloc, text, cells, shape.widths)?;
     put_left(alloc, text, 6, cells.alarm)?;
     put_right(alloc, text, 7, &cells.samples)?;
-    put_age_if(alloc, text, shape.is_aged, &cells.age)
+    put_age_if(alloc, text, shape.is_aged, &cells.age)?;
+    text.push_str(&cells.name)?;
+    text.push_str("\n")
 }
 
 /// Adds the cells before the alarms.

@@ -1,7 +1,7 @@
 //! Which rows a table has.
 
-ghost use Rattle.std.specs.Prelude.{◌≡◌, ◌++◌, [], IfOk, OnOk};
-ghost use Rattle.mon_table.specs.Rows.{in_from, is_at, is_beside, is_in, is_out, out_from, row_at, row_between, rows_from, same_index, with_row};
+ghost use Rattle.std.specs.Prelude.{◌≡◌, IfOk};
+ghost use Rattle.mon_table.specs.Rows.{in_from, is_at, is_beside, is_in, is_out, out_from, row_at, rows_from};
 
 use mon_display::{Column, column_of, interface_of};
 use mon_report::Entry;
@@ -22,34 +22,19 @@ pub(crate) fn rows_of(alloc: Global, entries: &[Entry]) -> Result<Vec<Row>, Allo
 {
     let mut rows = Vec::new(alloc);
     for (place, entry) in entries.iter().enumerate() {
-        push_row(&mut rows, row_at(entries, place, entry))?;
+        if let Some(row) = row_at(entries, place, entry) {
+            rows.push(row)?;
+        }
     }
     Ok(rows)
 }
 
-/// Adds a row, if there is one.
-fn push_row(rows: &mut Vec<Row>, row: Option<Row>) -> Result<(), AllocError>
-    ensures { OnOk result (rows.new.items ≡ rows.old.items ++ with_row row []) }
-{
-    match row {
-        None => Ok(()),
-        Some(row) => Ok(rows.push(row)?),
-    }
-}
-
-/// Returns the row that begins with the instance at a place, if one does.
+/// Returns the row that begins with the instance at a place, if one does: none begins with octets
+/// out of an interface that has octets in.
 fn row_at(entries: &[Entry], place: usize, entry: &Entry) -> Option<Row>
     ensures { result ≡ row_at entries.now place entry.now }
 {
     let (into, out) = (find_in(entries, entry), find_out(entries, entry));
-    row_between(place, into, out)
-}
-
-/// Returns the row that begins with the instance at a place, of the interface with these octets in
-/// and out.
-fn row_between(place: usize, into: Option<usize>, out: Option<usize>) -> Option<Row>
-    ensures { result ≡ row_between place into out }
-{
     if is_at(place, into) {
         return Some(Row { place, out });
     }
@@ -97,18 +82,11 @@ fn find_out(entries: &[Entry], entry: &Entry) -> Option<usize>
 fn is_beside(entry: &Entry, other: &Entry) -> bool
     ensures { result ≡ is_beside entry.now other.now }
 {
-    other.engine() == entry.engine()
-        && same_index(
-            interface_of(entry.name().parts()),
-            interface_of(other.name().parts()),
-        )
-}
-
-/// Returns `true` if both are indexes, and equal.
-fn same_index(index: Option<u32>, other: Option<u32>) -> bool
-    ensures { result ≡ same_index index other }
-{
-    match (index, other) {
+    if other.engine() != entry.engine() {
+        return false;
+    }
+    let index = interface_of(entry.name().parts());
+    match (index, interface_of(other.name().parts())) {
         (Some(index), Some(other)) => index == other,
         _ => false,
     }
