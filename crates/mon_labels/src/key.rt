@@ -37,20 +37,16 @@ impl Key {
         }
     }
 
-    /// Returns what must be at the key.
-    fn wanted(self) -> &'static str {
-        match self {
+    /// Writes the key and what must be there.
+    pub(crate) fn describe<W: fmt::Write>(self, f: &mut fmt::Formatter<W>) -> fmt::Result {
+        let name = self.name();
+        let wanted = match self {
             Key::Interface => "a list of tables",
             Key::Engine => "a text of 10 to 64 hex digits",
             Key::Index => "a number from 1 to 2147483647",
             Key::IfName | Key::IfAlias => "a text",
             Key::Speed => "a number of bits a second from 1 to 9223372036854775807",
-        }
-    }
-
-    /// Writes the key and what must be there.
-    pub(crate) fn describe<W: fmt::Write>(self, f: &mut fmt::Formatter<W>) -> fmt::Result {
-        let (name, wanted) = (self.name(), self.wanted());
+        };
         write!(f, "{name}: {wanted} is wanted")
     }
 }

@@ -1,7 +1,7 @@
 //! Which instance has which labels.
 
-ghost use Rattle.std.specs.Prelude.{◌≡◌, [], IfOk, None, Some, map, option_and_then, option_map, slice_get, string_bytes};
-ghost use Rattle.mon_labels.specs.Given.{address_of, device_of, given, given_from, interface_for, labels_by, labels_for, polls, target_for, text_if};
+ghost use Rattle.std.specs.Prelude.{◌≡◌, [], IfOk, map, option_map, string_bytes};
+ghost use Rattle.mon_labels.specs.Given.{address_of, device_of, given, given_from, interface_for, labels_for, polls, target_for};
 
 use crate::interface::{InterfaceLabels, find_interface};
 use mon_board::{Instance, Watched};
@@ -73,9 +73,23 @@ impl Labels {
         ensures { IfOk result (λ l. given l ≡ labels_for self.now.interfaces.items
             (option_map (λ t. string_bytes t.now) address.entry) (option_map (λ t. string_bytes t.now) device.entry) instance.now) }
     {
+        let target = copied(alloc, address)?;
+        let device = copied(alloc, device)?;
         match self.interface_for(instance) {
-            None => of_device(alloc, address, device),
-            Some(labels) => of_interface(alloc, address, device, labels),
+            None => Ok(InstanceLabels {
+                target,
+                device,
+                if_name: None,
+                if_alias: None,
+                speed: None,
+            }),
+            Some(labels) => Ok(InstanceLabels {
+                target,
+                device,
+                if_name: copied(alloc, labels.if_name.as_ref())?,
+                if_alias: copied(alloc, labels.if_alias.as_ref())?,
+                speed: labels.speed,
+            }),
         }
     }
 
@@ -93,45 +107,6 @@ impl Labels {
             ),
         }
     }
-}
-
-/// Returns the labels of an instance of no interface.
-fn of_device(
-    alloc: Global,
-    address: Option<&String>,
-    device: Option<&String>,
-) -> Result<InstanceLabels, AllocError>
-    ensures { IfOk result (λ l. given l
-        ≡ labels_by (option_map (λ t. string_bytes t.now) address.entry)
-        (option_map (λ t. string_bytes t.now) device.entry) None) }
-{
-    Ok(InstanceLabels {
-        target: copied(alloc, address)?,
-        device: copied(alloc, device)?,
-        if_name: None,
-        if_alias: None,
-        speed: None,
-    })
-}
-
-/// Returns the labels of an instance of an interface.
-fn of_interface(
-    alloc: Global,
-    address: Option<&String>,
-    device: Option<&String>,
-    labels: &InterfaceLabels,
-) -> Result<InstanceLabels, AllocError>
-    ensures { IfOk result (λ l. given l
-        ≡ labels_by (option_map (λ t. string_bytes t.now) address.entry)
-        (option_map (λ t. string_bytes t.now) device.entry) (Some labels.now)) }
-{
-    Ok(InstanceLabels {
-        target: copied(alloc, address)?,
-        device: copied(alloc, device)?,
-        if_name: copied(alloc, labels.if_name.as_ref())?,
-        if_alias: copied(alloc, labels.if_alias.as_ref())?,
-        speed: labels.speed,
-    })
 }
 
 /// Returns a copy of a text, if there is one.
@@ -163,18 +138,7 @@ fn device_of<'a>(reached: Reached<'a>, instance: usize) -> Option<&'a String>
 {
     match target_for(reached.targets, instance) {
         None => None,
-        Some(number) => label_at(reached.devices, number),
-    }
-}
-
-/// Returns the label at a place, if there is one.
-fn label_at(devices: &[Option<String>], place: usize) -> Option<&String>
-    ensures { option_map (λ t. string_bytes t.now) result ≡ option_and_then text_if
-        (slice_get devices.now place) }
-{
-    match devices.get(place) {
-        None => None,
-        Some(label) => label.as_ref(),
+        Some(number) => reached.devices.get(number)?.as_ref(),
     }
 }
 

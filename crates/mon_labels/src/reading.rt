@@ -1,10 +1,9 @@
 //! Labels, read from a text.
 
-ghost use Rattle.std.specs.Prelude.{◌≡◌, [], IfErr, IfOk, Some, map};
-ghost use Rattle.toml.specs.Parse.{parse_document};
+ghost use Rattle.std.specs.Prelude.{◌≡◌, [], IfErr, IfOk, map};
 ghost use Rattle.toml.specs.View.{items_view, table_view, view};
 ghost use Rattle.mon_labels.specs.Described.{described};
-ghost use Rattle.mon_labels.specs.Reading.{IsRefusal, IsUnread, Says, entries, entry, entry_after, interface_of, few, labels_of, list_of, unless_twice};
+ghost use Rattle.mon_labels.specs.Reading.{IsRefusal, Says, entries, entry, entry_after, interface_of, labels_of, list_of, unless_twice};
 ghost use Rattle.mon_labels.specs.Table.{Reads};
 
 use crate::fault::{LabelsFault, Place, Read};
@@ -104,29 +103,21 @@ fn read_entries(alloc: Global, values: &[Value]) -> Read<Vec<InterfaceLabels>>
     Ok(done)
 }
 
-/// Returns the list of these values, if they are not too many.
-#[tactic(auto, using(crate::proofs::Entries::few_values))]
-fn few(values: &[Value]) -> Read<&[Value]>
-    ensures { Reads (λ vs. items_view vs.now) (few (items_view values.now)) result }
-{
-    if values.len() > MAX_INTERFACES {
-        return Err(LabelsFault::TooMany);
-    }
-    Ok(values)
-}
-
 /// Returns the values of the list of interfaces, none if it is left out.
-#[tactic(auto, unfolding(crate::specs::Reading::list_of))]
+#[tactic(auto, using(crate::proofs::Entries::few_values), unfolding(crate::specs::Reading::list_of))]
 fn list_of(table: &Table) -> Read<&[Value]>
     ensures { Reads (λ vs. items_view vs.now) (list_of (table_view table.now)) result }
 {
-    match find(table, Key::Interface) {
-        None => Ok(&[]),
-        Some(value) => match value.as_array() {
-            Some(values) => few(values.as_slice()),
-            None => Err(LabelsFault::BadValue(Place::Top, Key::Interface)),
-        },
+    let Some(value) = find(table, Key::Interface) else {
+        return Ok(&[]);
+    };
+    let Some(values) = value.as_array() else {
+        return Err(LabelsFault::BadValue(Place::Top, Key::Interface));
+    };
+    if values.len() > MAX_INTERFACES {
+        return Err(LabelsFault::TooMany);
     }
+    Ok(values.as_slice())
 }
 
 /// Reads the interfaces of a text's tree.
@@ -139,20 +130,6 @@ fn read_tree(reader: &Reader<'_>) -> Read<Vec<InterfaceLabels>>
     reader.only(&[Key::Interface])?;
     let values = list_of(reader.table)?;
     read_entries(reader.alloc, values)
-}
-
-/// Reads the tree of a text.
-fn tree(alloc: Global, text: &str) -> Read<Table>
-    ensures tree { IfOk result (λ t. parse_document text.now ≡ Some (table_view t)) }
-    ensures unread { IfErr result (IsUnread text.now) }
-{
-    match toml::table_from_str(alloc, text) {
-        Ok(table) => Ok(table),
-        Err(error) => match error.span() {
-            Some(span) => Err(LabelsFault::NotToml(span.start)),
-            None => Err(LabelsFault::OutOfMemory),
-        },
-    }
 }
 
 /// Reads labels of interfaces from a text in TOML 1.1: a list `interface` of at most 4,096 tables,
@@ -168,7 +145,13 @@ pub fn read_labels(alloc: Global, text: &str) -> Result<Labels, LabelsFault>
     ensures read { IfOk result (λ labels. Says text.now (map described labels.interfaces.items)) }
     ensures refused { IfErr result (IsRefusal text.now) }
 {
-    let table = tree(alloc, text)?;
+    let table = match toml::table_from_str(alloc, text) {
+        Ok(table) => table,
+        Err(error) => match error.span() {
+            Some(span) => return Err(LabelsFault::NotToml(span.start)),
+            None => return Err(LabelsFault::OutOfMemory),
+        },
+    };
     let interfaces = read_tree(&Reader {
         alloc,
         place: Place::Top,

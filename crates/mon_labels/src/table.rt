@@ -6,7 +6,7 @@ ghost use Rattle.std.specs.Map.{keys_of};
 ghost use Rattle.toml.specs.Data.{as_str, get_member};
 ghost use Rattle.toml.specs.View.{view, table_view};
 ghost use Rattle.mon_labels.specs.Key.{key_name};
-ghost use Rattle.mon_labels.specs.Table.{Reads, engine_in, engine_of, first_unknown, index_in, is_one_of, needed_at, only, or_bad, optional_at, speed_in};
+ghost use Rattle.mon_labels.specs.Table.{Reads, engine_in, first_unknown, index_in, is_one_of, needed_at, only, optional_at, speed_in};
 
 use crate::fault::{LabelsFault, Place, Read};
 use crate::key::Key;
@@ -100,9 +100,14 @@ impl<'t> Reader<'t> {
         ensures { Reads (λ v. v.items) (needed_at self.now.place Key.Engine engine_in
             (table_view self.now.table.now)) result }
     {
-        match self.need(Key::Engine)?.as_str() {
-            Some(text) => decode_engine(self.alloc, text, self.place),
-            None => Err(self.bad(Key::Engine)),
+        let Some(text) = self.need(Key::Engine)?.as_str() else {
+            return Err(self.bad(Key::Engine));
+        };
+        match hex::decode(self.alloc, text) {
+            Ok(octets) if 5 <= octets.len() && octets.len() <= 32 => Ok(octets),
+            Ok(_) => Err(self.bad(Key::Engine)),
+            Err(FromHexError::OutOfMemory) => Err(LabelsFault::OutOfMemory),
+            Err(_) => Err(self.bad(Key::Engine)),
         }
     }
 
@@ -152,17 +157,5 @@ fn index_in(value: &Value) -> Option<u32>
     match u32::try_from(value.as_integer()?) {
         Ok(index) if 1 <= index && index <= 2_147_483_647 => Some(index),
         _ => None,
-    }
-}
-
-/// Returns the octets of an engine id in hex digits.
-fn decode_engine(alloc: Global, text: &str, place: Place) -> Read<Vec<u8>>
-    ensures { Reads (λ v. v.items) (or_bad place Key.Engine (engine_of text.now)) result }
-{
-    match hex::decode(alloc, text) {
-        Ok(octets) if 5 <= octets.len() && octets.len() <= 32 => Ok(octets),
-        Ok(_) => Err(LabelsFault::BadValue(place, Key::Engine)),
-        Err(FromHexError::OutOfMemory) => Err(LabelsFault::OutOfMemory),
-        Err(_) => Err(LabelsFault::BadValue(place, Key::Engine)),
     }
 }

@@ -62,17 +62,11 @@ pub(crate) fn labels_of(
 {
     let mut labels = Vec::with_capacity(alloc, targets.len())?;
     for target in targets {
-        labels.push(text_of(alloc, &target.label)?)?;
+        let label = match &target.label {
+            None => None,
+            Some(label) => Some(String::from_str(alloc, label.as_str())?),
+        };
+        labels.push(label)?;
     }
     Ok(labels)
-}
-
-/// Returns a copy of a label's text, if there is a label.
-fn text_of(alloc: Global, label: &Option<Label>) -> Result<Option<String>, AllocError>
-    ensures { IfOk result (λ t. option_map string_bytes t ≡ label.now) }
-{
-    match label {
-        None => Ok(None),
-        Some(label) => Ok(Some(String::from_str(alloc, label.as_str())?)),
-    }
 }

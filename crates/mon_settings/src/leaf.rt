@@ -3,8 +3,8 @@
 ghost use Rattle.std.specs.Prelude.{◌≡◌, ◌≢◌, ◌<◌, ◌≤◌, ◌^◌, [], IfOk, IfSome, option_map, Err};
 ghost use Rattle.toml.specs.Data.{as_bool, as_integer};
 ghost use Rattle.toml.specs.View.{view, table_view};
-ghost use Rattle.mon_settings.specs.Keys.{needed_at, default_at, only, optional_at, or_bad, Reads};
-ghost use Rattle.mon_settings.specs.Leaf.{number_in, int_in, text_in, hex_of, hex_in, oid_of, oid_in, refuse, addr_in, model_of, model_in};
+ghost use Rattle.mon_settings.specs.Keys.{needed_at, default_at, only, optional_at, Reads};
+ghost use Rattle.mon_settings.specs.Leaf.{number_in, int_in, text_in, hex_in, oid_in, refuse, addr_in, model_of, model_in};
 ghost use Rattle.mon_settings.specs.Resolving.{resolution, or_unknown, unresolved, name_at, name_or_none};
 
 use crate::fault::{Read, SettingsFault, given};
@@ -69,9 +69,12 @@ impl<'t> Reader<'t> {
         requires { most < 2 ^ 31 }
         ensures { result ≡ needed_at key (int_in least most) (table_view self.now.table.now) }
     {
-        match find(self.table, key) {
-            Some(value) => int_in(value, least, most).ok_or(SettingsFault::bad(key)),
-            None => Err(SettingsFault::missing(key)),
+        let Some(value) = find(self.table, key) else {
+            return Err(SettingsFault::missing(key));
+        };
+        match number_in(value, least, most) {
+            Some(number) => Ok(number as i32),
+            None => Err(SettingsFault::bad(key)),
         }
     }
 
@@ -190,9 +193,14 @@ impl<'t> Reader<'t> {
         let Some(value) = find(self.table, key) else {
             return Err(SettingsFault::missing(key));
         };
-        match value.as_str() {
-            Some(text) => decode_hex(self.alloc, text, key, least, most),
-            None => Err(SettingsFault::bad(key)),
+        let Some(text) = value.as_str() else {
+            return Err(SettingsFault::bad(key));
+        };
+        match hex::decode(self.alloc, text) {
+            Ok(octets) if least <= octets.len() && octets.len() <= most => Ok(Octets::new(octets)),
+            Ok(_) => Err(SettingsFault::bad(key)),
+            Err(FromHexError::OutOfMemory) => Err(SettingsFault::OutOfMemory),
+            Err(_) => Err(SettingsFault::bad(key)),
         }
     }
 
@@ -209,15 +217,19 @@ impl<'t> Reader<'t> {
     }
 
     /// The dotted object identifier at a key.
+    #[tactic(auto, using(crate::proofs::Oids::oid_complete, crate::proofs::Oids::refused_is))]
     pub(crate) fn oid(&self, key: Key) -> Read<Oid>
         ensures { Reads (λ o. o) (needed_at key oid_in (table_view self.now.table.now)) result }
     {
         let Some(value) = find(self.table, key) else {
             return Err(SettingsFault::missing(key));
         };
-        match value.as_str() {
-            Some(text) => parse_oid(self.alloc, text, key),
-            None => Err(SettingsFault::bad(key)),
+        let Some(text) = value.as_str() else {
+            return Err(SettingsFault::bad(key));
+        };
+        match Oid::parse(self.alloc, text) {
+            Ok(oid) => Ok(oid),
+            Err(fault) => Err(refuse(fault, key)),
         }
     }
 
@@ -249,6 +261,7 @@ impl<'t> Reader<'t> {
     }
 }
 
+/// The number that a value is, from least to most.
 fn number_in(value: &Value, least: u64, most: u64) -> Option<u64>
     ensures value { result ≡ number_in least most (view value.now) }
     ensures great { IfSome result (λ n. least ≤ n) }
@@ -258,13 +271,6 @@ fn number_in(value: &Value, least: u64, most: u64) -> Option<u64>
         Ok(n) if least <= n && n <= most => Some(n),
         _ => None,
     }
-}
-
-fn int_in(value: &Value, least: u64, most: u64) -> Option<i32>
-    requires { most < 2 ^ 31 }
-    ensures { result ≡ int_in least most (view value.now) }
-{
-    i32::try_from(number_in(value, least, most)?).ok()
 }
 
 fn model_of(number: i64) -> Option<SecurityModel>
@@ -284,26 +290,6 @@ pub(crate) fn text_in(value: &Value, least: usize, most: usize) -> Option<&str>
     match value.as_str() {
         Some(text) if least <= text.len() && text.len() <= most => Some(text),
         _ => None,
-    }
-}
-
-fn decode_hex(alloc: Global, text: &str, key: Key, least: usize, most: usize) -> Read<Octets>
-    ensures { Reads (λ o. o) (or_bad key (hex_of least most text.now)) result }
-{
-    match hex::decode(alloc, text) {
-        Ok(octets) if least <= octets.len() && octets.len() <= most => Ok(Octets::new(octets)),
-        Ok(_) => Err(SettingsFault::bad(key)),
-        Err(FromHexError::OutOfMemory) => Err(SettingsFault::OutOfMemory),
-        Err(_) => Err(SettingsFault::bad(key)),
-    }
-}
-
-fn parse_oid(alloc: Global, text: &str, key: Key) -> Read<Oid>
-    ensures { Reads (λ o. o) (or_bad key (oid_of text.now)) result }
-{
-    match Oid::parse(alloc, text) {
-        Ok(oid) => Ok(oid),
-        Err(fault) => Err(refuse(fault, key)),
     }
 }
 

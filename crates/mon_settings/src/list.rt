@@ -2,7 +2,7 @@
 
 ghost use Rattle.std.specs.Prelude.{◌≡◌, option_map};
 ghost use Rattle.toml.specs.View.{view, table_view, items_view};
-ghost use Rattle.mon_settings.specs.Leaf.{between, list_between};
+ghost use Rattle.mon_settings.specs.Leaf.{list_between};
 ghost use Rattle.mon_settings.specs.Keys.{Reads};
 ghost use Rattle.mon_settings.specs.Lists.{list_at, row, rows, rows_between, rows_up_to};
 
@@ -56,24 +56,18 @@ fn read_rows<C, R: Row<C>>(alloc: Global, around: &C, key: Key, values: &[Value]
     Ok(read)
 }
 
-#[tactic(auto, using(crate::proofs::Rows::between_values))]
-fn between(values: &[Value], least: usize, most: usize) -> Option<&[Value]>
-    ensures { option_map (λ vs. items_view vs.now) result ≡ between least most
-        (items_view values.now) }
-{
-    if least <= values.len() && values.len() <= most {
-        Some(values)
-    } else {
-        None
-    }
-}
-
 /// The values of a list of least to most.
+#[tactic(auto, using(crate::proofs::Rows::between_values))]
 pub(crate) fn list_between(value: &Value, least: usize, most: usize) -> Option<&[Value]>
     ensures { option_map (λ vs. items_view vs.now) result
         ≡ list_between least most (view value.now) }
 {
-    between(value.as_array()?.as_slice(), least, most)
+    let values = value.as_array()?;
+    if least <= values.len() && values.len() <= most {
+        Some(values.as_slice())
+    } else {
+        None
+    }
 }
 
 impl Reader<'_> {

@@ -55,13 +55,13 @@ BUGS = {
     ),
     "a_list_is_refused_as_too_many": (
         "src/reading.rt",
-        "            None => Err(LabelsFault::BadValue(Place::Top, Key::Interface)),",
-        "            None => Err(LabelsFault::TooMany),",
+        "        return Err(LabelsFault::BadValue(Place::Top, Key::Interface));",
+        "        return Err(LabelsFault::TooMany);",
     ),
     "any_text_is_no_toml": (
         "src/reading.rt",
-        "        Ok(table) => Ok(table),",
-        "        Ok(_) => Err(LabelsFault::NotToml(0)),",
+        "        Ok(table) => table,",
+        "        Ok(table) if text.is_empty() => table,\n        Ok(_) => return Err(LabelsFault::NotToml(0)),",
     ),
     "labels_of_no_instance": (
         "src/labels.rt",
@@ -70,8 +70,8 @@ BUGS = {
     ),
     "no_interface_is_found": (
         "src/labels.rt",
-        "            Some(labels) => of_interface(alloc, address, device, labels),",
-        "            Some(_) => of_device(alloc, address, device),",
+        "                self.interfaces.as_slice(),",
+        "                &[],",
     ),
     "the_address_of_the_first_target": (
         "src/labels.rt",
@@ -122,13 +122,13 @@ BUGS = {
     ),
     "forgets_the_address_with_an_interface": (
         "src/labels.rt",
-        "            Some(labels) => of_interface(alloc, address, device, labels),",
-        "            Some(labels) => of_interface(alloc, None, device, labels),",
+        "                target,\n                device,\n                if_name: copied(",
+        "                target: None,\n                device,\n                if_name: copied(",
     ),
     "forgets_the_address_without_an_interface": (
         "src/labels.rt",
-        "            None => of_device(alloc, address, device),",
-        "            None => of_device(alloc, None, device),",
+        "                target,\n                device,\n                if_name: None,",
+        "                target: None,\n                device,\n                if_name: None,",
     ),
     "the_name_for_the_alias": (
         "src/labels.rt",
@@ -172,8 +172,8 @@ BUGS = {
     ),
     "the_list_must_be_there": (
         "src/reading.rt",
-        "        None => Ok(&[]),",
-        "        None => Err(LabelsFault::Missing(Place::Top, Key::Interface)),",
+        "        return Ok(&[]);",
+        "        return Err(LabelsFault::Missing(Place::Top, Key::Interface));",
     ),
     "cuts_a_list_that_is_too_long": (
         "src/reading.rt",
@@ -182,8 +182,8 @@ BUGS = {
     ),
     "no_toml_is_an_empty_table": (
         "src/reading.rt",
-        "            Some(span) => Err(LabelsFault::NotToml(span.start)),",
-        "            Some(_) => Ok(Table::new(alloc)),",
+        "            Some(span) => return Err(LabelsFault::NotToml(span.start)),",
+        "            Some(_) => Table::new(alloc),",
     ),
     "reads_and_returns_no_labels": (
         "src/reading.rt",

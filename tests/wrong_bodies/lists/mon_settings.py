@@ -428,8 +428,8 @@ BUGS = {
     ),
     "takes_an_alarm_on_what_is_not_watched": (
         "src/placing.rt",
-        "        None => Err(SettingsFault::BadValue(Place::Whole)),",
-        "        None => rule_from(alarm, 0),",
+        "    let Some(number) = number_of(instances, alarm.engine.as_slice(), &alarm.name) else {\n        return Err(SettingsFault::BadValue(Place::Whole));\n    };\n",
+        "    let number = number_of(instances, alarm.engine.as_slice(), &alarm.name).unwrap_or(0);\n",
     ),
     "takes_an_epoch_above_its_window": (
         "src/station_tables.rt",
@@ -488,8 +488,8 @@ BUGS = {
     ),
     "blames_the_text_for_memory": (
         "src/leaf.rt",
-        "        Err(FromHexError::OutOfMemory) => Err(SettingsFault::OutOfMemory),",
-        "        Err(FromHexError::OutOfMemory) => Err(SettingsFault::bad(key)),",
+        "            Err(FromHexError::OutOfMemory) => Err(SettingsFault::OutOfMemory),",
+        "            Err(FromHexError::OutOfMemory) => Err(SettingsFault::bad(key)),",
     ),
     "takes_an_unknown_mark_for_none": (
         "src/leaf.rt",
