@@ -23,7 +23,8 @@
 //!     track SIZE EPOCH HEX,..        the same of a track, with its totals after each sample
 //!     join SIZE EPOCH HEX,.. HEX,..  what two tracks keep when they are joined
 //!     alarm RISING FALLING HEX,..    the state of an alarm over these samples; or the fault
-//!     changes RISING FALLING HEX,.. HEX,..   what became of it from a look at the first to one at the others
+//!     changes RISING FALLING HEX,.. HEX,..   what became of it from a look at the first to one at
+//!                                            the others
 //!     watch WATCH RULES              whether instances and rules make a watch; or the fault
 //!     take WATCH N/HEX,..            what becomes of each sample on a board
 //!     narrow WATCH RULES HEX,..      the report of a board; each writer that is too narrow for it

@@ -5,11 +5,13 @@
 //!
 //! The crate of each group has its lines:
 //!
-//!     mon_codec_rows    values, messages, claims, images, names, samples, windows, boards, texts
+//!     mon_codec_rows    values, messages, claims, images, names, samples, windows, boards and
+//!                       texts
 //!     mon_call_rows     `agent ..`, `client ..`, `mib ..`, `reader ..` and `smi ..`, single calls;
 //!                       `poller ..`, polls of three targets
-//!     mon_station_rows  `station ..`, a station over a disk in memory, and `world ..`; `keeper ..`,
-//!                       what openings of disks and files find after stops, faults and saves
+//!     mon_station_rows  `station ..`, a station over a disk in memory, and `world ..`;
+//!                       `keeper ..`, what openings of disks and files find after stops, faults
+//!                       and saves
 //!
 //! usage: mon_rows                              as above
 //!        mon_rows image-times N                reads the image of the first line, WATCH HEX, and
