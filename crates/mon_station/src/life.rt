@@ -63,7 +63,7 @@ impl Life {
     ghost use Rattle.mon_station.specs.Saved.{saved_octets};
     ghost use Rattle.mon_station.specs.State.{state_of};
     ghost use Rattle.mon_station.specs.Step.{IsSettled, left_polls};
-    ghost use Rattle.mon_station.specs.Told.{IsAnswered, confirm_of, confirms, given_up_by, resends, to_peer};
+    ghost use Rattle.mon_station.specs.Told.{IsAnswered, confirms, given_up_by, resends, to_peer};
 
     /// What holds of every state, for the proofs of its callers. It does nothing.
     pub(crate) fn settled(&self)
@@ -294,32 +294,22 @@ impl Life {
         ensures claims { IfOk result (λ _. AllByRecursion IsClaim
             (confirms (state_of self.now) claim.now.kind claim.now)) }
     {
-        match claim.kind {
-            ClaimKind::Confirm => Ok(Vec::new(alloc)),
-            ClaimKind::Offer => self.confirm_offer(alloc, claim),
-        }
-    }
-
-    /// The confirmation of an offer.
-    fn confirm_offer(&self, alloc: Global, offer: &Claim) -> Result<Vec<Outgoing>, AllocError>
-        requires { IsClaim offer.now }
-        ensures sent { IfOk result (λ sends. sends.items ≡ to_peer offer.now.station
-            (confirm_of (state_of self.now) offer.now) ∷ []) }
-        ensures claim { IfOk result (λ _. IsClaim (confirm_of (state_of self.now) offer.now)) }
-    {
+        let ClaimKind::Offer = claim.kind else {
+            return Ok(Vec::new(alloc));
+        };
         let mut sends = room_for_one(alloc)?;
         let confirm = ClaimRef {
             kind: ClaimKind::Confirm,
             station: self.peers.own(),
             incarnation: self.incarnation,
-            serial: offer.serial,
-            engine: offer.engine.as_slice(),
-            name: &offer.name,
-            samples: offer.samples.as_slice(),
+            serial: claim.serial,
+            engine: claim.engine.as_slice(),
+            name: &claim.name,
+            samples: claim.samples.as_slice(),
         };
         let octets = Octets::new(write_claim(alloc, &confirm)?);
         let out = Outgoing {
-            to: To::Peer(offer.station),
+            to: To::Peer(claim.station),
             octets,
         };
         sends.push(out).unwrap();

@@ -38,13 +38,13 @@ BUGS = {
     ),
     "a_confirmation_to_itself": (
         "src/life.rt",
-        "            to: To::Peer(offer.station),",
+        "            to: To::Peer(claim.station),",
         "            to: To::Peer(self.peers.own()),",
     ),
     "a_confirmation_is_confirmed": (
         "src/life.rt",
-        "            ClaimKind::Confirm => Ok(Vec::new(alloc)),",
-        "            ClaimKind::Confirm => self.confirm_offer(alloc, claim),",
+        "        let ClaimKind::Offer = claim.kind else {\n            return Ok(Vec::new(alloc));\n        };\n",
+        "",
     ),
     "an_unknown_peer_is_an_unknown_instance": (
         "src/sharing.rt",
@@ -183,8 +183,8 @@ BUGS = {
     ),
     "confirms_nothing": (
         "src/life.rt",
-        "            ClaimKind::Offer => self.confirm_offer(alloc, claim),",
-        "            ClaimKind::Offer => Ok(Vec::new(alloc)),",
+        "        Ok(sends)",
+        "        let _ = sends;\n        Ok(Vec::new(alloc))",
     ),
     "shows_a_failed_disk_as_refused": (
         "src/running.rt",
@@ -200,7 +200,7 @@ BUGS = {
     ),
     "confirms_under_its_own_serial": (
         "src/life.rt",
-        "            serial: offer.serial,",
+        "            serial: claim.serial,",
         "            serial: self.serial,",
     ),
     "offers_to_itself": (
@@ -469,10 +469,10 @@ BUGS = {
     ),
     "forgets_what_is_too_old": (
         "src/life.rt",
-        "ClaimKind::Offer => self.confirm_offer(alloc, claim),",
-        "ClaimKind::Offer => if self.is_too_old(claim) { Ok(Vec::new(alloc)) } else { self.confirm_offer(alloc, claim) },",
-        "/// The confirmation of an offer.",
-        "fn is_too_old(&self, claim: &Claim) -> bool { let Some(number) = self.board.find(claim.engine.as_slice(), &claim.name) else { return false; }; let items = self.board.items(number); if items.len() < self.board.watch().instances()[usize::from(number)].window { return false; } let Some(oldest) = items.first() else { return false; }; match claim.samples.as_slice().last() { Some(newest) => newest.compare(oldest).is_lt(), None => false } } /// The confirmation of an offer.",
+        "        let mut sends = room_for_one(alloc)?;",
+        "        if self.is_too_old(claim) { return Ok(Vec::new(alloc)); }\n        let mut sends = room_for_one(alloc)?;",
+        "/// The confirmation of a claim, where it is an offer.",
+        "fn is_too_old(&self, claim: &Claim) -> bool { let Some(number) = self.board.find(claim.engine.as_slice(), &claim.name) else { return false; }; let items = self.board.items(number); if items.len() < self.board.watch().instances()[usize::from(number)].window { return false; } let Some(oldest) = items.first() else { return false; }; match claim.samples.as_slice().last() { Some(newest) => newest.compare(oldest).is_lt(), None => false } } /// The confirmation of a claim, where it is an offer.",
     ),
     "hands_nothing_to_the_outbox": (
         "src/running.rt",
@@ -531,7 +531,7 @@ BUGS = {
     ),
     "confirms_without_the_samples": (
         "src/life.rt",
-        "            samples: offer.samples.as_slice(),",
+        "            samples: claim.samples.as_slice(),",
         "            samples: &[],",
     ),
     "offers_nothing_where_memory_is_refused": (
