@@ -9,14 +9,14 @@ ghost use Rattle.mon_saved.specs.Image.{SpellsImage};
 ghost use Rattle.mon_saved.specs.Kept.{IsKept};
 ghost use Rattle.mon_saved.specs.Written.{image_of};
 ghost use Rattle.mon_poller.specs.Verdict.{IsSentAgain, timeout_verdict};
-ghost use Rattle.mon_station.specs.Verdict.{claim_pairs, stamp_in};
+ghost use Rattle.mon_station.specs.Verdict.{claim_pairs};
 
 use crate::event::{Outgoing, TargetStamp, To, Told};
 use crate::fault::StationFault;
 use mon_ber::Octets;
 use mon_board::{Board, InstanceSamples};
 use mon_exchange::{Claim, ClaimKind, ClaimRef, Peers, read_claim, write_claim};
-use mon_poller::{Offered, Poller, TimedOut};
+use mon_poller::{Poller, TimedOut};
 use mon_sample::Sample;
 use mon_saved::KeptImage;
 use mon_udp::Addr;
@@ -205,7 +205,18 @@ impl Life {
         match self.poller.response(alloc, from, octets) {
             Ok(offered) => {
                 image.take_pairs(&mut self.board, offered.pairs.as_slice());
-                Ok(tell_taken(alloc, offered))
+                let answered = TargetStamp {
+                    target: offered.target,
+                    boots: offered.boots,
+                    time: offered.time,
+                };
+                Ok(Told {
+                    taken: offered.pairs,
+                    sends: Vec::new(alloc),
+                    noted: None,
+                    given_up: None,
+                    answered: Some(answered),
+                })
             }
             Err(fault) => Err(StationFault::from(fault)),
         }
@@ -354,28 +365,6 @@ fn told_one(alloc: Global, room: Vec<Outgoing>, out: Outgoing) -> Told
         noted: None,
         given_up: None,
         answered: None,
-    }
-}
-
-/// The samples of a response were taken.
-fn tell_taken(alloc: Global, offered: Offered) -> Told
-    ensures taken { result.taken ≡ offered.pairs }
-    ensures sends { result.sends.items ≡ [] }
-    ensures noted { result.noted ≡ None }
-    ensures given_up { result.given_up ≡ None }
-    ensures answered { result.answered ≡ Some (stamp_in offered) }
-{
-    let answered = TargetStamp {
-        target: offered.target,
-        boots: offered.boots,
-        time: offered.time,
-    };
-    Told {
-        taken: offered.pairs,
-        sends: Vec::new(alloc),
-        noted: None,
-        given_up: None,
-        answered: Some(answered),
     }
 }
 

@@ -48,8 +48,8 @@ BUGS = {
     ),
     "an_unknown_peer_is_an_unknown_instance": (
         "src/sharing.rt",
-        "            None => Err(StationFault::Exchange(ExchangeFault::UnknownPeer)),",
-        "            None => Err(StationFault::Exchange(ExchangeFault::UnknownInstance)),",
+        "            return Err(StationFault::Exchange(ExchangeFault::UnknownPeer));",
+        "            return Err(StationFault::Exchange(ExchangeFault::UnknownInstance));",
     ),
     "a_share_with_the_first_slot": (
         "src/sharing.rt",
@@ -521,8 +521,8 @@ BUGS = {
     ),
     "a_refused_response_is_handled": (
         "src/life.rt",
-        "                Ok(tell_taken(alloc, offered))\n            }\n            Err(fault) => Err(StationFault::from(fault)),",
-        "                Ok(tell_taken(alloc, offered))\n            }\n            Err(_) => Ok(told_none(alloc)),",
+        "                    answered: Some(answered),\n                })\n            }\n            Err(fault) => Err(StationFault::from(fault)),",
+        "                    answered: Some(answered),\n                })\n            }\n            Err(_) => Ok(told_none(alloc)),",
     ),
     "each_fault_of_a_claim_is_no_claim": (
         "src/life.rt",
@@ -687,13 +687,13 @@ BUGS = {
     ),
     "each_response_is_of_the_first_target": (
         "src/life.rt",
-        "        target: offered.target,\n        boots",
-        "        target: offered.target & 0,\n        boots",
+        "                    target: offered.target,\n                    boots",
+        "                    target: offered.target & 0,\n                    boots",
     ),
     "a_response_is_of_the_next_target": (
         "src/life.rt",
-        "        target: offered.target,\n        boots",
-        "        target: offered.target ^ 1,\n        boots",
+        "                    target: offered.target,\n                    boots",
+        "                    target: offered.target ^ 1,\n                    boots",
     ),
     "reports_the_time_as_the_boots": (
         "src/life.rt",
@@ -766,7 +766,7 @@ BUGS = {
 PROMISES = {
     "a_response_is_taken_beside_the_image": "life::Life::from_agent",
     "begins_from_nothing": "station::Station::open",
-    "counts_what_it_offers_as_confirmed": "life::Life::share_in",
+    "counts_what_it_offers_as_confirmed": "life::Life::share",
     "forgets_what_is_too_old": "life::Life::take_claim",
     "hands_nothing_to_the_outbox": "station::Station::turn",
     "opens_with_reopen": "station::Station::open",
