@@ -81,14 +81,15 @@ pub fn stops<D: Disk>()
     ensures left { (first : D) (history : List (Happening × D)) → IsHistory D.Disk first history
         → Leaves (D.may_leave (last_disk first history))
         (FindsOneOf (MayFind D.Disk first history)) }
-    ensures undamaged { (first : D) (history : List (Happening × D)) → IsHistory D.Disk first history
+    ensures undamaged { (first : D) (history : List (Happening × D))
+        → IsHistory D.Disk first history
         → is_undamaged (D.seen (last_disk first history)) ≡ true }
     ensures opened { (first disk : D) (past : List (Happening × D)) (w : Setting) (s : State)
         → IsHistory D.Disk first ((Opened w s, disk) ∷ past) → (save : Option State)
         × MayFind D.Disk first past save × GoesOn w save s }
     ensures later { (first disk : D) (past : List (Happening × D)) (w : Setting) (s : State)
-        → IsHistory D.Disk first ((Opened w s, disk) ∷ past) → AllByRecursion (λ life. life.incarnation < s.incarnation)
-        (begun_in past) }
+        → IsHistory D.Disk first ((Opened w s, disk) ∷ past)
+        → AllByRecursion (λ life. life.incarnation < s.incarnation) (begun_in past) }
 {
     mon_saved::laws::one_image();
     mon_saved::laws::read_back();

@@ -9,14 +9,14 @@ ghost use Rattle.mon_saved.specs.Image.{SpellsImage};
 ghost use Rattle.mon_saved.specs.Kept.{IsKept};
 ghost use Rattle.mon_saved.specs.Written.{image_of};
 ghost use Rattle.mon_poller.specs.Verdict.{IsSentAgain, timeout_verdict};
-ghost use Rattle.mon_station.specs.Verdict.{claim_pairs, stamp_in};
+ghost use Rattle.mon_station.specs.Verdict.{claim_pairs};
 
 use crate::event::{Outgoing, TargetStamp, To, Told};
 use crate::fault::StationFault;
 use mon_ber::Octets;
 use mon_board::{Board, InstanceSamples};
 use mon_exchange::{Claim, ClaimKind, ClaimRef, Peers, read_claim, write_claim};
-use mon_poller::{Offered, Poller, TimedOut};
+use mon_poller::{Poller, TimedOut};
 use mon_sample::Sample;
 use mon_saved::KeptImage;
 use mon_udp::Addr;
@@ -63,7 +63,7 @@ impl Life {
     ghost use Rattle.mon_station.specs.Saved.{saved_octets};
     ghost use Rattle.mon_station.specs.State.{state_of};
     ghost use Rattle.mon_station.specs.Step.{IsSettled, left_polls};
-    ghost use Rattle.mon_station.specs.Told.{IsAnswered, confirm_of, confirms, given_up_by, resends, to_peer};
+    ghost use Rattle.mon_station.specs.Told.{IsAnswered, confirms, given_up_by, resends, to_peer};
 
     /// What holds of every state, for the proofs of its callers. It does nothing.
     pub(crate) fn settled(&self)
@@ -205,7 +205,18 @@ impl Life {
         match self.poller.response(alloc, from, octets) {
             Ok(offered) => {
                 image.take_pairs(&mut self.board, offered.pairs.as_slice());
-                Ok(tell_taken(alloc, offered))
+                let answered = TargetStamp {
+                    target: offered.target,
+                    boots: offered.boots,
+                    time: offered.time,
+                };
+                Ok(Told {
+                    taken: offered.pairs,
+                    sends: Vec::new(alloc),
+                    noted: None,
+                    given_up: None,
+                    answered: Some(answered),
+                })
             }
             Err(fault) => Err(StationFault::from(fault)),
         }
@@ -294,32 +305,22 @@ impl Life {
         ensures claims { IfOk result (λ _. AllByRecursion IsClaim
             (confirms (state_of self.now) claim.now.kind claim.now)) }
     {
-        match claim.kind {
-            ClaimKind::Confirm => Ok(Vec::new(alloc)),
-            ClaimKind::Offer => self.confirm_offer(alloc, claim),
-        }
-    }
-
-    /// The confirmation of an offer.
-    fn confirm_offer(&self, alloc: Global, offer: &Claim) -> Result<Vec<Outgoing>, AllocError>
-        requires { IsClaim offer.now }
-        ensures sent { IfOk result (λ sends. sends.items ≡ to_peer offer.now.station
-            (confirm_of (state_of self.now) offer.now) ∷ []) }
-        ensures claim { IfOk result (λ _. IsClaim (confirm_of (state_of self.now) offer.now)) }
-    {
+        let ClaimKind::Offer = claim.kind else {
+            return Ok(Vec::new(alloc));
+        };
         let mut sends = room_for_one(alloc)?;
         let confirm = ClaimRef {
             kind: ClaimKind::Confirm,
             station: self.peers.own(),
             incarnation: self.incarnation,
-            serial: offer.serial,
-            engine: offer.engine.as_slice(),
-            name: &offer.name,
-            samples: offer.samples.as_slice(),
+            serial: claim.serial,
+            engine: claim.engine.as_slice(),
+            name: &claim.name,
+            samples: claim.samples.as_slice(),
         };
         let octets = Octets::new(write_claim(alloc, &confirm)?);
         let out = Outgoing {
-            to: To::Peer(offer.station),
+            to: To::Peer(claim.station),
             octets,
         };
         sends.push(out).unwrap();
@@ -364,28 +365,6 @@ fn told_one(alloc: Global, room: Vec<Outgoing>, out: Outgoing) -> Told
         noted: None,
         given_up: None,
         answered: None,
-    }
-}
-
-/// The samples of a response were taken.
-fn tell_taken(alloc: Global, offered: Offered) -> Told
-    ensures taken { result.taken ≡ offered.pairs }
-    ensures sends { result.sends.items ≡ [] }
-    ensures noted { result.noted ≡ None }
-    ensures given_up { result.given_up ≡ None }
-    ensures answered { result.answered ≡ Some (stamp_in offered) }
-{
-    let answered = TargetStamp {
-        target: offered.target,
-        boots: offered.boots,
-        time: offered.time,
-    };
-    Told {
-        taken: offered.pairs,
-        sends: Vec::new(alloc),
-        noted: None,
-        given_up: None,
-        answered: Some(answered),
     }
 }
 

@@ -2,7 +2,6 @@
 
 ghost use Rattle.std.specs.Prelude.{◌≡◌, ◌≤◌, ◌<◌, Some, All, IfOk, OnErr, length, map};
 ghost use Rattle.mon_exchange.specs.Claim.{IsClaim};
-ghost use Rattle.mon_exchange.specs.Peers.{peer_slot};
 ghost use Rattle.mon_exchange.specs.Portions.{IsPortion};
 ghost use Rattle.mon_window.specs.Top.{rising};
 ghost use Rattle.mon_station.specs.State.{owed_below, owed_to, serial_past};
@@ -33,24 +32,9 @@ impl Life {
     {
         // Proof: the invariants of the state.
         self.settled();
-        match self.peers.slot(peer) {
-            Some(slot) => self.share_in(alloc, peer, slot),
-            None => Err(StationFault::Exchange(ExchangeFault::UnknownPeer)),
-        }
-    }
-
-    /// Offers the peer in this slot what it is owed.
-    fn share_in(&mut self, alloc: Global, peer: u32, slot: u8) -> Result<Told, StationFault>
-        requires slot { Some slot ≡ peer_slot self.old.peers.peers peer }
-        requires small { slot < 15 }
-        ensures board { self.new.board ≡ self.old.board }
-        ensures answered { IsAnswered (state_of self.old) (state_of self.new) (read.Share peer)
-            result }
-        ensures few { IfOk result (λ told. length told.sends.items ≤ 512) }
-        ensures refused { OnErr result (state_of self.new ≡ state_of self.old) }
-    {
-        // Proof: the invariants of the state.
-        self.settled();
+        let Some(slot) = self.peers.slot(peer) else {
+            return Err(StationFault::Exchange(ExchangeFault::UnknownPeer));
+        };
         let portions = portions(alloc, &self.board, slot)?;
         let (sends, serial) = self.offers(alloc, peer, portions.as_slice())?;
         self.serial = serial;

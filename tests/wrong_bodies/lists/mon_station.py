@@ -38,18 +38,18 @@ BUGS = {
     ),
     "a_confirmation_to_itself": (
         "src/life.rt",
-        "            to: To::Peer(offer.station),",
+        "            to: To::Peer(claim.station),",
         "            to: To::Peer(self.peers.own()),",
     ),
     "a_confirmation_is_confirmed": (
         "src/life.rt",
-        "            ClaimKind::Confirm => Ok(Vec::new(alloc)),",
-        "            ClaimKind::Confirm => self.confirm_offer(alloc, claim),",
+        "        let ClaimKind::Offer = claim.kind else {\n            return Ok(Vec::new(alloc));\n        };\n",
+        "",
     ),
     "an_unknown_peer_is_an_unknown_instance": (
         "src/sharing.rt",
-        "            None => Err(StationFault::Exchange(ExchangeFault::UnknownPeer)),",
-        "            None => Err(StationFault::Exchange(ExchangeFault::UnknownInstance)),",
+        "            return Err(StationFault::Exchange(ExchangeFault::UnknownPeer));",
+        "            return Err(StationFault::Exchange(ExchangeFault::UnknownInstance));",
     ),
     "a_share_with_the_first_slot": (
         "src/sharing.rt",
@@ -183,8 +183,8 @@ BUGS = {
     ),
     "confirms_nothing": (
         "src/life.rt",
-        "            ClaimKind::Offer => self.confirm_offer(alloc, claim),",
-        "            ClaimKind::Offer => Ok(Vec::new(alloc)),",
+        "        Ok(sends)",
+        "        let _ = sends;\n        Ok(Vec::new(alloc))",
     ),
     "shows_a_failed_disk_as_refused": (
         "src/running.rt",
@@ -200,7 +200,7 @@ BUGS = {
     ),
     "confirms_under_its_own_serial": (
         "src/life.rt",
-        "            serial: offer.serial,",
+        "            serial: claim.serial,",
         "            serial: self.serial,",
     ),
     "offers_to_itself": (
@@ -469,10 +469,10 @@ BUGS = {
     ),
     "forgets_what_is_too_old": (
         "src/life.rt",
-        "ClaimKind::Offer => self.confirm_offer(alloc, claim),",
-        "ClaimKind::Offer => if self.is_too_old(claim) { Ok(Vec::new(alloc)) } else { self.confirm_offer(alloc, claim) },",
-        "/// The confirmation of an offer.",
-        "fn is_too_old(&self, claim: &Claim) -> bool { let Some(number) = self.board.find(claim.engine.as_slice(), &claim.name) else { return false; }; let items = self.board.items(number); if items.len() < self.board.watch().instances()[usize::from(number)].window { return false; } let Some(oldest) = items.first() else { return false; }; match claim.samples.as_slice().last() { Some(newest) => newest.compare(oldest).is_lt(), None => false } } /// The confirmation of an offer.",
+        "        let mut sends = room_for_one(alloc)?;",
+        "        if self.is_too_old(claim) { return Ok(Vec::new(alloc)); }\n        let mut sends = room_for_one(alloc)?;",
+        "/// The confirmation of a claim, where it is an offer.",
+        "fn is_too_old(&self, claim: &Claim) -> bool { let Some(number) = self.board.find(claim.engine.as_slice(), &claim.name) else { return false; }; let items = self.board.items(number); if items.len() < self.board.watch().instances()[usize::from(number)].window { return false; } let Some(oldest) = items.first() else { return false; }; match claim.samples.as_slice().last() { Some(newest) => newest.compare(oldest).is_lt(), None => false } } /// The confirmation of a claim, where it is an offer.",
     ),
     "hands_nothing_to_the_outbox": (
         "src/running.rt",
@@ -521,8 +521,8 @@ BUGS = {
     ),
     "a_refused_response_is_handled": (
         "src/life.rt",
-        "                Ok(tell_taken(alloc, offered))\n            }\n            Err(fault) => Err(StationFault::from(fault)),",
-        "                Ok(tell_taken(alloc, offered))\n            }\n            Err(_) => Ok(told_none(alloc)),",
+        "                    answered: Some(answered),\n                })\n            }\n            Err(fault) => Err(StationFault::from(fault)),",
+        "                    answered: Some(answered),\n                })\n            }\n            Err(_) => Ok(told_none(alloc)),",
     ),
     "each_fault_of_a_claim_is_no_claim": (
         "src/life.rt",
@@ -531,7 +531,7 @@ BUGS = {
     ),
     "confirms_without_the_samples": (
         "src/life.rt",
-        "            samples: offer.samples.as_slice(),",
+        "            samples: claim.samples.as_slice(),",
         "            samples: &[],",
     ),
     "offers_nothing_where_memory_is_refused": (
@@ -687,13 +687,13 @@ BUGS = {
     ),
     "each_response_is_of_the_first_target": (
         "src/life.rt",
-        "        target: offered.target,\n        boots",
-        "        target: offered.target & 0,\n        boots",
+        "                    target: offered.target,\n                    boots",
+        "                    target: offered.target & 0,\n                    boots",
     ),
     "a_response_is_of_the_next_target": (
         "src/life.rt",
-        "        target: offered.target,\n        boots",
-        "        target: offered.target ^ 1,\n        boots",
+        "                    target: offered.target,\n                    boots",
+        "                    target: offered.target ^ 1,\n                    boots",
     ),
     "reports_the_time_as_the_boots": (
         "src/life.rt",
@@ -766,7 +766,7 @@ BUGS = {
 PROMISES = {
     "a_response_is_taken_beside_the_image": "life::Life::from_agent",
     "begins_from_nothing": "station::Station::open",
-    "counts_what_it_offers_as_confirmed": "life::Life::share_in",
+    "counts_what_it_offers_as_confirmed": "life::Life::share",
     "forgets_what_is_too_old": "life::Life::take_claim",
     "hands_nothing_to_the_outbox": "station::Station::turn",
     "opens_with_reopen": "station::Station::open",

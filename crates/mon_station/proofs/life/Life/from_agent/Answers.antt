@@ -1,4 +1,4 @@
-use Rattle.std.proofs.Common.{◌≡◌, ◌<◌, ℕ, List, Result, Err, length, sym, subst, ◌∙◌}
+use Rattle.std.proofs.Common.{◌≡◌, ◌<◌, ℕ, List, Result, Err, length, refl, sym, subst, ◌∙◌}
 use Rattle.mon_station.specs.declared.event.Told.{Told}
 use Rattle.mon_station.specs.declared.fault.StationFault.{StationFault}
 use Rattle.std.specs.List.{All}
@@ -16,10 +16,9 @@ take_pairs-requires-clause-instances c =
 
 pub returns-in-Ok-clause-answered : goal.returns-in-Ok-clause-answered
 returns-in-Ok-clause-answered c = λ r reads.
-    let told = c.tell_taken.ensures in
     let taken = c.take_pairs.ensures in
-    response_taken (state_of c.args.self.now) c.settled.ensures.settled c.args.from r c.in-Ok.offered _ c.take_pairs.new.board c.tell_taken.result c.as_slice.result.now
-    (c.in-Ok.ensures.verdict r reads) (c.in-Ok.ensures.polls r reads) c.as_slice.ensures taken.watch taken.windows taken.marks told.taken told.sends told.noted told.given_up told.answered
+    response_taken (state_of c.args.self.now) c.settled.ensures.settled c.args.from r c.in-Ok.offered _ c.take_pairs.new.board _ c.as_slice.result.now
+    (c.in-Ok.ensures.verdict r reads) (c.in-Ok.ensures.polls r reads) c.as_slice.ensures taken.watch taken.windows taken.marks refl c.new.ensures.items refl refl refl
 
 pub returns-in-Err-clause-answered : goal.returns-in-Err-clause-answered
 returns-in-Err-clause-answered c = λ r reads.
