@@ -105,33 +105,19 @@ impl Troubles {
             others.items freshness.now) }
         ensures kept { OnErr result (told_by self.new ≡ told_by self.old) }
     {
-        let now = self.after(alloc, freshness, others, limit)?;
-        let changes = self.changes_to(alloc, &now)?;
-        *self = now;
-        Ok(changes)
-    }
-
-    /// Returns what is wrong now, where this was said before.
-    fn after(
-        &self,
-        alloc: Global,
-        freshness: &Freshness,
-        others: Vec<Option<Octets>>,
-        limit: u32,
-    ) -> Result<Self, AllocError>
-        ensures { IfOk result (λ t. told_by t ≡ troubles_after limit (told_by self.now) others.items
-            freshness.now) }
-    {
         let (targets, peers) = (freshness.targets(), freshness.peers());
         let said = self.stale_instances.as_slice();
-        Ok(Troubles {
+        let now = Troubles {
             silent_targets: silent_targets(alloc, targets)?,
             other_engines: others,
             late_targets: late_targets(alloc, targets)?,
             silent_peers: silent_peers(alloc, peers, limit)?,
             often_peers: often_peers(alloc, peers)?,
             stale_instances: stale_instances(alloc, freshness, said, limit)?,
-        })
+        };
+        let changes = self.changes_to(alloc, &now)?;
+        *self = now;
+        Ok(changes)
     }
 
     /// Returns what changed from this to what is wrong now.

@@ -1,7 +1,7 @@
 //! When agents restarted, by the stamps of their responses.
 
 ghost use Rattle.std.specs.Prelude.{◌≡◌};
-ghost use Rattle.mon_rounds.specs.Clock.{clock_after, clock_by, greatest_after, no_clock, restart_after};
+ghost use Rattle.mon_rounds.specs.Clock.{clock_after, clock_by, no_clock, restart_after};
 
 use mon_station::TargetStamp;
 
@@ -67,19 +67,11 @@ fn clock_by(clock: Clock, number: u16, stamp: TargetStamp) -> Clock
     }
     Clock {
         last: Some(stamp),
-        greatest: greatest_after(clock.last, clock.greatest, stamp),
+        greatest: match clock.last {
+            Some(last) if last.boots == stamp.boots => clock.greatest.max(stamp.time),
+            _ => stamp.time,
+        },
         restart: restart_after(clock, stamp),
-    }
-}
-
-/// Returns the greatest time with the boots of a stamp, after the last stamp and the greatest time
-/// with its boots.
-fn greatest_after(last: Option<TargetStamp>, greatest: u32, stamp: TargetStamp) -> u32
-    ensures { result ≡ greatest_after last greatest stamp }
-{
-    match last {
-        Some(last) if last.boots == stamp.boots => greatest.max(stamp.time),
-        _ => stamp.time,
     }
 }
 

@@ -2,7 +2,7 @@
 
 ghost use Rattle.std.specs.Prelude.{◌≡◌, ◌≤◌, IfOk, None, false, get_or, length, map};
 ghost use Rattle.mon_rounds.specs.Totals.{counted_on};
-ghost use Rattle.mon_rounds.specs.Freshness.{age_after, gave_up_by, has_answered, instance_after, instance_with, is_late, is_same, last_refusal, length_after, new_instance, new_instances, new_peer, new_target, newest_on, numbered, older, overruns_after, peer_after, refusal_after, seconds_since, target_after, target_with, up_after};
+ghost use Rattle.mon_rounds.specs.Freshness.{age_after, gave_up_by, has_answered, instance_after, instance_with, is_late, is_same, last_refusal, length_after, new_instance, new_instances, new_peer, new_target, newest_on, numbered, older, overruns_after, peer_after, refusal_after, seconds_since, target_after, target_with};
 
 use crate::addresses::Addresses;
 use crate::clock::{Clock, clock_after};
@@ -396,7 +396,10 @@ fn target_after(target: TargetAge, spell: Spell, report: &RoundReport) -> Target
     let notices = report.notices.as_slice();
     let given_up = count_given_up(notices, target.number);
     TargetAge {
-        up: is_up_after(spell.span, answered, target.up),
+        up: match spell.span {
+            Span::Round => answered,
+            Span::Between(_) => answered || target.up,
+        },
         rounds: age_after(spell.span, answered, target.rounds),
         answered: if answered {
             spell.ended
@@ -420,16 +423,6 @@ fn has_answered(answered: &[TargetStamp], number: u16) -> bool
     ensures { result ≡ has_answered number answered.now }
 {
     answered.iter().any(|stamp| stamp.target == number)
-}
-
-/// Returns `true` if the last poll was answered.
-fn is_up_after(span: Span, answered: bool, up: bool) -> bool
-    ensures { result ≡ up_after span answered up }
-{
-    match span {
-        Span::Round => answered,
-        Span::Between(_) => answered || up,
-    }
 }
 
 /// An age after a round, or the time after it: 0 if there was something new.

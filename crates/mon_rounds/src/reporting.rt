@@ -1,7 +1,7 @@
 //! What is reported of a round to an operator.
 
 ghost use Rattle.std.specs.Prelude.{◌≡◌, ◌++◌, IfOk, OnOk, map};
-ghost use Rattle.mon_rounds.specs.Noted.{answered_of, gave_up, heard_from, heard_of, unsaved, notice_of, notices_of, refusal_of, samples_taken, strangers_in, told_of};
+ghost use Rattle.mon_rounds.specs.Noted.{answered_of, gave_up, heard_from, heard_of, unsaved, notices_of, refusal_of, samples_taken, strangers_in, told_of};
 ghost use Rattle.mon_rounds.specs.Order.{datagrams_in};
 
 use crate::round::{Round, RoundEvent};
@@ -244,7 +244,7 @@ fn notices_of(alloc: Global, round: &Round, answers: &[Answer]) -> Result<Vec<No
     Ok(notices)
 }
 
-/// Adds the notice of an event with this answer.
+/// Adds the notice of an event with this answer, if there is one.
 fn put_notice(
     round: &Round,
     notices: &mut Vec<Notice>,
@@ -254,21 +254,15 @@ fn put_notice(
     ensures { OnOk result (notices.new.items ≡ notices.old.items
         ++ told_of round.now.targets event answer) }
 {
-    if let Some(notice) = notice_of(round, event, answer) {
-        notices.push(notice)?;
-    }
-    Ok(())
-}
-
-/// Returns the notice of an event with this answer, if there is one.
-fn notice_of(round: &Round, event: RoundEvent, answer: Answer) -> Option<Notice>
-    ensures { result ≡ notice_of round.now.targets event answer }
-{
-    match answer {
+    let notice = match answer {
         Answer::Handled { .. } => None,
         Answer::GaveUp(target) => Some(Notice::GaveUp(target)),
         Answer::Memory => Some(Notice::NoMemory(event)),
         Answer::Refused(fault) => refused(round, event, fault),
         Answer::Keeper(number) => Some(Notice::NotSaved(number)),
+    };
+    if let Some(notice) = notice {
+        notices.push(notice)?;
     }
+    Ok(())
 }

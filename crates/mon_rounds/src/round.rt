@@ -4,7 +4,7 @@ ghost use Rattle.std.specs.Prelude.{◌≡◌, ◌≤◌, ◌<◌, ◌+◌, ◌-
 ghost use Rattle.mon_rounds.specs.Given.{with_octets};
 ghost use Rattle.mon_rounds.specs.Kept.{most_kept};
 ghost use Rattle.mon_rounds.specs.Orderly.{IsSaving, IsSharing, IsTiming, begun, unbegun};
-ghost use Rattle.mon_rounds.specs.Next.{after_datagram, after_event, after_failure, after_polls, event_from, is_hearing, is_taken, may_time_out, must_receive, next_event, next_wait, save_if, settled, share_at, slot_after, stands_in, timed_out, turns_left};
+ghost use Rattle.mon_rounds.specs.Next.{after_datagram, after_event, after_failure, after_polls, event_from, may_time_out, must_receive, next_event, next_wait, save_if, settled, share_at, slot_after, stands_in, timed_out, turns_left};
 ghost use Rattle.mon_rounds.specs.Order.{AreSoFar, datagrams_in};
 
 use crate::addresses::Addresses;
@@ -275,15 +275,25 @@ impl Round {
     }
 
     /// Returns the wait in which a datagram must be received next, if one must be. It is given what
-    /// became of the last event: only a datagram that was taken renews a wait.
+    /// became of the last event: only a datagram that was taken renews a wait, as it was handled or
+    /// ended its poll.
     pub(crate) fn next_wait(&self, last: Option<Answer>) -> Option<Wait>
         ensures { result ≡ next_wait self.now last }
     {
-        if !is_hearing(self.phase) || self.datagrams == 0 || self.failures == 0 {
+        let is_hearing = matches!(
+            self.phase,
+            Phase::AwaitResponses | Phase::AwaitConfirmations | Phase::BetweenRounds
+        );
+        if !is_hearing || self.datagrams == 0 || self.failures == 0 {
             return None;
         }
+        let is_taken = match last {
+            Some(Answer::Handled { .. }) => true,
+            Some(Answer::Refused(StationFault::Response(fault))) => fault.number() > LAST_STRAY,
+            _ => false,
+        };
         match self.wait {
-            Wait::Renew if !is_taken(last) => Some(Wait::Rest),
+            Wait::Renew if !is_taken => Some(Wait::Rest),
             wait => Some(wait),
         }
     }
@@ -458,27 +468,5 @@ impl Round {
         self.phase = Phase::Over;
         self.events.push_reserved(RoundEvent::Save);
         Some(OwnedEvent::Save)
-    }
-}
-
-/// Returns `true` if datagrams are received in a phase.
-fn is_hearing(phase: Phase) -> bool
-    ensures { result ≡ is_hearing phase }
-{
-    match phase {
-        Phase::AwaitResponses | Phase::AwaitConfirmations | Phase::BetweenRounds => true,
-        Phase::Polling(_) | Phase::TimingOut(_) | Phase::Sharing(_) | Phase::Over | Phase::Rested =>
-            false,
-    }
-}
-
-/// Returns `true` if a datagram with this answer was taken: it was handled, or ended its poll.
-fn is_taken(last: Option<Answer>) -> bool
-    ensures { result ≡ is_taken last }
-{
-    match last {
-        Some(Answer::Handled { .. }) => true,
-        Some(Answer::Refused(StationFault::Response(fault))) => fault.number() > LAST_STRAY,
-        _ => false,
     }
 }

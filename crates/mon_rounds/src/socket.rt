@@ -44,22 +44,7 @@ impl<'a, R: Ticks, S: Receives> SocketReceiver<'a, R, S> {
 }
 
 impl<R: Ticks, S: Receives> SocketReceiver<'_, R, S> {
-    /// Begins a wait, renews it, or goes on with it.
-    fn begin(&mut self, wait: Wait) -> io::Result<()>
-        ensures wait { OnOk result (IsTimed (R.told self.old.waiting.rt.now
-            self.old.waiting.timer.quiet) wait self.old.waiting.timer self.new.waiting.timer) }
-        ensures rt { self.new.waiting.rt ≡ self.old.waiting.rt }
-        ensures socket { self.new.socket ≡ self.old.socket }
-        ensures buffer { self.new.buffer ≡ self.old.buffer }
-    {
-        match wait {
-            Wait::Begin(milliseconds) => self.waiting.begin(milliseconds),
-            Wait::Renew => self.waiting.renew(),
-            Wait::Rest => Ok(()),
-        }
-    }
-
-    /// Receives something in this wait.
+    /// Begins a wait, renews it, or goes on with it, and receives something in it.
     fn receive_in(&mut self, wait: Wait) -> Result<Arrival, ReceiverFault>
         ensures wait { OnOk result (IsTimed (R.told self.old.waiting.rt.now
             self.old.waiting.timer.quiet) wait self.old.waiting.timer self.new.waiting.timer) }
@@ -68,7 +53,12 @@ impl<R: Ticks, S: Receives> SocketReceiver<'_, R, S> {
             (S.received self.old.socket.now) self.new.buffer.items self.new.waiting.timer) }
         ensures buffer { length self.new.buffer.items ≡ length self.old.buffer.items }
     {
-        if self.begin(wait).is_err() {
+        let begun = match wait {
+            Wait::Begin(milliseconds) => self.waiting.begin(milliseconds),
+            Wait::Renew => self.waiting.renew(),
+            Wait::Rest => Ok(()),
+        };
+        if begun.is_err() {
             return Err(ReceiverFault);
         }
         match self
@@ -182,16 +172,6 @@ impl<'a, S: Sends> SocketOutbox<'a, S> {
         }
     }
 
-    /// Where what is sent to a target or a peer goes.
-    fn address_of(&self, to: To) -> Option<Addr>
-        ensures { result ≡ goes_to self.now.addresses to }
-    {
-        match to {
-            To::Target(number) => self.addresses.target(number),
-            To::Peer(station) => self.addresses.peer(station),
-        }
-    }
-
     /// Sends a datagram to where it goes.
     fn put(&self, out: &Outgoing) -> Result<(), OutboxFault>
         ensures nowhere { goes_to self.now.addresses out.now.to ≡ None → IsErr result }
@@ -199,7 +179,11 @@ impl<'a, S: Sends> SocketOutbox<'a, S> {
         ensures sent { OnOk result (IsSentTo (S.sent self.now.socket.now)
             (goes_to self.now.addresses out.now.to) out.now.octets) }
     {
-        let Some(to) = self.address_of(out.to) else {
+        let to = match out.to {
+            To::Target(number) => self.addresses.target(number),
+            To::Peer(station) => self.addresses.peer(station),
+        };
+        let Some(to) = to else {
             return Err(OutboxFault);
         };
         self.socket

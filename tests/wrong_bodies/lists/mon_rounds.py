@@ -498,8 +498,8 @@ BUGS = {
     ),
     "down_in_the_time_between": (
         "src/freshness.rt",
-        "        Span::Between(_) => answered || up,",
-        "        Span::Between(_) => answered,",
+        "            Span::Between(_) => answered || target.up,",
+        "            Span::Between(_) => answered,",
     ),
     "a_change_is_said_again": (
         "src/changes.rt",
@@ -818,8 +818,8 @@ BUGS = {
     ),
     "forgets_the_second_hearing": (
         "src/round.rt",
-        "        Phase::AwaitResponses | Phase::AwaitConfirmations | Phase::BetweenRounds => true,\n        Phase::Polling(_) | ",
-        "        Phase::AwaitResponses | Phase::BetweenRounds => true,\n        Phase::AwaitConfirmations | Phase::Polling(_) | ",
+        "            Phase::AwaitResponses | Phase::AwaitConfirmations | Phase::BetweenRounds\n        );",
+        "            Phase::AwaitResponses | Phase::BetweenRounds\n        );",
     ),
     "a_wait_goes_on_after_a_timeout": (
         "src/round.rt",
@@ -828,12 +828,12 @@ BUGS = {
     ),
     "every_datagram_renews_a_wait": (
         "src/round.rt",
-        "            Wait::Renew if !is_taken(last) => Some(Wait::Rest),\n",
+        "            Wait::Renew if !is_taken => Some(Wait::Rest),\n",
         "",
     ),
     "no_datagram_renews_a_wait": (
         "src/round.rt",
-        "            Wait::Renew if !is_taken(last) => Some(Wait::Rest),",
+        "            Wait::Renew if !is_taken => Some(Wait::Rest),",
         "            Wait::Renew => Some(Wait::Rest),",
     ),
     "a_refused_response_renews_a_wait": (
@@ -863,8 +863,8 @@ BUGS = {
     ),
     "the_first_event_renews_a_wait": (
         "src/round.rt",
-        "        _ => false,\n    }\n}\n",
-        "        None => true,\n        _ => false,\n    }\n}\n",
+        "            _ => false,\n        };\n        match self.wait {\n",
+        "            None => true,\n            _ => false,\n        };\n        match self.wait {\n",
     ),
     "a_rest_is_prolonged": (
         "src/round.rt",
@@ -1210,13 +1210,13 @@ BUGS = {
     ),
     "too_old_until_the_last_time": (
         "src/clock.rt",
-        "        Some(last) if last.boots == stamp.boots => greatest.max(stamp.time),",
-        "        Some(last) if last.boots == stamp.boots => stamp.time,",
+        "            Some(last) if last.boots == stamp.boots => clock.greatest.max(stamp.time),",
+        "            Some(last) if last.boots == stamp.boots => stamp.time,",
     ),
     "too_old_until_a_time_of_other_boots": (
         "src/clock.rt",
-        "        Some(last) if last.boots == stamp.boots => greatest.max(stamp.time),",
-        "        Some(_) => greatest.max(stamp.time),",
+        "            Some(last) if last.boots == stamp.boots => clock.greatest.max(stamp.time),",
+        "            Some(_) => clock.greatest.max(stamp.time),",
     ),
     "a_restart_with_greater_boots_is_too_old": (
         "src/clock.rt",
@@ -1243,7 +1243,7 @@ PROMISES = {
     "begins_a_round_before_it_lends_the_receiver": "source::Rounds::receiver_mut",
     "counts_each_spell_of_a_peer": "freshness::peer_after",
     "every_datagram_renews_a_wait": "round::Round::next_wait",
-    "a_refused_response_renews_a_wait": "round::is_taken",
+    "a_refused_response_renews_a_wait": "round::Round::next_wait",
     "times_out_the_oldest_poll_alone": "round::Round::settle",
     "as_many_quiet_waits_as_there_are_timeouts": "round::Round::time_out",
     "a_quiet_wait_ends_the_polls": "round::Round::time_out",
@@ -1251,6 +1251,6 @@ PROMISES = {
     "a_round_that_does_not_save_ends_without_its_shares": "round::Round::time_out",
     "each_round_saves_as_the_one_before": "round::Round::begin",
     "forgets_what_became_of_the_last_event": "source::Rounds::give",
-    "begins_no_wait_at_the_socket": "socket::SocketReceiver::begin",
+    "begins_no_wait_at_the_socket": "socket::SocketReceiver::receive_in",
     "sends_without_a_call": "socket::SocketOutbox::put",
 }
