@@ -1,13 +1,13 @@
 //! A report as JSON.
 
-ghost use Rattle.std.specs.Prelude.{◌≡◌, ◌≤◌, ◌∷◌, ◌++◌, [], IfOk, IfSome, List, OnOk, codes, false, map, option_map, slice_get, true, ℕ};
+ghost use Rattle.std.specs.Prelude.{◌≡◌, ◌≤◌, ◌∷◌, ◌++◌, [], IfOk, IfSome, List, OnOk, codes, false, map, option_map, true, ℕ};
 ghost use Rattle.hex.specs.Hex.{encode_lower};
 ghost use Rattle.serde_json.specs.Data.{Members, array, depth, member, no_members, object, put as with_member, string};
 ghost use Rattle.serde_json.specs.Read.{max_depth};
 ghost use Rattle.serde_json.specs.View.{view, items_of, members_view};
 ghost use Rattle.serde_json.specs.Written.{comma_if, compact_text, has_float, items_text, members_text};
 ghost use Rattle.mon_page.specs.Cells.{fresh_rate};
-ghost use Rattle.mon_page.specs.Freshness.{fresh_at, is_fresh};
+ghost use Rattle.mon_page.specs.Freshness.{fresh_at};
 ghost use Rattle.mon_formats.specs.Json.{exact, exact_signed, sample_data, raised_data, alarm_data, exact_or_null, totals_data, age_data, debt_data, target_data, refusal_data, station_data, station_member, or_fresh, fresh_alarms, with_stale, entry_data, entries_data, report_data, json_report, ReadsAsReport};
 ghost use Rattle.mon_formats.specs.Sound.{IsSound};
 

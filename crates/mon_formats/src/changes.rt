@@ -1,15 +1,13 @@
 //! The line of an alarm that changed.
 
-ghost use Rattle.std.specs.Prelude.{◌≡◌, ◌++◌, ◌≤ℤ◌, ◌^◌, pos, None, Some, IfOk, IfSome, OnOk, option_copied, option_map, slice_get, string_bytes};
+ghost use Rattle.std.specs.Prelude.{◌≡◌, ◌++◌, ◌≤ℤ◌, ◌^◌, pos, Some, IfOk, IfSome, OnOk, option_copied, option_map, string_bytes};
 ghost use Rattle.std.specs.Int.Signed.{le_z};
 ghost use Rattle.std.specs.List.{find};
 ghost use Rattle.hex.specs.Hex.{encode_lower};
 ghost use Rattle.mon_alarms.specs.Observed.{observations_from, observed, rate_from};
-ghost use Rattle.mon_board.specs.Board.{window_of};
 ghost use Rattle.mon_display.specs.Rate.{rate_text};
-ghost use Rattle.mon_formats.specs.Changes.{change_line, device_of, device_or, event_end, event_word, fraction_text, instance_text, interface_of, interface_or, is_at, is_by, is_octets, level_by, limit_of, limit_text, line_at, line_on, measure_of, measured, number_text, object_of, subject_text, thousandths_text, value_text, values_text};
+ghost use Rattle.mon_formats.specs.Changes.{change_line, device_of, event_end, event_word, fraction_text, instance_text, interface_of, is_at, is_by, is_octets, level_by, limit_of, limit_text, line_on, measure_of, measured, number_text, object_of, subject_text, thousandths_text, value_text, values_text};
 ghost use Rattle.mon_page.specs.Cells.{newest_of};
-ghost use Rattle.mon_window.specs.Top.{rising};
 
 use crate::prometheus::instance::{at_first_dot, is_in_numbers};
 use mon_alarms::{AlarmChange, AlarmEvent, Rule};
