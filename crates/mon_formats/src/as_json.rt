@@ -1,13 +1,13 @@
 //! A report as JSON.
 
-ghost use Rattle.std.specs.Prelude.{◌≡◌, ◌≤◌, ◌∷◌, ◌++◌, [], IfOk, IfSome, List, OnOk, codes, false, map, option_map, slice_get, true, ℕ};
+ghost use Rattle.std.specs.Prelude.{◌≡◌, ◌≤◌, ◌∷◌, ◌++◌, [], IfOk, IfSome, List, OnOk, codes, false, map, option_map, true, ℕ};
 ghost use Rattle.hex.specs.Hex.{encode_lower};
 ghost use Rattle.serde_json.specs.Data.{Members, array, depth, member, no_members, object, put as with_member, string};
 ghost use Rattle.serde_json.specs.Read.{max_depth};
 ghost use Rattle.serde_json.specs.View.{view, items_of, members_view};
 ghost use Rattle.serde_json.specs.Written.{comma_if, compact_text, has_float, items_text, members_text};
 ghost use Rattle.mon_page.specs.Cells.{fresh_rate};
-ghost use Rattle.mon_page.specs.Freshness.{fresh_at, is_fresh};
+ghost use Rattle.mon_page.specs.Freshness.{fresh_at};
 ghost use Rattle.mon_formats.specs.Json.{exact, exact_signed, sample_data, raised_data, alarm_data, exact_or_null, totals_data, age_data, debt_data, target_data, refusal_data, station_data, station_member, or_fresh, fresh_alarms, with_stale, entry_data, entries_data, report_data, json_report, ReadsAsReport};
 ghost use Rattle.mon_formats.specs.Sound.{IsSound};
 
@@ -124,17 +124,9 @@ fn put_instances<S: NameTexts>(
 fn fresh_at(station: Option<&Figures>, place: usize) -> Option<bool>
     ensures { result ≡ fresh_at (option_map (λ f. f.now) station.entry) place }
 {
-    match station {
-        None => None,
-        Some(figures) => Some(is_fresh_in(figures, place)),
-    }
-}
-
-/// Returns `true` if the instance at this place is fresh.
-fn is_fresh_in(figures: &Figures, place: usize) -> bool
-    ensures { result ≡ is_fresh figures.now.stale_after (slice_get figures.now.ages.items place) }
-{
-    is_fresh(figures.stale_after, figures.ages.get(place).copied())
+    let figures = station?;
+    let age = figures.ages.get(place).copied();
+    Some(is_fresh(figures.stale_after, age))
 }
 
 /// Adds an instance, after a comma if another precedes it.
@@ -619,24 +611,11 @@ fn rate_value(alloc: Global, entry: &Entry, fresh: bool) -> Result<Value, AllocE
 fn totals_value(alloc: Global, entry: &Entry) -> Result<Value, AllocError>
     ensures { IfOk result (λ v. view v ≡ totals_data entry.now.items) }
 {
-    let mut members = Map::new(alloc);
-    put_totals(alloc, &mut members, entry)?;
-    Ok(Value::Object(members))
-}
-
-/// Puts the totals of an instance into an object without members.
-fn put_totals(
-    alloc: Global,
-    members: &mut Map<String, Value>,
-    entry: &Entry,
-) -> Result<(), AllocError>
-    requires { members_view members.old.entries ≡ no_members }
-    ensures { OnOk result (object (members_view members.new.entries)
-        ≡ totals_data entry.now.items) }
-{
     let totals = entry.totals();
-    put_exact(alloc, members, "delta", totals.delta)?;
-    put_exact(alloc, members, "span", u128::from(totals.span))
+    let mut members = Map::new(alloc);
+    put_exact(alloc, &mut members, "delta", totals.delta)?;
+    put_exact(alloc, &mut members, "span", u128::from(totals.span))?;
+    Ok(Value::Object(members))
 }
 
 /// A whole number with its sign: as a number up to 2^53 on either side of 0, else as a text.

@@ -1,15 +1,13 @@
 //! The line of an alarm that changed.
 
-ghost use Rattle.std.specs.Prelude.{◌≡◌, ◌++◌, ◌≤ℤ◌, ◌^◌, pos, None, Some, IfOk, IfSome, OnOk, option_copied, option_map, slice_get, string_bytes};
+ghost use Rattle.std.specs.Prelude.{◌≡◌, ◌++◌, ◌≤ℤ◌, ◌^◌, pos, Some, IfOk, IfSome, OnOk, option_copied, option_map, string_bytes};
 ghost use Rattle.std.specs.Int.Signed.{le_z};
 ghost use Rattle.std.specs.List.{find};
 ghost use Rattle.hex.specs.Hex.{encode_lower};
 ghost use Rattle.mon_alarms.specs.Observed.{observations_from, observed, rate_from};
-ghost use Rattle.mon_board.specs.Board.{window_of};
 ghost use Rattle.mon_display.specs.Rate.{rate_text};
-ghost use Rattle.mon_formats.specs.Changes.{change_line, device_of, device_or, event_end, event_word, fraction_text, instance_text, interface_of, interface_or, is_at, is_by, is_octets, level_by, limit_of, limit_text, line_at, line_on, measure_of, measured, number_text, object_of, subject_text, thousandths_text, value_text, values_text};
+ghost use Rattle.mon_formats.specs.Changes.{change_line, device_of, event_end, event_word, fraction_text, instance_text, interface_of, is_at, is_by, is_octets, level_by, limit_of, limit_text, line_on, measure_of, measured, number_text, object_of, subject_text, thousandths_text, value_text, values_text};
 ghost use Rattle.mon_page.specs.Cells.{newest_of};
-ghost use Rattle.mon_window.specs.Top.{rising};
 
 use crate::prometheus::instance::{at_first_dot, is_in_numbers};
 use mon_alarms::{AlarmChange, AlarmEvent, Rule};
@@ -67,11 +65,21 @@ pub fn alarm_line<S: NameTexts>(
     let Some(rule) = board.watch().rules().get(change.rule) else {
         return Ok(String::new(alloc));
     };
+    let number = rule.instance();
+    let place = usize::from(number);
+    let Some(watched) = board.watch().instances().get(place) else {
+        return Ok(String::new(alloc));
+    };
+    let subject = Subject {
+        instance: &watched.instance,
+        labels: labels.get(place),
+        samples: board.items(number),
+    };
     let turn = Turn {
         rule,
         event: change.event,
     };
-    turn_line(alloc, names, board, labels, turn)
+    line_on(alloc, names, subject, turn)
 }
 
 /// Returns an instance's engine id in hex digits, a blank and its name.
@@ -111,31 +119,6 @@ fn put_engine(alloc: Global, text: &mut String, engine: &[u8]) -> Result<(), All
 {
     let digits = hex::encode(alloc, engine)?;
     text.push_str(digits.as_str())
-}
-
-/// Returns the line of what became of the alarm of a rule of a board.
-fn turn_line<S: NameTexts>(
-    alloc: Global,
-    names: &S,
-    board: &Board,
-    labels: &[InstanceLabels],
-    turn: Turn<'_>,
-) -> Result<String, AllocError>
-    ensures { IfOk result (λ text. string_bytes text ≡ line_at (S.shown names.now)
-        (slice_get board.now.watch.instances turn.entry.rule.now.instance)
-        (slice_get labels.now turn.entry.rule.now.instance) (rising (window_of board.now turn.entry.rule.now.instance)) turn.entry.rule.now turn.entry.event) }
-{
-    let number = turn.rule.instance();
-    let place = usize::from(number);
-    let Some(watched) = board.watch().instances().get(place) else {
-        return Ok(String::new(alloc));
-    };
-    let subject = Subject {
-        instance: &watched.instance,
-        labels: labels.get(place),
-        samples: board.items(number),
-    };
-    line_on(alloc, names, subject, turn)
 }
 
 /// Returns the line of what became of the alarm of a rule on an instance.
@@ -203,7 +186,8 @@ fn put_subject<S: NameTexts>(
     put_interface(alloc, text, name.as_str(), subject.labels)
 }
 
-/// Adds the device of an instance, by its labels if it has any.
+/// Adds the device of an instance: at the address and with the label that its labels have, or the
+/// engine id if they have neither.
 fn put_device(
     alloc: Global,
     text: &mut String,
@@ -213,23 +197,9 @@ fn put_device(
     ensures { OnOk result (string_bytes text.new ≡ string_bytes text.old
         ++ device_of engine.now (option_map (λ l. l.now) labels.entry)) }
 {
-    match labels {
-        None => put_engine(alloc, text, engine),
-        Some(labels) => put_labelled_device(alloc, text, engine, labels),
-    }
-}
-
-/// Adds the device at the address and with the label that labels have.
-fn put_labelled_device(
-    alloc: Global,
-    text: &mut String,
-    engine: &[u8],
-    labels: &InstanceLabels,
-) -> Result<(), AllocError>
-    ensures { OnOk result (string_bytes text.new ≡ string_bytes text.old
-        ++ device_or engine.now (option_map string_bytes labels.now.target)
-        (option_map string_bytes labels.now.device)) }
-{
+    let Some(labels) = labels else {
+        return put_engine(alloc, text, engine);
+    };
     if labels.target.is_none() && labels.device.is_none() {
         return put_engine(alloc, text, engine);
     }
@@ -237,8 +207,8 @@ fn put_labelled_device(
     text.push_str(device.as_str())
 }
 
-/// Adds the interface and the object of a name as it is shown, by the labels of its instance if it
-/// has any.
+/// Adds the interface of an instance by its labels and the object of its name as it is shown, or
+/// the name if they have no ifName.
 fn put_interface(
     alloc: Global,
     text: &mut String,
@@ -248,23 +218,9 @@ fn put_interface(
     ensures { OnOk result (string_bytes text.new ≡ string_bytes text.old
         ++ interface_of name.now (option_map (λ l. l.now) labels.entry)) }
 {
-    match labels {
-        None => text.push_str(name),
-        Some(labels) => put_labelled_interface(alloc, text, name, labels),
-    }
-}
-
-/// Adds the interface of labels and the object, or the name if they have no ifName.
-fn put_labelled_interface(
-    alloc: Global,
-    text: &mut String,
-    name: &str,
-    labels: &InstanceLabels,
-) -> Result<(), AllocError>
-    ensures { OnOk result (string_bytes text.new ≡ string_bytes text.old
-        ++ interface_or name.now (option_map string_bytes labels.now.if_name)
-        (option_map string_bytes labels.now.if_alias)) }
-{
+    let Some(labels) = labels else {
+        return text.push_str(name);
+    };
     if labels.if_name.is_none() {
         return text.push_str(name);
     }
@@ -358,26 +314,13 @@ fn measure_of(column: Column, samples: &[Sample]) -> Measure
     ensures { result ≡ measure_of column (newest_of samples.now) }
 {
     let Some(newest) = samples.last() else {
-        return measure_without(column);
+        return if is_octets(column) {
+            Measure::Bits
+        } else {
+            Measure::Plain
+        };
     };
-    measure_by(column, newest)
-}
-
-/// Returns how values of a column without a sample are shown.
-fn measure_without(column: Column) -> Measure
-    ensures { result ≡ measure_of column None }
-{
-    if is_octets(column) {
-        return Measure::Bits;
-    }
-    Measure::Plain
-}
-
-/// Returns how values of a column are shown that are of the kind of this sample.
-fn measure_by(column: Column, sample: &Sample) -> Measure
-    ensures { result ≡ measure_of column (Some sample.now) }
-{
-    if !is_counter(sample.kind()) {
+    if !is_counter(newest.kind()) {
         return Measure::Plain;
     }
     if is_octets(column) {

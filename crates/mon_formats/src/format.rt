@@ -60,7 +60,7 @@ impl Format {
 /// | `labels` | Prometheus' text, OpenMetrics, a table and a page |
 /// | `presentation.label`, `presentation.file_age` | a page |
 /// | `presentation.sort` | a table |
-/// | `presentation.station` | Prometheus' text, OpenMetrics: a label of each series of an instance |
+/// | `presentation.station` | Prometheus' text, OpenMetrics: a label of each instance's series |
 ///
 /// # Errors
 /// `AllocError` if there is no memory for it.

@@ -2,7 +2,6 @@
 
 ghost use Rattle.std.specs.Prelude.{◌≡◌, ◌++◌, IfOk, OnOk, length, string_bytes};
 ghost use Rattle.std.specs.List.{flat_map};
-ghost use Rattle.hex.specs.Hex.{encode_lower};
 ghost use Rattle.mon_report.specs.Report.{end_line, samples_in};
 ghost use Rattle.mon_formats.specs.Named.{named_line, named_report};
 
@@ -55,34 +54,15 @@ fn put_line<S: NameTexts>(
     ensures { OnOk result (text.new.items ≡ text.old.items ++ named_line (S.shown names.now)
         entry.now) }
 {
-    put_engine(alloc, text, entry)?;
+    let engine = hex::encode(alloc, entry.engine())?;
+    text.extend_from_slice(engine.as_bytes())?;
     text.extend_from_slice(b" ")?;
-    put_name(alloc, text, names, entry)?;
+    let name = names.text(alloc, entry.name())?;
+    text.extend_from_slice(name.as_bytes())?;
     if !write_rest(text, true, entry) {
         return Err(AllocError);
     }
     Ok(())
-}
-
-/// Adds the engine id of an instance in hex digits.
-fn put_engine(alloc: Global, text: &mut Vec<u8>, entry: &Entry) -> Result<(), AllocError>
-    ensures { OnOk result (text.new.items ≡ text.old.items ++ encode_lower entry.now.engine) }
-{
-    let engine = hex::encode(alloc, entry.engine())?;
-    text.extend_from_slice(engine.as_bytes())
-}
-
-/// Adds the name of an instance, as it is shown.
-fn put_name<S: NameTexts>(
-    alloc: Global,
-    text: &mut Vec<u8>,
-    names: &S,
-    entry: &Entry,
-) -> Result<(), AllocError>
-    ensures { OnOk result (text.new.items ≡ text.old.items ++ S.shown names.now entry.now.name) }
-{
-    let name = names.text(alloc, entry.name())?;
-    text.extend_from_slice(name.as_bytes())
 }
 
 /// Adds the last line.

@@ -14,7 +14,7 @@ ghost use Rattle.mon_formats.specs.declared.prometheus.station.StationMetric.The
 ghost use Rattle.mon_formats.specs.Prometheus.{ages_text, alarm_line, end_text};
 ghost use Rattle.mon_formats.specs.Prometheus.{counted_line, instance_labels, instances_text, lines_of};
 ghost use Rattle.mon_formats.specs.Prometheus.{metric_line, metric_text, name_of, number_line};
-ghost use Rattle.mon_formats.specs.Prometheus.{prometheus_report, rate_line, report_by, samples_line};
+ghost use Rattle.mon_formats.specs.Prometheus.{prometheus_report, rate_line, report_by};
 ghost use Rattle.mon_formats.specs.Prometheus.{speed_line, state_number, station_name, threshold_text};
 
 pub(crate) mod instance;
@@ -135,28 +135,11 @@ pub(crate) fn put_by(
         ages: &[],
         limit: 0,
     };
-    put_listing(alloc, text, plain, extras.station)?;
-    put_end(format, text)
-}
-
-/// Adds the report of instances, and of a running station if there is one.
-fn put_listing(
-    alloc: Global,
-    text: &mut Vec<u8>,
-    plain: Listing,
-    station: Option<&Figures>,
-) -> Result<(), AllocError>
-    requires long { length plain.labels.now ≡ length plain.entries.now }
-    requires all { plain.ages.now ≡ [] }
-    ensures { (labels : AnyLabelled → List ℕ) (all : List AnyLabelled)
-        → HaveLabels labels all plain.entry.entries.now plain.entry.given.now plain.entry.labels.now
-        → OnOk result (text.new.items ≡ text.old.items
-        ++ report_by plain.entry.format labels all (option_map (λ f. f.now) station.entry)) }
-{
-    match station {
-        None => put_instances(alloc, text, plain),
-        Some(figures) => put_running(alloc, text, plain, figures),
+    match extras.station {
+        None => put_instances(alloc, text, plain)?,
+        Some(figures) => put_running(alloc, text, plain, figures)?,
     }
+    put_end(format, text)
 }
 
 /// Returns the texts of the labels of these instances.
@@ -308,7 +291,7 @@ fn put_lines(
     match metric {
         Metric::Counted => put_counted(text, labels, entry.samples()),
         Metric::Number => put_number(text, labels, entry.samples()),
-        Metric::Samples => put_samples(text, labels, entry.samples()),
+        Metric::Samples => put_line(text, metric.name(), labels, entry.samples().len() as u64),
         Metric::Rate => put_rate(text, labels, entry),
         Metric::Alarm => put_alarms(alloc, text, labels, entry),
         Metric::Speed => put_speed(text, labels, speed_of(labelled.labels)),
@@ -358,14 +341,8 @@ fn put_value(text: &mut Vec<u8>, labels: &[u8], sample: &Sample) -> Result<(), A
     text.extend_from_slice(b"\n")
 }
 
-/// Adds the line that says how many samples there are.
-fn put_samples(text: &mut Vec<u8>, labels: &[u8], samples: &[Sample]) -> Result<(), AllocError>
-    ensures { OnOk result (text.new.items ≡ text.old.items ++ samples_line labels.now samples.now) }
-{
-    put_line(text, Metric::Samples.name(), labels, samples.len() as u64)
-}
-
 /// Adds the line of an instance's rate, if it has one.
+#[tactic(auto, unfolding(crate::specs::Prometheus::metric_line))]
 fn put_rate(text: &mut Vec<u8>, labels: &[u8], entry: &Entry) -> Result<(), AllocError>
     ensures { OnOk result (text.new.items ≡ text.old.items ++ rate_line labels.now
         (rate_of entry.now.items)) }
@@ -373,15 +350,6 @@ fn put_rate(text: &mut Vec<u8>, labels: &[u8], entry: &Entry) -> Result<(), Allo
     let Some(thousandths) = entry.totals().thousandths() else {
         return Ok(());
     };
-    put_rate_line(text, labels, thousandths)
-}
-
-/// Adds the line of a rate in thousandths.
-#[tactic(auto, unfolding(crate::specs::Prometheus::metric_line))]
-fn put_rate_line(text: &mut Vec<u8>, labels: &[u8], thousandths: u128) -> Result<(), AllocError>
-    ensures { OnOk result (text.new.items ≡ text.old.items ++ rate_line labels.now
-        (Some thousandths)) }
-{
     text.extend_from_slice(Metric::Rate.name().as_bytes())?;
     text.extend_from_slice(labels)?;
     put_rate_end(text, thousandths)

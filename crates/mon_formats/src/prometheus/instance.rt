@@ -3,7 +3,7 @@
 ghost use Rattle.std.specs.Prelude.{◌≡◌, ◌++◌, IfOk, OnOk, codes, option_map};
 ghost use Rattle.hex.specs.Hex.{encode_lower};
 ghost use Rattle.mon_formats.specs.Prometheus.{at_first_dot, at_last_dot, before_labels, given_labels};
-ghost use Rattle.mon_formats.specs.Prometheus.{instance_labels, is_in_numbers, joined_labels, label_if};
+ghost use Rattle.mon_formats.specs.Prometheus.{instance_labels, is_in_numbers, label_if};
 ghost use Rattle.mon_formats.specs.Prometheus.{more_label, object_and_index, object_labels, speed_of};
 
 use crate::prometheus::text::{put_label, put_more, put_station_label};
@@ -119,21 +119,14 @@ pub(crate) fn at_first_dot(name: &str) -> (&str, &str)
 }
 
 /// Adds the labels that are given, if any are.
+#[tactic(auto, unfolding(crate::specs::Prometheus::joined_labels))]
 fn put_given(labels: &mut Vec<u8>, given: Option<&InstanceLabels>) -> Result<(), AllocError>
     ensures { OnOk result (labels.new.items ≡ labels.old.items
         ++ given_labels (option_map (λ l. l.now) given.entry)) }
 {
-    match given {
-        None => Ok(()),
-        Some(given) => put_joined(labels, given),
-    }
-}
-
-/// Adds the labels that are given.
-#[tactic(auto, unfolding(crate::specs::Prometheus::joined_labels))]
-fn put_joined(labels: &mut Vec<u8>, given: &InstanceLabels) -> Result<(), AllocError>
-    ensures { OnOk result (labels.new.items ≡ labels.old.items ++ joined_labels given.now) }
-{
+    let Some(given) = given else {
+        return Ok(());
+    };
     put_if(labels, "target", &given.target)?;
     put_if(labels, "device", &given.device)?;
     put_if(labels, "ifName", &given.if_name)?;

@@ -1,7 +1,7 @@
 //! What a station says of its targets.
 
 ghost use Rattle.std.specs.Prelude.{◌≡◌, ◌++◌, OnOk, string_bytes};
-ghost use Rattle.mon_formats.specs.Prometheus.{one_if, reason_if, reason_line, refusals_text, target_help, target_labels, target_line, target_metric, target_name, target_type, target_value, targets_text};
+ghost use Rattle.mon_formats.specs.Prometheus.{one_if, reason_if, refusals_text, target_help, target_labels, target_line, target_metric, target_name, target_type, target_value, targets_text};
 
 use crate::prometheus::instance::put_engine;
 use crate::prometheus::text::{
@@ -184,7 +184,8 @@ fn put_refusals(
     Ok(())
 }
 
-/// Adds the line of a target's refused response, if there is one.
+/// Adds the line of a target's refused response with the reason, if there is one.
+#[tactic(auto, unfolding(crate::specs::Prometheus::reason_line, crate::specs::Prometheus::metric_line))]
 fn put_refusal(
     alloc: Global,
     text: &mut Vec<u8>,
@@ -194,24 +195,9 @@ fn put_refusal(
     ensures { OnOk result (text.new.items
         ≡ text.old.items ++ reason_if station target.now target.now.refusal) }
 {
-    match &target.refusal {
-        None => Ok(()),
-        Some(reason) => put_reason(alloc, text, station, target, reason),
-    }
-}
-
-/// Adds the line of a target whose last response was refused for this reason.
-#[tactic(auto, unfolding(crate::specs::Prometheus::reason_line, crate::specs::Prometheus::metric_line))]
-fn put_reason(
-    alloc: Global,
-    text: &mut Vec<u8>,
-    station: u32,
-    target: &TargetFigures,
-    reason: &String,
-) -> Result<(), AllocError>
-    ensures { OnOk result (text.new.items
-        ≡ text.old.items ++ reason_line station target.now reason.now) }
-{
+    let Some(reason) = &target.refusal else {
+        return Ok(());
+    };
     text.extend_from_slice(TargetMetric::Refusal.name().as_bytes())?;
     put_target_labels(alloc, text, station, target)?;
     put_more(text, "reason", reason.as_bytes())?;
