@@ -1,5 +1,5 @@
 -- The number that a counter's value means is written as the value.
-use Rattle.std.proofs.Common.{◌≡◌, ℕ, Bool, true, refl}
+use Rattle.std.proofs.Common.{◌≡◌, ℕ, true, refl}
 use Rattle.std.specs.Prelude.{decimal}
 use Rattle.std.specs.Fmt.{signed_decimal}
 use Rattle.mon_sample.specs.Key.{kind_of, sample_value}

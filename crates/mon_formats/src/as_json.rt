@@ -535,7 +535,8 @@ fn raised_value(alloc: Global, state: AlarmState) -> Result<Value, AllocError>
 /// Adds the samples, as a member behind others.
 fn put_samples(text: &mut Vec<u8>, samples: &[Sample]) -> Result<(), AllocError>
     ensures text { OnOk result (text.new.items ≡ text.old.items
-        ++ (codes ",\"samples\":" ++ compact_text (array (items_of (map sample_data samples.now))))) }
+        ++ (codes ",\"samples\":"
+        ++ compact_text (array (items_of (map sample_data samples.now))))) }
     ensures sound { OnOk result (IsSound (array (items_of (map sample_data samples.now)))) }
 {
     text.extend_from_slice(b",\"samples\":[")?;

@@ -209,7 +209,8 @@ fn put_instances(alloc: Global, text: &mut Vec<u8>, listing: Listing) -> Result<
         → HaveLabels labels all listing.entry.entries.now listing.entry.given.now
         listing.entry.labels.now
         → OnOk result (text.new.items ≡ text.old.items
-        ++ instances_text listing.entry.format labels all (fresh listing.entry.limit listing.entry.ages.now all)) }
+        ++ instances_text listing.entry.format labels all
+        (fresh listing.entry.limit listing.entry.ages.now all)) }
 {
     put_metric(alloc, text, listing, Metric::Counted)?;
     put_metric(alloc, text, listing, Metric::Number)?;
@@ -232,7 +233,8 @@ fn put_metric(
         → HaveLabels labels all listing.entry.entries.now listing.entry.given.now
         listing.entry.labels.now
         → OnOk result (text.new.items ≡ text.old.items
-        ++ metric_text listing.entry.format metric labels (fresh listing.entry.limit listing.entry.ages.now all)) }
+        ++ metric_text listing.entry.format metric labels
+        (fresh listing.entry.limit listing.entry.ages.now all)) }
 {
     put_head(
         listing.format,
