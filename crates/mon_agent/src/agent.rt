@@ -1,6 +1,6 @@
 //! The agent.
 
-ghost use Rattle.std.specs.Prelude.{◌≡◌, ◌≢◌, ◌↔◌, ℕ, true, List, Err, IfOk, IfSome, IfNone, OnErr, IsTrue};
+ghost use Rattle.std.specs.Prelude.{◌≡◌, ◌≢◌, ℕ, true, List, Err, IfOk, IfSome, IfNone, OnErr};
 ghost use Rattle.mon_vacm.specs.declared.denied.Denied.TheVariants.{NoCommunity};
 ghost use Rattle.mon_vacm.specs.declared.view_type.ViewType.TheVariants.{Read};
 ghost use Rattle.mon_vacm.specs.Borrowed.{granted, view_of};
@@ -301,18 +301,11 @@ fn silence_of(access: &Result<Access<'_>, Denied>, body: &Body) -> Option<Silenc
     ensures none { IfNone result ((granted access.now ≢ Err NoCommunity)
         × (is_request body.now ≡ true)) }
 {
-    if is_unknown(access) {
+    if matches!(access, Err(Denied::NoCommunity)) {
         return Some(Silence::BadCommunity);
     }
     if !is_request(body) {
         return Some(Silence::NotARequest);
     }
     None
-}
-
-/// Returns `true` if access was denied since the community is unknown.
-fn is_unknown(access: &Result<Access<'_>, Denied>) -> bool
-    ensures { IsTrue result ↔ (granted access.now ≡ Err NoCommunity) }
-{
-    matches!(access, Err(Denied::NoCommunity))
 }

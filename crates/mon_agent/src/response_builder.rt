@@ -3,7 +3,7 @@
 ghost use Rattle.std.specs.Prelude.{◌≡◌, ◌≤◌, ◌-◌, ◌^◌, ◌↔◌, ◌⊎◌, ◌++◌, ◌∷◌, [], length, get_or, List, Ok, true, false, IsTrue, IfOk};
 ghost use Rattle.mon_pdu.specs.declared.message.Binding.{Binding as AnyBinding};
 ghost use Rattle.mon_ber.specs.Writing.{size_counted};
-ghost use Rattle.mon_pdu.specs.Sizes.{body_with, with_bindings};
+ghost use Rattle.mon_pdu.specs.Sizes.{with_bindings};
 ghost use Rattle.mon_pdu.specs.Writing.{list_contents};
 ghost use Rattle.mon_agent.specs.Bulk.{is_end, all_end_of_mib_view};
 ghost use Rattle.mon_agent.specs.ResponseBuilder.{FitsWith, last};
@@ -134,32 +134,20 @@ impl ResponseBuilder {
 pub(crate) fn with_bindings(message: Message, bindings: Vec<Binding>) -> Message
     ensures { result ≡ with_bindings message bindings.items }
 {
-    Message {
-        community: message.community,
-        body: body_with(message.body, Bindings::new(bindings)),
-    }
-}
-
-/// Returns the PDU with other variable bindings.
-fn body_with(body: Body, bindings: Bindings) -> Body
-    ensures { result ≡ body_with body bindings }
-{
-    match body {
+    let Message { community, body } = message;
+    let bindings = Bindings::new(bindings);
+    let body = match body {
         Body::Pdu(pdu) => Body::Pdu(Pdu { bindings, ..pdu }),
         Body::Bulk(bulk) => Body::Bulk(Bulk { bindings, ..bulk }),
-    }
+    };
+    Message { community, body }
 }
 
 /// Returns `true` if each of these has the value endOfMibView.
 fn are_at_end(bindings: &[Binding]) -> bool
     ensures { result ≡ all_end_of_mib_view bindings.now }
 {
-    for binding in bindings {
-        if !is_end(&binding.value) {
-            return false;
-        }
-    }
-    true
+    bindings.iter().all(|binding| is_end(&binding.value))
 }
 
 /// Returns `true` if a value is endOfMibView.

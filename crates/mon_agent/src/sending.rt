@@ -2,7 +2,7 @@
 
 ghost use Rattle.std.specs.Prelude.{◌≡◌, ◌<◌, ◌≤◌, ◌^◌, ◌↔◌, pos, length, IfOk, IfSome, IfNone};
 ghost use Rattle.mon_pdu.specs.declared.message.Message.{Message as AnyMessage};
-ghost use Rattle.mon_pdu.specs.Grammar.{bindings_of, first_of};
+ghost use Rattle.mon_pdu.specs.Grammar.{bindings_of};
 ghost use Rattle.mon_ber.specs.Writing.{size_counted};
 ghost use Rattle.mon_pdu.specs.Writing.{HasLength, list_contents, written_message};
 ghost use Rattle.mon_agent.specs.Assigned.{returned};
@@ -40,20 +40,14 @@ pub(crate) fn make_response(community: Octets, request_id: i32, answers: Vec<Bin
 pub(crate) fn make_return(message: Message, error_status: i32, error_index: i32) -> Message
     ensures { result ≡ returned message error_status error_index }
 {
+    let Message { community, body } = message;
+    let (request_id, bindings) = match body {
+        Body::Pdu(pdu) => (pdu.request_id, pdu.bindings),
+        Body::Bulk(bulk) => (bulk.request_id, bulk.bindings),
+    };
     Message {
-        community: message.community,
-        body: returned_body(message.body, error_status, error_index),
-    }
-}
-
-fn returned_body(body: Body, error_status: i32, error_index: i32) -> Body
-    ensures { result ≡ response_body (first_of body) error_status error_index (bindings_of body) }
-{
-    match body {
-        Body::Pdu(pdu) => response_body(pdu.request_id, error_status, error_index, pdu.bindings),
-        Body::Bulk(bulk) => {
-            response_body(bulk.request_id, error_status, error_index, bulk.bindings)
-        }
+        community,
+        body: response_body(request_id, error_status, error_index, bindings),
     }
 }
 
@@ -109,17 +103,9 @@ pub(crate) fn send_too_big(
         → IsAboveLimit max_message_size other
         → IfOk result (IsOut max_message_size other other) }
 {
-    let too_big = too_big(alloc, reply);
-    send_or_drop(alloc, &too_big, max_message_size)
-}
-
-/// Sends this response, which is a tooBig, or nothing where it is above the limit.
-fn send_or_drop(alloc: Global, reply: &Message, max_message_size: i32) -> Result<Reply, AllocError>
-    ensures { (other : AnyMessage) → reply.now ≡ too_big other → IsAboveLimit max_message_size other
-        → IfOk result (IsOut max_message_size other other) }
-{
-    match size_within(reply, max_message_size) {
-        Some(size) => write(alloc, reply, size),
+    let response = too_big(alloc, reply);
+    match size_within(&response, max_message_size) {
+        Some(size) => write(alloc, &response, size),
         None => Ok(Reply::Silent(Silence::TooBigTwice)),
     }
 }
@@ -128,20 +114,13 @@ fn send_or_drop(alloc: Global, reply: &Message, max_message_size: i32) -> Result
 fn too_big(alloc: Global, reply: Message) -> Message
     ensures { result ≡ too_big reply }
 {
-    let request_id = request_id(&reply.body);
+    let request_id = match &reply.body {
+        Body::Pdu(pdu) => pdu.request_id,
+        Body::Bulk(bulk) => bulk.request_id,
+    };
     Message {
         community: reply.community,
         body: response_body(request_id, TOO_BIG, 0, Bindings::new(Vec::new(alloc))),
-    }
-}
-
-/// The number by which a response is matched with its request.
-fn request_id(body: &Body) -> i32
-    ensures { result ≡ first_of body.now }
-{
-    match body {
-        Body::Pdu(pdu) => pdu.request_id,
-        Body::Bulk(bulk) => bulk.request_id,
     }
 }
 

@@ -1,4 +1,4 @@
-ghost use Rattle.std.specs.Prelude.{◌≡◌, ◌↔◌, ◌≢◌, ◌++◌, ◌∷◌, [], List, All, IsTrue, IsOk, IfOk};
+ghost use Rattle.std.specs.Prelude.{◌≡◌, ◌↔◌, ◌++◌, ◌∷◌, [], List, All, IsTrue, IsOk, IfOk};
 ghost use Rattle.mon_vacm.specs.declared.family.ViewTreeFamily.{ViewTreeFamily as AnyFamily};
 ghost use Rattle.mon_vacm.specs.Access.{access_of};
 ghost use Rattle.mon_vacm.specs.Borrowed.{granted, view_of};
@@ -107,20 +107,9 @@ impl Policy {
         ensures { IsRight self.now community.now need name.now result }
     {
         match self.access(community, need) {
-            Ok(access) => self.judge_name(access, name),
+            Ok(access) if self.sees(access, name) => Decision::Allowed,
+            Ok(_) => Decision::NotInView,
             Err(why) => Decision::Denied(why),
-        }
-    }
-
-    fn judge_name(&self, access: Access<'_>, name: &Oid) -> Decision
-        ensures allowed { (result ≡ Decision.Allowed) ↔ IsInView self.now.families
-            (view_of access.entry) name.now }
-        ensures others { result ≢ Decision.Allowed → result ≡ Decision.NotInView }
-    {
-        if self.sees(access, name) {
-            Decision::Allowed
-        } else {
-            Decision::NotInView
         }
     }
 }

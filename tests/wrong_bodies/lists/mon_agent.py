@@ -93,8 +93,8 @@ BUGS = {
     ),
     "goes_on_when_full": (
         "src/response_builder.rt",
-        "            return false;",
-        "            return true;",
+        "    bindings.iter().all(|binding| is_end(&binding.value))",
+        "    bindings.iter().all(|binding| is_end(&binding.value) || true)",
     ),
     "stops_a_round_early": (
         "src/bulk.rt",
@@ -108,8 +108,8 @@ BUGS = {
     ),
     "sends_too_big_at_any_size": (
         "src/sending.rt",
-        "    match size_within(reply, max_message_size) {",
-        "    match size_within(reply, i32::MAX) {",
+        "    match size_within(&response, max_message_size) {",
+        "    match size_within(&response, i32::MAX) {",
     ),
     "calls_too_big_no_request": (
         "src/sending.rt",
@@ -363,8 +363,8 @@ BUGS = {
     ),
     "tests_the_request_before_the_community": (
         "src/agent.rt",
-        "    if is_unknown(access) {\n        return Some(Silence::BadCommunity);\n    }\n    if !is_request(body) {\n        return Some(Silence::NotARequest);\n    }\n",
-        "    if !is_request(body) {\n        return Some(Silence::NotARequest);\n    }\n    if is_unknown(access) {\n        return Some(Silence::BadCommunity);\n    }\n",
+        "    if matches!(access, Err(Denied::NoCommunity)) {\n        return Some(Silence::BadCommunity);\n    }\n    if !is_request(body) {\n        return Some(Silence::NotARequest);\n    }\n",
+        "    if !is_request(body) {\n        return Some(Silence::NotARequest);\n    }\n    if matches!(access, Err(Denied::NoCommunity)) {\n        return Some(Silence::BadCommunity);\n    }\n",
     ),
     "reads_as_of_the_start": (
         "src/agent.rt",
@@ -378,8 +378,8 @@ BUGS = {
     ),
     "is_silent_to_every_denial": (
         "src/agent.rt",
-        "    matches!(access, Err(Denied::NoCommunity))",
-        "    access.is_err()",
+        "    if matches!(access, Err(Denied::NoCommunity)) {",
+        "    if access.is_err() {",
     ),
     "counts_up_to_255_bindings": (
         "src/assigning.rt",

@@ -8,8 +8,8 @@ BUGS = {
     ),
     "alias_is_read_only": (
         "src/column.rt",
-        "            Column::IfAlias => read_write(",
-        "            Column::IfAlias => read_only(",
+        "            Self::IfAlias => read_write(",
+        "            Self::IfAlias => read_only(",
     ),
     "all_columns_are_integers": (
         "src/object.rt",
@@ -28,8 +28,8 @@ BUGS = {
     ),
     "column_under_another_number": (
         "src/column.rt",
-        "            Column::IfInDiscards => read_only(Tag::Counter32, &[1, 3, 6, 1, 2, 1, 2, 2, 1, 13]),",
-        "            Column::IfInDiscards => read_only(Tag::Counter32, &[1, 3, 6, 1, 2, 1, 2, 2, 1, 12]),",
+        "            Self::IfInDiscards => read_only(Tag::Counter32, &[1, 3, 6, 1, 2, 1, 2, 2, 1, 13]),",
+        "            Self::IfInDiscards => read_only(Tag::Counter32, &[1, 3, 6, 1, 2, 1, 2, 2, 1, 12]),",
     ),
     "columns_have_no_name": (
         "src/object.rt",
@@ -198,8 +198,8 @@ BUGS = {
     ),
     "speeds_are_counters": (
         "src/column.rt",
-        "            Column::IfSpeed => read_only(Tag::Gauge32,",
-        "            Column::IfSpeed => read_only(Tag::Counter32,",
+        "            Self::IfSpeed => read_only(Tag::Gauge32,",
+        "            Self::IfSpeed => read_only(Tag::Counter32,",
     ),
     "starts_with_a_counted_packet": (
         "src/counters.rt",

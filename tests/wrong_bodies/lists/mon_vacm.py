@@ -184,8 +184,8 @@ BUGS = {
     ),
     "calls_a_hidden_name_no_view": (
         "src/policy.rt",
-        "            Decision::NotInView\n",
-        "            Decision::Denied(Denied::NoSuchView)\n",
+        "            Ok(_) => Decision::NotInView,\n",
+        "            Ok(_) => Decision::Denied(Denied::NoSuchView),\n",
     ),
     "passes_over_the_last_of_a_run": (
         "src/policy.rt",
