@@ -2,12 +2,11 @@
 
 ghost use Rattle.std.specs.Prelude.{◌≡◌, IfOk, option_map, slice_get, string_bytes};
 ghost use Rattle.std.specs.Fmt.{signed_decimal};
-ghost use Rattle.mon_notify.specs.Labels.{alarm_pairs, alarm_words};
+ghost use Rattle.mon_notify.specs.Labels.{alarm_words};
 ghost use Rattle.mon_notify.specs.Texts.{alarm_text, end_of, identity, identity_of, instance_text, text_at, words_by};
-ghost use Rattle.mon_notify.specs.Webhook.{text_of};
 
 use crate::changes::{AlarmLabels, alarm_labels};
-use crate::known::{device_of, if_alias_of, if_name_of, target_of};
+use crate::known::device_of;
 use crate::scene::{Scene, station_text};
 use crate::webhook::{Notice, message};
 use httpdate::HttpDate;
@@ -132,7 +131,17 @@ fn instance_message<S: NameTexts>(
         subject.rule,
         subject.station,
     )?;
-    text_with(alloc, &texts, subject.labels, turn)
+    let change = labels_in(&texts, subject.labels);
+    let labels = alarm_labels(alloc, &change)?;
+    message(
+        alloc,
+        &Notice {
+            labels: labels.as_slice(),
+            summary: turn.summary,
+            starts_at: turn.starts_at,
+            ends_at: turn.ends_at,
+        },
+    )
 }
 
 /// Returns the texts of the labels of an instance and of a rule on it.
@@ -164,30 +173,6 @@ fn threshold_text(alloc: Global, threshold: i64) -> Result<String, AllocError>
     Ok(text)
 }
 
-/// Returns the text of the labels in these texts and of those of an instance.
-fn text_with(
-    alloc: Global,
-    texts: &Texts,
-    labels: Option<&InstanceLabels>,
-    turn: Turn<'_>,
-) -> Result<Vec<u8>, AllocError>
-    ensures { IfOk result (λ t. t.items ≡ text_of (alarm_pairs (words_by (identity texts.now)
-        (option_map (λ l. l.now) labels.entry)))
-        turn.entry.summary.now turn.entry.starts_at turn.entry.ends_at) }
-{
-    let change = labels_in(texts, labels);
-    let labels = alarm_labels(alloc, &change)?;
-    message(
-        alloc,
-        &Notice {
-            labels: labels.as_slice(),
-            summary: turn.summary,
-            starts_at: turn.starts_at,
-            ends_at: turn.ends_at,
-        },
-    )
-}
-
 /// Returns what these texts and the labels of an instance say.
 fn labels_in<'a>(texts: &'a Texts, labels: Option<&'a InstanceLabels>) -> AlarmLabels<'a>
     ensures { alarm_words result ≡ words_by (identity texts.now)
@@ -197,9 +182,9 @@ fn labels_in<'a>(texts: &'a Texts, labels: Option<&'a InstanceLabels>) -> AlarmL
         engine: texts.engine.as_str(),
         name: texts.name.as_str(),
         device: device_of(labels),
-        target: target_of(labels),
-        if_name: if_name_of(labels),
-        if_alias: if_alias_of(labels),
+        target: labels.and_then(|labels| labels.target.as_deref()),
+        if_name: labels.and_then(|labels| labels.if_name.as_deref()),
+        if_alias: labels.and_then(|labels| labels.if_alias.as_deref()),
         rising: texts.rising.as_str(),
         falling: texts.falling.as_str(),
         station: texts.station.as_str(),

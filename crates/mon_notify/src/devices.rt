@@ -1,16 +1,14 @@
 //! The text of a change of a device.
 
-ghost use Rattle.std.specs.Prelude.{◌≡◌, IfOk, decimal, option_map, string_bytes};
+ghost use Rattle.std.specs.Prelude.{◌≡◌, IfOk, decimal, option_map};
 ghost use Rattle.mon_notify.specs.Labels.{device_pairs};
-ghost use Rattle.mon_notify.specs.Texts.{device_at, device_text, end_if_up};
+ghost use Rattle.mon_notify.specs.Texts.{device_at, device_text};
 ghost use Rattle.mon_notify.specs.Webhook.{text_of};
-ghost use Rattle.mon_udp.specs.Addr.{addr_text};
 
 use crate::changes::{DeviceLabels, device_labels};
 use crate::known::{device_of, has_address};
 use crate::scene::{Scene, station_text};
 use crate::webhook::{Notice, message};
-use httpdate::HttpDate;
 use mon_page::InstanceLabels;
 use mon_udp::Addr;
 use std::alloc::{AllocError, Global};
@@ -32,7 +30,8 @@ pub fn device_message(
     ensures { IfOk result (λ t. t.items ≡ device_text scene.entry.labels.now scene.entry.station
         summary.now scene.entry.date target is_down) }
 {
-    let address = address_text(alloc, target)?;
+    let mut address = String::new(alloc);
+    write!(address, "{target}")?;
     let station = station_text(alloc, scene.station)?;
     let change = DeviceLabels {
         target: address.as_str(),
@@ -46,18 +45,9 @@ pub fn device_message(
             labels: labels.as_slice(),
             summary,
             starts_at: scene.date,
-            ends_at: end_if_up(is_down, scene.date),
+            ends_at: if is_down { None } else { Some(scene.date) },
         },
     )
-}
-
-/// Returns an address as text.
-fn address_text(alloc: Global, address: Addr) -> Result<String, AllocError>
-    ensures { IfOk result (λ t. string_bytes t ≡ addr_text address) }
-{
-    let mut text = String::new(alloc);
-    write!(text, "{address}")?;
-    Ok(text)
 }
 
 /// Returns the device at an address: that of the first instance whose target it is.
@@ -70,11 +60,4 @@ fn device_at<'a>(labels: &'a [InstanceLabels], address: &str) -> Option<&'a str>
         }
     }
     None
-}
-
-/// Returns when it ended that a device was down, if it is not down at this date.
-fn end_if_up(is_down: bool, date: HttpDate) -> Option<HttpDate>
-    ensures { result ≡ end_if_up is_down date }
-{
-    if is_down { None } else { Some(date) }
 }

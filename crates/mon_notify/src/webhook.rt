@@ -1,7 +1,7 @@
 //! The JSON object of one change, in the form of Alertmanager's webhook, version 4.
 
 ghost use Rattle.std.specs.Prelude.{◌≡◌, IfOk, OnOk, Some, map, string_bytes};
-ghost use Rattle.serde_json.specs.Data.{no_members, object, put as with_member, string};
+ghost use Rattle.serde_json.specs.Data.{no_members, object, string};
 ghost use Rattle.serde_json.specs.Read.{read};
 ghost use Rattle.serde_json.specs.View.{view, members_view};
 ghost use Rattle.mon_notify.specs.Labels.{pair_of};
@@ -36,18 +36,6 @@ fn text_value(alloc: Global, text: &str) -> Result<Value, AllocError>
     Ok(Value::String(String::from_str(alloc, text)?))
 }
 
-/// Puts a label into an object.
-fn put_label(
-    alloc: Global,
-    members: &mut Map<String, Value>,
-    label: &Label,
-) -> Result<(), AllocError>
-    ensures { OnOk result (members_view members.new.entries ≡ with_member label.now.name.now
-        (string label.now.value.now) (members_view members.old.entries)) }
-{
-    put(members, alloc, label.name, text_value(alloc, label.value)?)
-}
-
 /// Puts labels into an object without members.
 fn put_labels(
     alloc: Global,
@@ -59,7 +47,8 @@ fn put_labels(
         ≡ labels_data (map pair_of labels.now)) }
 {
     for i in 0..labels.len() {
-        put_label(alloc, members, &labels[i])?;
+        let label = &labels[i];
+        put(members, alloc, label.name, text_value(alloc, label.value)?)?;
     }
     Ok(())
 }
@@ -78,13 +67,6 @@ fn fingerprint_text(alloc: Global, labels: &[Label]) -> Result<String, AllocErro
     ensures { IfOk result (λ t. string_bytes t ≡ fingerprint_text (map pair_of labels.now)) }
 {
     hex::encode(alloc, fingerprint(labels).to_be_bytes())
-}
-
-/// Returns the fingerprint of labels as a value.
-fn fingerprint_value(alloc: Global, labels: &[Label]) -> Result<Value, AllocError>
-    ensures { IfOk result (λ v. view v ≡ string (fingerprint_text (map pair_of labels.now))) }
-{
-    Ok(Value::String(fingerprint_text(alloc, labels)?))
 }
 
 /// Returns the key of a group.
@@ -143,7 +125,7 @@ fn alert_value(alloc: Global, notice: &Notice) -> Result<Value, AllocError>
     json!(in alloc; {
         "annotations": annotations_value(alloc, notice.summary)?,
         "endsAt": end_value(alloc, &notice.ends_at)?,
-        "fingerprint": fingerprint_value(alloc, notice.labels)?,
+        "fingerprint": Value::String(fingerprint_text(alloc, notice.labels)?),
         "generatorURL": "",
         "labels": labels_value(alloc, notice.labels)?,
         "startsAt": time_value(alloc, &notice.starts_at)?,

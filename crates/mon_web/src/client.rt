@@ -3,7 +3,7 @@
 ghost use Rattle.std.specs.Prelude.{◌≡◌};
 ghost use Rattle.std.specs.IoError.{error_kind};
 ghost use Rattle.mon_web.specs.Pages.{view_of};
-ghost use Rattle.mon_web.specs.Client.{IsAfterSending, IsDraining, IsReading, IsSending, IsTurn, after_error, after_reading};
+ghost use Rattle.mon_web.specs.Client.{IsAfterSending, IsTurn, after_error, after_reading};
 
 use crate::content::Content;
 use crate::pages::Pages;
@@ -56,7 +56,7 @@ impl Client<TcpStream> {
 
 impl<S: Stream> Client<S> {
     /// Does one thing for the client: sends a part of its response, or answers it, or reads once.
-    /// Octets are read into the buffer.
+    /// Octets are read into the buffer. Those after the last response are not looked at.
     pub(crate) fn turn<C: Content>(
         &mut self,
         pages: &mut Pages<C>,
@@ -68,25 +68,20 @@ impl<S: Stream> Client<S> {
         ensures pages { view_of C.says pages.new ≡ view_of C.says pages.old }
     {
         if !self.connection.pending().is_empty() {
-            return self.send();
+            return match send_part(&mut self.stream, &mut self.connection) {
+                Ok(_) => self.after_sending(),
+                Err(error) => after_error(error),
+            };
         }
         if self.connection.is_closing() {
-            return self.drain(buffer);
+            return after_reading(self.stream.get(buffer));
         }
         match respond(&mut self.connection, pages, at) {
             Ok(true) => Turn::Begins(Stage::Sending),
-            Ok(false) => self.read(buffer),
+            Ok(false) => {
+                after_reading(receive_part(&mut self.stream, &mut self.connection, buffer))
+            }
             Err(_) => Turn::Ends,
-        }
-    }
-
-    /// Sends a part of what is pending.
-    fn send(&mut self) -> Turn
-        ensures { IsSending S.asked_write S.asked_end self.old self.new result }
-    {
-        match send_part(&mut self.stream, &mut self.connection) {
-            Ok(_) => self.after_sending(),
-            Err(error) => after_error(error),
         }
     }
 
@@ -106,22 +101,6 @@ impl<S: Stream> Client<S> {
             Ok(()) => Turn::Begins(Stage::Closing),
             Err(_) => Turn::Ends,
         }
-    }
-
-    /// Reads as much as the connection has capacity for.
-    fn read(&mut self, buffer: &mut [u8]) -> Turn
-        ensures { IsReading S.asked_read buffer.new self.old self.new result }
-    {
-        let given = receive_part(&mut self.stream, &mut self.connection, buffer);
-        after_reading(given)
-    }
-
-    /// Reads what still comes after the last response, which is not looked at.
-    fn drain(&mut self, buffer: &mut [u8]) -> Turn
-        ensures { IsDraining S.asked_read buffer.new self.old self.new result }
-    {
-        let given = self.stream.get(buffer);
-        after_reading(given)
     }
 }
 

@@ -3,8 +3,7 @@
 ghost use Rattle.std.specs.Prelude.{◌≡◌, IfSome, IsTrue, None, OnOk, Some};
 ghost use Rattle.mon_http.specs.Response.{fits, reply_of};
 ghost use Rattle.mon_http.specs.declared.route.Route.TheVariants as Route;
-ghost use Rattle.mon_web.specs.Pages.{IsMadeFor, ended_at, health_reply, is_healthy, last_round, metrics_reply, open_metrics_reply, page_reply, reply_for, report_reply, text_reply, view_of};
-ghost use Rattle.mon_web.specs.declared.content.Text.TheVariants as Texts;
+ghost use Rattle.mon_web.specs.Pages.{IsMadeFor, ended_at, health_reply, is_healthy, reply_for, view_of};
 
 use crate::content::{Content, Text};
 use mon_http::{Answer, LastRound, Route};
@@ -17,18 +16,6 @@ pub(crate) struct Ended {
     pub round: u32,
     /// When it ended, in milliseconds since the station's start.
     pub at: u64,
-}
-
-impl Ended {
-    /// Returns which round it was, and how long before now it ended.
-    fn last_round(self, now: u64) -> LastRound
-        ensures { result ≡ last_round now self }
-    {
-        LastRound {
-            number: self.round,
-            seconds: now.saturating_sub(self.at) / 1000,
-        }
-    }
 }
 
 /// What is shown: the texts, and whether rounds end in time; and by which names.
@@ -160,63 +147,19 @@ impl<C: Content> Pages<C> {
         ensures reply { reply_of result ≡ reply_for (view_of C.says self.now) now route }
         ensures fits { IsTrue (fits route result) }
     {
-        match route {
-            Route::Metrics => self.metrics(),
-            Route::OpenMetrics => self.open_metrics(),
-            Route::Report => self.report(),
-            Route::Page => self.page(),
-            Route::Health => self.health(now),
+        match (route, &self.content) {
+            (Route::Health, _) => self.health(now),
+            (_, None) => Answer::OutOfMemory,
+            (Route::Metrics, Some(content)) => Answer::Metrics(content.text(Text::Metrics)),
+            (Route::OpenMetrics, Some(content)) => {
+                Answer::OpenMetrics(content.text(Text::OpenMetrics))
+            }
+            (Route::Report, Some(content)) => Answer::Report(content.text(Text::Report)),
+            (Route::Page, Some(content)) => Answer::Page(content.text(Text::Page)),
         }
     }
 
-    fn metrics(&self) -> Answer<'_>
-        requires { IfSome self.now.content (λ c. C.made c Texts.Metrics) }
-        ensures reply { reply_of result
-            ≡ text_reply metrics_reply (view_of C.says self.now).texts }
-        ensures fits { IsTrue (fits Route.Metrics result) }
-    {
-        match &self.content {
-            Some(content) => Answer::Metrics(content.text(Text::Metrics)),
-            None => Answer::OutOfMemory,
-        }
-    }
-
-    fn open_metrics(&self) -> Answer<'_>
-        requires { IfSome self.now.content (λ c. C.made c Texts.OpenMetrics) }
-        ensures reply { reply_of result
-            ≡ text_reply open_metrics_reply (view_of C.says self.now).texts }
-        ensures fits { IsTrue (fits Route.OpenMetrics result) }
-    {
-        match &self.content {
-            Some(content) => Answer::OpenMetrics(content.text(Text::OpenMetrics)),
-            None => Answer::OutOfMemory,
-        }
-    }
-
-    fn report(&self) -> Answer<'_>
-        requires { IfSome self.now.content (λ c. C.made c Texts.Report) }
-        ensures reply { reply_of result
-            ≡ text_reply report_reply (view_of C.says self.now).texts }
-        ensures fits { IsTrue (fits Route.Report result) }
-    {
-        match &self.content {
-            Some(content) => Answer::Report(content.text(Text::Report)),
-            None => Answer::OutOfMemory,
-        }
-    }
-
-    fn page(&self) -> Answer<'_>
-        requires { IfSome self.now.content (λ c. C.made c Texts.Page) }
-        ensures reply { reply_of result
-            ≡ text_reply page_reply (view_of C.says self.now).texts }
-        ensures fits { IsTrue (fits Route.Page result) }
-    {
-        match &self.content {
-            Some(content) => Answer::Page(content.text(Text::Page)),
-            None => Answer::OutOfMemory,
-        }
-    }
-
+    /// Returns whether rounds end in time, which one ended last, and how long before now.
     fn health(&self, now: u64) -> Answer<'_>
         ensures reply { reply_of result ≡ health_reply self.now.ended self.now.limit now }
         ensures fits { IsTrue (fits Route.Health result) }
@@ -224,7 +167,10 @@ impl<C: Content> Pages<C> {
         let Some(ended) = self.ended else {
             return Answer::Unhealthy(None);
         };
-        let last = ended.last_round(now);
+        let last = LastRound {
+            number: ended.round,
+            seconds: now.saturating_sub(ended.at) / 1000,
+        };
         if self.is_healthy(now) {
             Answer::Healthy(last)
         } else {

@@ -5,7 +5,7 @@ ghost use Rattle.std.specs.Duration.{as_nanos};
 ghost use Rattle.mon_rounds.specs.AtSocket.{IsGot};
 ghost use Rattle.mon_rounds.specs.Reception.{IsTimed};
 ghost use Rattle.mon_udp.specs.Wait.{begun};
-ghost use Rattle.mon_web_receiver.specs.Attempt.{HadTurn, HadTurns, IsAttempt, IsTurnIn, TakesTurns, moment_at, no_silence, wait_after};
+ghost use Rattle.mon_web_receiver.specs.Attempt.{HadTurn, HadTurns, IsAttempt, IsTurnIn, TakesTurns, no_silence, wait_after};
 
 use crate::serves::{Dates, Serves};
 use crate::shows::Shows;
@@ -144,26 +144,6 @@ impl<R: Dates, T: Ticks, S: Looks, W: Serves> WebReceiver<'_, R, T, S, W> {
         Err(ReceiverFault)
     }
 
-    /// Receives something in this wait.
-    fn receive_in(&mut self, wait: Wait) -> Result<Arrival, ReceiverFault>
-        ensures wait { OnOk result (IsTimed (T.told self.old.ticks.now self.old.timer.quiet) wait
-            self.old.timer self.new.timer) }
-        ensures got { IfOk result (IsGot (T.told self.old.ticks.now self.new.timer.quiet) no_silence
-            (S.found self.old.socket.now) self.new.buffer.items self.new.timer) }
-        ensures turns { IfOk result (HadTurns
-            (IsTurnIn (T.told self.old.ticks.now self.new.timer.quiet) (R.dated self.old.rt.now)
-            W.served self.old.origin self.new.timer)
-            self.old.unserved self.new.unserved self.old.web self.new.web) }
-        ensures buffer { length self.new.buffer.items ≡ length self.old.buffer.items }
-        ensures pages { W.pages self.new.web ≡ W.pages self.old.web }
-        ensures origin { self.new.origin ≡ self.old.origin }
-    {
-        match self.begin(wait) {
-            Ok(()) => self.receive_rest(),
-            Err(_) => Err(ReceiverFault),
-        }
-    }
-
     /// Looks at the time; then for a datagram, and gives HTTP a turn in what is left of the wait if
     /// there is none. After 64 datagrams HTTP has its turn first.
     fn attempt(&mut self) -> io::Result<Attempt>
@@ -239,19 +219,11 @@ impl<R: Dates, T: Ticks, S: Looks, W: Serves> WebReceiver<'_, R, T, S, W> {
             Duration::ZERO
         };
         self.unserved = 0;
-        let at = self.moment(now);
-        self.web.serve(at, wait)
-    }
-
-    /// Returns the time, as it is said to clients.
-    fn moment(&self, now: Instant) -> Moment
-        ensures moment { result ≡ moment_at self.now.origin now result.date }
-        ensures date { R.dated self.now.rt.now result.date }
-    {
-        Moment {
+        let at = Moment {
             now: milliseconds(now.duration_since(self.origin)),
             date: self.rt.date(),
-        }
+        };
+        self.web.serve(at, wait)
     }
 }
 
@@ -282,7 +254,10 @@ impl<R: Dates, T: Ticks, S: Looks, W: Serves> Receiver for WebReceiver<'_, R, T,
         ensures origin { self.new.origin ≡ self.old.origin }
     {
         let failures = self.failures;
-        let received = self.receive_in(wait);
+        let received = match self.begin(wait) {
+            Ok(()) => self.receive_rest(),
+            Err(_) => Err(ReceiverFault),
+        };
         self.failures = failed_after(failures, &received);
         received
     }

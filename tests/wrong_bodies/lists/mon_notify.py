@@ -122,8 +122,8 @@ BUGS = {
     "a_threshold_in_units": ("src/alarms.rt", "    write!(text, \"{threshold}\")?;", "    write!(text, \"{}\", threshold / 1000)?;"),
     "the_alias_twice": (
         "src/alarms.rt",
-        "        if_name: if_name_of(labels),",
-        "        if_name: if_alias_of(labels),",
+        "        if_name: labels.and_then(|labels| labels.if_name.as_deref()),",
+        "        if_name: labels.and_then(|labels| labels.if_alias.as_deref()),",
     ),
     "no_line_for_people": ("src/alarms.rt", "            summary: turn.summary,", "            summary: \"\","),
     "a_threshold_is_the_station": (
@@ -132,7 +132,7 @@ BUGS = {
         "        station: texts.rising.as_str(),",
     ),
     "station_zero": ("src/scene.rt", "    write!(text, \"{station}\")?;", "    write!(text, \"0\")?;"),
-    "an_address_without_port": ("src/devices.rt", "    write!(text, \"{address}\")?;", "    write!(text, \"{}\", address.port)?;"),
+    "an_address_without_port": ("src/devices.rt", "    write!(address, \"{target}\")?;", "    write!(address, \"{}\", target.port)?;"),
     "the_first_device": (
         "src/devices.rt",
         "        if has_address(known, address) {\n            return device_of(Some(known));",
@@ -146,13 +146,13 @@ BUGS = {
     "a_rule_of_station_zero": ("src/alarms.rt", "        station: scene.station,", "        station: 0,"),
     "down_for_ever": (
         "src/devices.rt",
-        "    if is_down { None } else { Some(date) }",
-        "    if is_down { None } else { None }",
+        "if is_down { None } else { Some(scene.date) }",
+        "if is_down { None } else { None }",
     ),
     "up_is_down": (
         "src/devices.rt",
-        "    if is_down { None } else { Some(date) }",
-        "    if is_down { Some(date) } else { None }",
+        "if is_down { None } else { Some(scene.date) }",
+        "if is_down { Some(scene.date) } else { None }",
     ),
     "each_address_is_its": (
         "src/known.rt",
@@ -170,9 +170,9 @@ BUGS = {
         "        Some(labels) => labels.target.as_deref(),",
     ),
     "an_alias_is_unknown": (
-        "src/known.rt",
-        "        Some(labels) => labels.if_alias.as_deref(),",
-        "        Some(_) => None,",
+        "src/alarms.rt",
+        "        if_alias: labels.and_then(|labels| labels.if_alias.as_deref()),",
+        "        if_alias: None,",
     ),
 }
 
@@ -191,6 +191,6 @@ PROMISES = {
     "the_alias_twice": "alarms::labels_in",
     "labels_of_the_first": "alarms::rule_message",
     "the_first_device": "devices::device_at",
-    "down_for_ever": "devices::end_if_up",
+    "down_for_ever": "devices::device_message",
     "each_address_is_its": "known::has_address",
 }

@@ -212,13 +212,13 @@ BUGS = {
     ),
     "an_attempt_renews_the_wait": (
         "src/receiver.rt",
-        "        let at = self.moment(now);\n        self.web.serve",
-        "        let at = self.moment(now);\n        self.timer = self.timer.renew(now);\n        self.web.serve",
+        "        self.web.serve(at, wait)",
+        "        self.timer = self.timer.renew(now);\n        self.web.serve(at, wait)",
     ),
     "an_attempt_begins_the_wait_again": (
         "src/receiver.rt",
-        "        let at = self.moment(now);\n        self.web.serve",
-        "        let at = self.moment(now);\n        self.timer = Timer::begin(1000, now);\n        self.web.serve",
+        "        self.web.serve(at, wait)",
+        "        self.timer = Timer::begin(1000, now);\n        self.web.serve(at, wait)",
     ),
     "a_failure_is_the_end_of_a_wait": (
         "src/receiver.rt",
@@ -227,8 +227,8 @@ BUGS = {
     ),
     "many_attempts_are_the_end_of_a_wait": (
         "src/receiver.rt",
-        "        Err(ReceiverFault)\n    }\n\n    /// Receives something in this wait.",
-        "        Ok(Arrival::Quiet)\n    }\n\n    /// Receives something in this wait.",
+        "        Err(ReceiverFault)\n    }\n\n    /// Looks at the time; then",
+        "        Ok(Arrival::Quiet)\n    }\n\n    /// Looks at the time; then",
     ),
     "receives_half_a_datagram": (
         "src/receiver.rt",
@@ -247,8 +247,8 @@ BUGS = {
     ),
     "times_are_since_the_last_wait": (
         "src/receiver.rt",
-        "        let at = self.moment(now);\n        self.web.serve",
-        "        self.origin = now;\n        let at = self.moment(now);\n        self.web.serve",
+        "        let at = Moment {\n",
+        "        self.origin = now;\n        let at = Moment {\n",
     ),
     "says_the_time_since_the_wait_was_quiet": (
         "src/receiver.rt",
@@ -297,13 +297,13 @@ BUGS = {
     ),
     "a_turn_at_the_start": (
         "src/receiver.rt",
-        "        let at = self.moment(now);",
-        "        let _ = now;\n        let at = self.moment(self.origin);",
+        "milliseconds(now.duration_since(self.origin))",
+        "milliseconds(self.origin.duration_since(self.origin))",
     ),
     "a_turn_at_the_time_of_the_wait": (
         "src/receiver.rt",
-        "        let at = self.moment(now);",
-        "        let _ = now;\n        let at = self.moment(self.timer.quiet());",
+        "milliseconds(now.duration_since(self.origin))",
+        "milliseconds(self.timer.quiet().duration_since(self.origin))",
     ),
     "says_no_date": (
         "src/receiver.rt",
