@@ -118,7 +118,7 @@ BUGS = {
     "lets_a_family_twice": (
         "src/policy.rt",
         "return Err(PolicyFault::DuplicateFamily);",
-        "return Ok(Policy { tables });",
+        "let runs = Vec::new(*tables.families.allocator());\n        return Ok(Policy { tables, runs });",
     ),
     "one_denial": (
         "src/policy.rt",

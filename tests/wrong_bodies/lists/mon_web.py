@@ -144,7 +144,7 @@ BUGS = {
     "a_round_ends_the_texts": (
         "src/pages.rt",
         "        self.ended = Some(Ended { round: number, at });",
-        "        self.ended = Some(Ended { round: number, at });\n        self.texts = None;",
+        "        self.ended = Some(Ended { round: number, at });\n        self.content = None;",
     ),
     "healthy_before_the_round": (
         "src/pages.rt",
