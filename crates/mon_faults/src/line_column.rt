@@ -25,24 +25,18 @@ fn last_line(octets: &[u8]) -> &[u8]
     line
 }
 
-/// The first octets of a text, all where it has no more.
-#[tactic(auto, using(std::proofs::lemmas::List::take_all))]
-fn front(octets: &[u8], count: usize) -> &[u8]
-    ensures { result.now ≡ take count octets.now }
-{
-    if count <= octets.len() {
-        &octets[..count]
-    } else {
-        octets
-    }
-}
-
 /// The line and the column of the octet after the first `offset` ones of a text, and of its end
 /// where it has no more. A column counts characters.
+#[tactic(auto, using(std::proofs::lemmas::List::take_all))]
 pub(crate) fn line_column_at(text: &str, offset: usize) -> LineColumn
     ensures { result ≡ line_column_after (take offset text.now) }
 {
-    let octets = front(text.as_bytes(), offset);
+    let all = text.as_bytes();
+    let octets = if offset <= all.len() {
+        &all[..offset]
+    } else {
+        all
+    };
     let line_feeds = octets.iter().filter(|octet| **octet == b'\n');
     let chars = last_line(octets)
         .iter()

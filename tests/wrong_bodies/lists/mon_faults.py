@@ -84,8 +84,8 @@ BUGS = {
     ),
     "answers_the_last_place_of_a_text": (
         "src/line_column.rt",
-        "        &octets[..count]\n",
-        "        octets\n",
+        "        &all[..offset]\n",
+        "        all\n",
     ),
     "names_no_unknown_key": (
         "src/unknown.rt",
@@ -114,13 +114,13 @@ BUGS = {
     ),
     "ignores_the_offset": (
         "src/line_column.rt",
-        "    let octets = front(text.as_bytes(), offset);",
-        "    let _ = offset;\n    let octets = text.as_bytes();",
+        "    let octets = if offset <= all.len() {\n        &all[..offset]\n    } else {\n        all\n    };\n",
+        "    let _ = offset;\n    let octets = all;\n",
     ),
     "takes_the_rest_for_the_front": (
         "src/line_column.rt",
-        "        &octets[..count]\n",
-        "        &octets[count..]\n",
+        "        &all[..offset]\n",
+        "        &all[offset..]\n",
     ),
     "takes_the_first_entry": (
         "src/unknown.rt",
