@@ -1,6 +1,5 @@
 //! What a line of the input offers.
 
-ghost use Rattle.std.specs.Prelude.{◌≡◌, ◌≤◌, ◌↔◌, IsTrue, length};
 ghost use Rattle.mon_app.specs.Gives.{Gives};
 ghost use Rattle.mon_app.specs.Reading.{stamp_of, body_reading};
 ghost use Rattle.mon_app.specs.Response.{response_in};
