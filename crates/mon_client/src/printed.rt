@@ -6,7 +6,6 @@ ghost use Rattle.std.specs.Fmt.{signed_decimal};
 ghost use Rattle.mon_client.specs.Printed.{is_seen, escaped, hex_text, string_text, number_text, kind_text, quad_text, address_text, value_shown, binding_line};
 
 use mon_ber::Value;
-use mon_oid::Oid;
 use mon_pdu::Binding;
 use mon_smi::NameTexts;
 use std::alloc::{AllocError, Global};

@@ -2,7 +2,7 @@
 
 ghost use Rattle.std.specs.Prelude.{◌≡◌, ◌++◌, IfErr, IfOk, OnOk, false, length, map, nat_le, option_map, string_bytes};
 ghost use Rattle.mon_console.specs.Clashing.{clash_end, clash_line, name_at, owner_of};
-ghost use Rattle.mon_console.specs.Naming.{AreBuiltIn, AreJoined, AreJoinedFromAll, AreKnown, AreNames, IsAddedFile, IsUnaddable, IsUnnamed, is_among, left, names_in, others};
+ghost use Rattle.mon_console.specs.Naming.{AreBuiltIn, AreJoinedFromAll, AreKnown, AreNames, IsAddedFile, IsUnaddable, IsUnnamed, is_among, left, names_in, others};
 ghost use Rattle.mon_host.specs.Log.{GoesOnBy};
 ghost use Rattle.mon_oid.specs.Oid.{IsOid};
 ghost use Rattle.mon_smi.specs.BuiltIn.{built_in};
