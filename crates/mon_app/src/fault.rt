@@ -6,7 +6,6 @@ ghost use Rattle.std.specs.IoError.{error_kind};
 ghost use Rattle.mon_app.specs.declared.fault.AppFault.TheVariants.{OutOfMemory, SocketFault as FaultOfSocket};
 
 use crate::reason::SocketReason;
-use mon_agent::AgentFault;
 use mon_pdu::PduFault;
 use std::alloc::AllocError;
 use std::io;
@@ -90,15 +89,6 @@ impl From<SocketFault> for AppFault {
         AppFault::SocketFault {
             reason: fault.reason,
         }
-    }
-}
-
-/// The one fault of an agent is that memory ran out.
-impl From<AgentFault> for AppFault {
-    ghost from_gives = { λ _ e. e ≡ OutOfMemory };
-
-    fn from(_e: AgentFault) -> AppFault {
-        AppFault::OutOfMemory
     }
 }
 

@@ -3,8 +3,8 @@
 ghost use Rattle.std.specs.Prelude.{◌≡◌, ◌≢◌, ◌≤◌, ◌<◌, ◌++◌, ◌∷◌, List, [], IfOk, IfErr, IfSome, OnOk, length, map, string_bytes, ◌==◌, option_map, position};
 ghost use Rattle.std.specs.Str.Lines.{strip_carriage_return};
 ghost use Rattle.mon_app.specs.Offer.{Offer};
-ghost use Rattle.mon_app.specs.Gives.{Fails, Gives};
-ghost use Rattle.mon_app.specs.Reading.{message_in, message_reading, hex_reading};
+ghost use Rattle.mon_app.specs.Gives.{Fails};
+ghost use Rattle.mon_app.specs.Reading.{hex_reading};
 ghost use Rattle.mon_app.specs.Taken.{AreOffersTaken};
 ghost use Rattle.mon_app.specs.Replay.{verdict, accepted, refusals, refused_text, lines_of, lines_left, replayed};
 ghost use Rattle.mon_app.specs.Outcome.{IsReplay};
@@ -15,7 +15,7 @@ use crate::line::read_body;
 use crate::refusal::Refusal;
 use crate::table::Table;
 use crate::text::{put_end, put_refused_line, put_rows};
-use mon_pdu::{Message, read_message};
+use mon_pdu::read_message;
 use std::alloc::{AllocError, Global};
 
 /// The first line of the octets, without the LF that ends it and one CR before that, and what
@@ -48,39 +48,9 @@ fn without_cr(line: &[u8]) -> &[u8]
     }
 }
 
-/// Reads the message that the hex digits of a line spell.
-#[tactic(auto, unfolding(crate::specs::Reading::message_in))]
-fn read_line(alloc: Global, line: &[u8]) -> Result<Message, Refusal>
-    ensures { Gives (λ m. m) result (message_in line.now) }
-{
-    let octets = hex::decode(alloc, line)?;
-    Ok(read_message(alloc, octets.as_slice())?)
-}
-
-/// Takes all samples that a message offers, or refuses it, which then changes nothing.
-#[tactic(auto, unfolding(crate::specs::Reading::message_reading))]
-fn take_message(alloc: Global, table: &mut Table, message: &Message) -> Result<(), Refusal>
-    ensures size { table.new.size ≡ table.old.size }
-    ensures ok { OnOk result ((taken : List Offer) → table.old.rows.items
-        ≡ rows_of table.old.size taken
-        → AreOffersTaken (verdict taken (message_reading message.now)) table.old.size taken
-        table.new.rows.items) }
-    ensures err { IfErr result (λ e. (taken : List Offer) → table.old.rows.items
-        ≡ rows_of table.old.size taken
-        → Fails e (verdict taken (message_reading message.now))) }
-    ensures same { IfErr result (λ e. e ≢ Refusal.OutOfMemory
-        → table.new.rows.items ≡ table.old.rows.items) }
-{
-    let response = read_body(&message.body)?;
-    if !table.has_room(alloc, &response)? {
-        return Err(Refusal::TooManyInstances);
-    }
-    table.take(alloc, &response)?;
-    Ok(())
-}
-
-/// Takes the samples of the message that the hex digits of a line spell.
-#[tactic(auto, unfolding(crate::specs::Reading::hex_reading))]
+/// Takes all samples that the message offers which the hex digits of a line spell, or refuses it,
+/// which then changes nothing.
+#[tactic(auto, unfolding(crate::specs::Reading::hex_reading, crate::specs::Reading::message_in, crate::specs::Reading::message_reading))]
 fn take_line(alloc: Global, table: &mut Table, line: &[u8]) -> Result<(), Refusal>
     ensures size { table.new.size ≡ table.old.size }
     ensures ok { OnOk result ((taken : List Offer) → table.old.rows.items
@@ -93,8 +63,14 @@ fn take_line(alloc: Global, table: &mut Table, line: &[u8]) -> Result<(), Refusa
     ensures same { IfErr result (λ e. e ≢ Refusal.OutOfMemory
         → table.new.rows.items ≡ table.old.rows.items) }
 {
-    let message = read_line(alloc, line)?;
-    take_message(alloc, table, &message)
+    let octets = hex::decode(alloc, line)?;
+    let message = read_message(alloc, octets.as_slice())?;
+    let response = read_body(&message.body)?;
+    if !table.has_room(alloc, &response)? {
+        return Err(Refusal::TooManyInstances);
+    }
+    table.take(alloc, &response)?;
+    Ok(())
 }
 
 /// Takes the lines one after another, writes why lines are refused, and counts these.

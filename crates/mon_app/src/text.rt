@@ -2,11 +2,10 @@
 
 ghost use Rattle.std.specs.Prelude.{◌≡◌, ◌++◌, ◌≤◌, decimal, length, IfOk, OnOk, string_bytes};
 ghost use Rattle.std.specs.List.{flat_map};
-ghost use Rattle.mon_app.specs.Text.{value_text, sample_line, instance_line, row_text, refused_line, end_line, samples_in};
+ghost use Rattle.mon_app.specs.Text.{value_text, sample_line, row_text, refused_line, end_line, samples_in};
 
 use crate::refusal::Refusal;
 use crate::table::Row;
-use mon_board::Instance;
 use mon_sample::{Kind, Sample};
 use std::alloc::{AllocError, Global};
 
@@ -35,16 +34,6 @@ fn put_sample(text: &mut String, sample: &Sample) -> Result<(), AllocError>
     text.push_str("\n")
 }
 
-#[tactic(auto, unfolding(crate::specs::Text::instance_line))]
-fn put_instance(alloc: Global, text: &mut String, instance: &Instance) -> Result<(), AllocError>
-    ensures { OnOk result (string_bytes text.new ≡ string_bytes text.old
-        ++ instance_line instance.now) }
-{
-    let engine = hex::encode(alloc, instance.engine.as_slice())?;
-    let name = instance.name.text(alloc)?;
-    writeln!(text, "{engine} {name}")
-}
-
 fn put_samples(text: &mut String, samples: &[Sample]) -> Result<(), AllocError>
     ensures { OnOk result (string_bytes text.new ≡ string_bytes text.old
         ++ flat_map sample_line samples.now) }
@@ -55,11 +44,14 @@ fn put_samples(text: &mut String, samples: &[Sample]) -> Result<(), AllocError>
     Ok(())
 }
 
-#[tactic(auto, unfolding(crate::specs::Text::row_text))]
+/// A row's instance, by engine id and name, and its samples.
+#[tactic(auto, unfolding(crate::specs::Text::row_text, crate::specs::Text::instance_line))]
 fn put_row(alloc: Global, text: &mut String, row: &Row) -> Result<(), AllocError>
     ensures { OnOk result (string_bytes text.new ≡ string_bytes text.old ++ row_text row.now) }
 {
-    put_instance(alloc, text, &row.instance)?;
+    let engine = hex::encode(alloc, row.instance.engine.as_slice())?;
+    let name = row.instance.name.text(alloc)?;
+    writeln!(text, "{engine} {name}")?;
     put_samples(text, row.window.items())
 }
 

@@ -2,9 +2,8 @@
 
 ghost use Rattle.std.specs.Prelude.{◌≡◌, string_bytes};
 ghost use Rattle.mon_udp.specs.Told.{GoesOnBy};
-ghost use Rattle.mon_pdu.specs.declared.message.Body.TheVariants as bodies;
 ghost use Rattle.mon_client.specs.AtWire.{socket_failures};
-ghost use Rattle.mon_client.specs.Printed.{IsQuestionAnswered, IsPrinted, bindings_in};
+ghost use Rattle.mon_client.specs.Printed.{IsQuestionAnswered, IsPrinted};
 ghost use Rattle.mon_client.specs.Question.{asked_in};
 
 use crate::asking::send_request;
@@ -12,7 +11,7 @@ use crate::printed::bindings_text;
 use crate::question::Question;
 use crate::wire::Wire;
 use mon_app::AppFault;
-use mon_pdu::{Bindings, Body, Message, Pdu};
+use mon_pdu::{Bindings, Body, Message};
 use mon_smi::NameTexts;
 use std::alloc::Global;
 
@@ -35,7 +34,7 @@ pub fn answer_text<W: Wire, S: NameTexts>(
     Ok(bindings_text(alloc, bindings.as_slice(), names)?)
 }
 
-/// Asks an agent, and returns the variable bindings of its reply.
+/// Asks an agent, and returns the variable bindings of its reply, if that has no error status.
 pub(crate) fn answers<W: Wire>(
     alloc: Global,
     wire: &mut W,
@@ -47,20 +46,15 @@ pub(crate) fn answers<W: Wire>(
 {
     let Message { body, .. } = send_request(alloc, wire, question)?;
     match body {
-        Body::Pdu(pdu) => fine(pdu),
+        Body::Pdu(pdu) => {
+            if pdu.error_status != 0 {
+                return Err(AppFault::AgentStatus {
+                    status: pdu.error_status,
+                    index: pdu.error_index,
+                });
+            }
+            Ok(pdu.bindings)
+        }
         Body::Bulk(bulk) => Ok(bulk.bindings),
     }
-}
-
-/// The variable bindings of a response without an error.
-fn fine(pdu: Pdu) -> Result<Bindings, AppFault>
-    ensures { result ≡ bindings_in (bodies.Pdu pdu) }
-{
-    if pdu.error_status != 0 {
-        return Err(AppFault::AgentStatus {
-            status: pdu.error_status,
-            index: pdu.error_index,
-        });
-    }
-    Ok(pdu.bindings)
 }

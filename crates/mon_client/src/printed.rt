@@ -6,7 +6,6 @@ ghost use Rattle.std.specs.Fmt.{signed_decimal};
 ghost use Rattle.mon_client.specs.Printed.{is_seen, escaped, hex_text, string_text, number_text, kind_text, quad_text, address_text, value_shown, binding_line};
 
 use mon_ber::Value;
-use mon_oid::Oid;
 use mon_pdu::Binding;
 use mon_smi::NameTexts;
 use std::alloc::{AllocError, Global};
@@ -56,14 +55,26 @@ fn put_value<S: NameTexts>(
 {
     match value {
         Value::Integer(number) => put_integer(text, *number),
-        Value::Octets(octets) => put_octets(alloc, text, octets.as_slice()),
+        Value::Octets(octets) => {
+            let shown = string_text(alloc, octets.as_slice())?;
+            put_text(text, "String", shown.as_str())
+        }
         Value::Null => put_word(text, "null"),
-        Value::Name(name) => put_name(alloc, text, name, names),
-        Value::IpAddress(address) => put_address(alloc, text, address.as_slice()),
+        Value::Name(name) => {
+            let shown = names.text(alloc, name)?;
+            put_text(text, "Oid", shown.as_str())
+        }
+        Value::IpAddress(address) => {
+            let shown = address_text(alloc, address.as_slice())?;
+            put_text(text, "IpAddress", shown.as_str())
+        }
         Value::Counter32(number) => put_number(text, "Counter32", u64::from(*number)),
         Value::Gauge32(number) => put_number(text, "Gauge32", u64::from(*number)),
         Value::TimeTicks(number) => put_number(text, "TimeTicks", u64::from(*number)),
-        Value::Opaque(octets) => put_opaque(alloc, text, octets.as_slice()),
+        Value::Opaque(octets) => {
+            let shown = hex_text(alloc, octets.as_slice())?;
+            put_text(text, "Opaque", shown.as_str())
+        }
         Value::Counter64(number) => put_number(text, "Counter64", *number),
         Value::NoSuchObject => put_word(text, "noSuchObject"),
         Value::NoSuchInstance => put_word(text, "noSuchInstance"),
@@ -101,28 +112,6 @@ fn put_integer(text: &mut String, number: i32) -> Result<(), AllocError>
     write!(text, "Integer: {number}")
 }
 
-#[tactic(auto, unfolding(crate::specs::Printed::kind_text))]
-fn put_name<S: NameTexts>(
-    alloc: Global,
-    text: &mut String,
-    name: &Oid,
-    names: &S,
-) -> Result<(), AllocError>
-    ensures { OnOk result (string_bytes text.new ≡ string_bytes text.old
-        ++ kind_text (codes "Oid") (S.shown names.now name.now)) }
-{
-    let name = names.text(alloc, name)?;
-    put_text(text, "Oid", name.as_str())
-}
-
-fn put_address(alloc: Global, text: &mut String, address: &[u8]) -> Result<(), AllocError>
-    ensures { OnOk result (string_bytes text.new ≡ string_bytes text.old
-        ++ kind_text (codes "IpAddress") (address_text address.now)) }
-{
-    let shown = address_text(alloc, address)?;
-    put_text(text, "IpAddress", shown.as_str())
-}
-
 /// Four octets in decimal.
 #[tactic(auto, unfolding(crate::specs::Printed::address_text))]
 fn address_text(alloc: Global, address: &[u8]) -> Result<String, AllocError>
@@ -154,22 +143,7 @@ fn hex_text(alloc: Global, octets: &[u8]) -> Result<String, AllocError>
     Ok(text)
 }
 
-fn put_opaque(alloc: Global, text: &mut String, octets: &[u8]) -> Result<(), AllocError>
-    ensures { OnOk result (string_bytes text.new ≡ string_bytes text.old
-        ++ kind_text (codes "Opaque") (hex_text octets.now)) }
-{
-    let shown = hex_text(alloc, octets)?;
-    put_text(text, "Opaque", shown.as_str())
-}
-
-fn put_octets(alloc: Global, text: &mut String, octets: &[u8]) -> Result<(), AllocError>
-    ensures { OnOk result (string_bytes text.new ≡ string_bytes text.old
-        ++ kind_text (codes "String") (string_text octets.now)) }
-{
-    let shown = string_text(alloc, octets)?;
-    put_text(text, "String", shown.as_str())
-}
-
+/// Seen characters in quotes, other octets in hex digits.
 #[tactic(auto, unfolding(crate::specs::Printed::string_text))]
 fn string_text(alloc: Global, octets: &[u8]) -> Result<String, AllocError>
     ensures { IfOk result (λ text. string_bytes text ≡ string_text octets.now) }
@@ -184,6 +158,7 @@ fn string_text(alloc: Global, octets: &[u8]) -> Result<String, AllocError>
     Ok(text)
 }
 
+/// Returns `true` if all octets are characters of ASCII that are seen.
 fn are_seen(octets: &[u8]) -> bool
     ensures { result ≡ list_all is_seen octets.now }
 {

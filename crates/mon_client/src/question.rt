@@ -104,18 +104,11 @@ fn asked_bindings(
 {
     let mut bindings = Vec::new(alloc);
     for name in names {
-        bindings.push(asked_binding(alloc, asking, name)?)?;
+        let name = name.try_clone(alloc)?;
+        let value = asking.value(alloc)?;
+        bindings.push(Binding { name, value })?;
     }
     Ok(bindings)
-}
-
-/// A name with its value in the request.
-fn asked_binding(alloc: Global, asking: Asking<'_>, name: &Oid) -> Result<Binding, AllocError>
-    ensures { IfOk result (λ b. b ≡ asked_for (wanted_value asking.entry) name.now) }
-{
-    let name = name.try_clone(alloc)?;
-    let value = asking.value(alloc)?;
-    Ok(Binding { name, value })
 }
 
 /// Returns `true` if a message replies to the question: a Response in its community with its

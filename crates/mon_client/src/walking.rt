@@ -1,6 +1,6 @@
 //! Walking through the variables under a name.
 
-ghost use Rattle.std.specs.Prelude.{◌≡◌, ◌<◌, ◌↔◌, ◌||◌, IfErr, IsTrue};
+ghost use Rattle.std.specs.Prelude.{◌≡◌, ◌<◌, ◌||◌, IfErr};
 ghost use Rattle.mon_udp.specs.Told.{GoesOnBy};
 ghost use Rattle.mon_host.specs.Log.{GoesOnBy as HostGoesOnBy};
 ghost use Rattle.mon_client.specs.AtWire.{socket_failures};
@@ -281,18 +281,12 @@ enum WalkStep {
 fn step_of(start: &Oid, last: &Oid, found: &Binding) -> WalkStep
     ensures { IsWalkStep start.now last.now found.now result }
 {
-    if is_end(&found.value) || !start.is_prefix_of(&found.name) {
+    let is_end = matches!(found.value, Value::EndOfMibView);
+    if is_end || !start.is_prefix_of(&found.name) {
         return WalkStep::Past;
     }
     if last.compare(&found.name).is_lt() {
         return WalkStep::On;
     }
     WalkStep::Back
-}
-
-/// Returns `true` if there is no further variable.
-fn is_end(value: &Value) -> bool
-    ensures { IsTrue result ↔ (value.now ≡ Value.EndOfMibView) }
-{
-    matches!(value, Value::EndOfMibView)
 }

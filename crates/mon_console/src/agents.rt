@@ -1,6 +1,6 @@
 //! The agent that a command asks, and why it gave no answer.
 
-ghost use Rattle.std.specs.Prelude.{◌≡◌, ◌↔◌, ◌≤◌, IfErr, IfOk, IsTrue, None, Some, codes, length, string_bytes};
+ghost use Rattle.std.specs.Prelude.{◌≡◌, ◌≤◌, IfErr, IfOk, None, Some, codes, length, string_bytes};
 ghost use Rattle.mon_console.specs.Agents.{IsUnanswered, status_line};
 ghost use Rattle.mon_console.specs.Failure.{IsOfText};
 ghost use Rattle.mon_udp.specs.Addr.{addr_of};
@@ -35,7 +35,7 @@ pub fn agent_at<'a>(alloc: Global, word: &'a str) -> Result<AgentAt<'a>, Failure
     }
 }
 
-/// The octets of a community.
+/// The octets of a community, which has 1 to 512.
 pub fn community<'a>(alloc: Global, word: &'a str) -> Result<&'a [u8], Failure>
     ensures octets { IfOk result (λ octets. octets.now ≡ word.now) }
     ensures fits { IfOk result (λ _. (1 ≤ length word.now) × (length word.now ≤ 512)) }
@@ -43,17 +43,10 @@ pub fn community<'a>(alloc: Global, word: &'a str) -> Result<&'a [u8], Failure>
     ensures fault { IfErr result
         (IsOfText (codes "COMMUNITY") (codes "a text of 1 to 512 octets")) }
 {
-    if is_community(word) {
+    if 1 <= word.len() && word.len() <= MAX_COMMUNITY {
         return Ok(word.as_bytes());
     }
     Err(Failure::text(alloc, "COMMUNITY", "a text of 1 to 512 octets"))
-}
-
-/// Returns `true` if the word can be a community, which has 1 to 512 octets.
-fn is_community(word: &str) -> bool
-    ensures { IsTrue result ↔ ((1 ≤ length word.now) × (length word.now ≤ 512)) }
-{
-    1 <= word.len() && word.len() <= MAX_COMMUNITY
 }
 
 /// Why the agent gave no answer that is printed.

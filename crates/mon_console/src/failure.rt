@@ -3,7 +3,7 @@
 ghost use Rattle.std.specs.Prelude.{◌≡◌, ◌↔◌, IsTrue, false, option_map, string_bytes};
 ghost use Rattle.std.specs.IoError.{error_kind};
 ghost use Rattle.std.specs.Result.{result_ok};
-ghost use Rattle.mon_app.specs.AppFault.{of_socket, of_stream};
+ghost use Rattle.mon_app.specs.AppFault.{of_socket};
 ghost use Rattle.mon_console.specs.Failure.{HasReason, IsOfSocket, IsOfStream, IsOfText, IsPlain, IsSecond, IsTold, IsUnopened};
 ghost use Rattle.mon_faults.specs.Fault.{innermost_of, station_fault};
 ghost use Rattle.mon_faults.specs.declared.fault.Fault.TheVariants.{App, Device, Names};
@@ -87,8 +87,12 @@ impl Failure {
         ensures { IsOfStream place.now (why reason) result }
     {
         let Reason { kind, words } = reason;
+        let fault = match kind {
+            io::ErrorKind::OutOfMemory => AppFault::OutOfMemory,
+            _ => AppFault::FileFault,
+        };
         Failure {
-            fault: Fault::App(stream_fault(kind)),
+            fault: Fault::App(fault),
             more: reason_line(alloc, place, words),
             is_cut: matches!(kind, io::ErrorKind::BrokenPipe),
         }
@@ -158,16 +162,6 @@ impl Failure {
                 host.note(level, format_args!("{fault}\n"));
             }
         }
-    }
-}
-
-/// Returns the fault of a file or a stream that failed so.
-fn stream_fault(kind: io::ErrorKind) -> AppFault
-    ensures { result ≡ of_stream kind }
-{
-    match kind {
-        io::ErrorKind::OutOfMemory => AppFault::OutOfMemory,
-        _ => AppFault::FileFault,
     }
 }
 

@@ -1,7 +1,7 @@
 //! Labels of the instances of a station, for reports and lines, and its own.
 
 ghost use Rattle.std.specs.Prelude.{◌≡◌, IfOk, Some, map, option_map, string_bytes};
-ghost use Rattle.mon_console.specs.Labelled.{AreLabelled, AreLabels, AreLabelsOf, AreSaid, IsLabelled, IsOfLabels, number_if};
+ghost use Rattle.mon_console.specs.Labelled.{AreLabelled, AreLabels, AreLabelsOf, AreSaid, IsLabelled, number_if};
 ghost use Rattle.mon_host.specs.Log.{GoesOnBy};
 ghost use Rattle.mon_labels.specs.Given.{given};
 ghost use Rattle.mon_udp.specs.Addr.{addr_text};
@@ -73,29 +73,6 @@ fn all_labels(
     ensures own { IfOk result (λ all.
         option_map string_bytes all.1 ≡ option_map string_bytes settings.now.label) }
 {
-    let all = labels_of(alloc, labels, settings)?;
-    Ok((all, copied(alloc, &settings.label)?))
-}
-
-/// Returns a copy of a text, if there is one.
-fn copied(alloc: Global, text: &Option<String>) -> Result<Option<String>, AllocError>
-    ensures { IfOk result (λ copy.
-        option_map string_bytes copy ≡ option_map string_bytes text.now) }
-{
-    match text {
-        None => Ok(None),
-        Some(text) => Ok(Some(String::from_str(alloc, text.as_str())?)),
-    }
-}
-
-/// Returns the labels of the instances of a station by those of interfaces.
-fn labels_of(
-    alloc: Global,
-    labels: &Labels,
-    settings: &StationSettings,
-) -> Result<Vec<InstanceLabels>, AllocError>
-    ensures { IfOk result (λ all. AreLabelsOf settings.now labels.now (map given all.items)) }
-{
     let core = &settings.core;
     let addresses = addresses_of(alloc, core.targets())?;
     let reached = Reached {
@@ -103,7 +80,12 @@ fn labels_of(
         addresses: addresses.as_slice(),
         devices: settings.target_labels.as_slice(),
     };
-    labels.of_instances(alloc, core.watch().instances(), reached)
+    let all = labels.of_instances(alloc, core.watch().instances(), reached)?;
+    let label = match &settings.label {
+        None => None,
+        Some(label) => Some(String::from_str(alloc, label.as_str())?),
+    };
+    Ok((all, label))
 }
 
 /// Returns where the agent of each target is reached.
@@ -113,16 +95,9 @@ fn addresses_of(alloc: Global, targets: &[Target]) -> Result<Vec<String>, AllocE
 {
     let mut addresses = Vec::with_capacity(alloc, targets.len())?;
     for target in targets {
-        addresses.push(address_text(alloc, target)?)?;
+        addresses.push(format!(in alloc; "{}", target.address)?)?;
     }
     Ok(addresses)
-}
-
-/// Returns where the agent of a target is reached.
-fn address_text(alloc: Global, target: &Target) -> Result<String, AllocError>
-    ensures { IfOk result (λ text. string_bytes text ≡ addr_text target.now.address) }
-{
-    format!(in alloc; "{}", target.address)
 }
 
 /// Reads the labels in a file, if one is given.
@@ -158,16 +133,12 @@ fn labels_in_text(alloc: Global, path: &str, text: &str) -> Result<Labels, Failu
 {
     match read_labels(alloc, text) {
         Ok(labels) => Ok(labels),
-        Err(fault) => Err(labels_failure(alloc, path, text, fault)),
+        Err(fault) => {
+            let innermost = Innermost::new("mon_labels", fault.number(), fault.name());
+            let line = line(alloc, path, text, fault);
+            Err(Failure::said(Fault::Other(innermost), line))
+        }
     }
-}
-
-/// Returns why a file of labels was refused.
-fn labels_failure(alloc: Global, path: &str, text: &str, fault: LabelsFault) -> Failure
-    ensures { IsOfLabels fault result }
-{
-    let innermost = Innermost::new("mon_labels", fault.number(), fault.name());
-    Failure::said(Fault::Other(innermost), line(alloc, path, text, fault))
 }
 
 /// Returns the file, and what is wrong in it and where.

@@ -2,7 +2,7 @@
 
 ghost use Rattle.std.specs.Prelude.{◌≡◌, ◌++◌, IfErr, IfOk, OnOk, false, length, map, nat_le, option_map, string_bytes};
 ghost use Rattle.mon_console.specs.Clashing.{clash_end, clash_line, name_at, owner_of};
-ghost use Rattle.mon_console.specs.Naming.{AreBuiltIn, AreJoined, AreJoinedFromAll, AreKnown, AreNames, IsAddedFile, IsUnaddable, IsUnnamed, is_among, left, names_in, others};
+ghost use Rattle.mon_console.specs.Naming.{AreBuiltIn, AreJoinedFromAll, AreKnown, AreNames, IsAddedFile, IsUnaddable, IsUnnamed, is_among, left, names_in, others};
 ghost use Rattle.mon_host.specs.Log.{GoesOnBy};
 ghost use Rattle.mon_oid.specs.Oid.{IsOid};
 ghost use Rattle.mon_smi.specs.BuiltIn.{built_in};
@@ -68,7 +68,10 @@ impl KnownNames {
             (H.log host.old) (H.log host.new) }
     {
         let text = read_text(alloc, host, path)?;
-        self.add_text(alloc, path, text.as_str())
+        match read_module(alloc, text.as_str()) {
+            Ok(module) => self.add(alloc, path, &module),
+            Err(fault) => Err(no_module(alloc, path, text.as_str(), fault)),
+        }
     }
 
     /// Adds the names of the modules in files, in order.
@@ -87,16 +90,6 @@ impl KnownNames {
         Ok(())
     }
 
-    /// Adds the names of the module that a text is, which is that of this file.
-    fn add_text(&mut self, alloc: Global, path: &str, text: &str) -> Result<(), Failure>
-        ensures { AreJoined self.old.names text.now (left self.new.names result) }
-    {
-        match read_module(alloc, text) {
-            Ok(module) => self.add(alloc, path, &module),
-            Err(fault) => Err(no_module(alloc, path, text, fault)),
-        }
-    }
-
     /// Adds the names of a module that was read from this file.
     pub fn add(&mut self, alloc: Global, path: &str, added: &Module) -> Result<(), Failure>
         ensures added { OnOk result (self.new.names ≡ self.old.names ++ added.now.defs) }
@@ -109,24 +102,13 @@ impl KnownNames {
                 self.ends.push((name, self.names.definitions().len()))?;
                 Ok(())
             }
-            Err(fault) => Err(Failure::said(
-                Fault::Names(fault),
-                self.refusal(alloc, path, added, fault),
-            )),
-        }
-    }
-
-    /// Says why a module's names were not added.
-    fn refusal(
-        &self,
-        alloc: Global,
-        path: &str,
-        added: &Module,
-        fault: NamesFault,
-    ) -> Result<String, AllocError> {
-        match fault {
-            NamesFault::Duplicate(clash) => self.clash_text(alloc, path, added, clash),
-            _ => format!(in alloc; "{path}: {fault}"),
+            Err(fault) => {
+                let line = match fault {
+                    NamesFault::Duplicate(clash) => self.clash_text(alloc, path, added, clash),
+                    _ => format!(in alloc; "{path}: {fault}"),
+                };
+                Err(Failure::said(Fault::Names(fault), line))
+            }
         }
     }
 

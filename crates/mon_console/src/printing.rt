@@ -3,7 +3,7 @@
 ghost use Rattle.std.specs.Prelude.{◌≡◌, ◌↔◌, [], IfOk, IsTrue, None, is_some, option_map, string_bytes};
 ghost use Rattle.mon_board.specs.Board.{window_of};
 ghost use Rattle.mon_console.specs.Notices.{alarm_notice, device_notice};
-ghost use Rattle.mon_console.specs.Printing.{IsPrinting, aged, numbered, presented, shown_names, with_labels};
+ghost use Rattle.mon_console.specs.Printing.{IsPrinting, aged, numbered, shown_names, with_labels};
 ghost use Rattle.mon_console.specs.Shown.{shown_by};
 ghost use Rattle.mon_host.specs.Log.{GoesOnBy};
 ghost use Rattle.mon_formats.specs.Changes.{change_line, instance_text};
@@ -75,7 +75,12 @@ impl Printing {
             chosen: printed.chosen,
             names: names_if(printed.named.shown, known),
             labels: Vec::new(alloc),
-            presentation: presented(printed.sort),
+            presentation: Presentation {
+                label: None,
+                file_age: None,
+                sort: printed.sort.unwrap_or(Sort::Name),
+                station: None,
+            },
         })
     }
 
@@ -295,18 +300,6 @@ impl Printing {
     {
         let entries = entries_of(alloc, board)?;
         self.text(alloc, entries.as_slice(), station)
-    }
-}
-
-/// Returns how a table with rows in this order is presented, by name if none is given.
-fn presented(sort: Option<Sort>) -> Presentation
-    ensures { result ≡ presented sort }
-{
-    Presentation {
-        label: None,
-        file_age: None,
-        sort: sort.unwrap_or(Sort::Name),
-        station: None,
     }
 }
 

@@ -13,7 +13,7 @@ use mon_faults::{Fault, explain};
 use mon_host::Host;
 use mon_settings::{SettingsFault, SettingsKind, StationSettings, module_files, read_station};
 use mon_smi::Names;
-use std::alloc::{AllocError, Global};
+use std::alloc::Global;
 
 /// Returns what the file of a station's settings says, by the names of the modules that it lists,
 /// and how its reports are printed.
@@ -59,7 +59,8 @@ pub fn station_settings_in(
     }
 }
 
-/// Why the settings in a file, an agent's or a station's, were refused.
+/// Why the settings in a file, an agent's or a station's, were refused: the file, and what is wrong
+/// in it and where.
 pub fn settings_failure(
     alloc: Global,
     of: SettingsKind,
@@ -70,17 +71,7 @@ pub fn settings_failure(
     ensures fault { result.fault ≡ Fault.Settings fault }
     ensures whole { result.is_cut ≡ false }
 {
-    Failure::said(Fault::Settings(fault), line(alloc, of, path, text, fault))
-}
-
-/// The file, and what is wrong in it and where.
-fn line(
-    alloc: Global,
-    of: SettingsKind,
-    path: &str,
-    text: &str,
-    fault: SettingsFault,
-) -> Result<String, AllocError> {
-    let why = explain(alloc, fault, of, text)?;
-    format!(in alloc; "{path}: {why}")
+    let why = explain(alloc, fault, of, text);
+    let line = why.and_then(|why| format!(in alloc; "{path}: {why}"));
+    Failure::said(Fault::Settings(fault), line)
 }

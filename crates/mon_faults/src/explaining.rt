@@ -17,6 +17,8 @@ fn list_keys(alloc: Global, keys: &[Key]) -> Result<String, AllocError> {
     Ok(names)
 }
 
+/// Says which key is unknown, whose it is where it is one of settings of the other kind, and which
+/// keys are known.
 fn unknown(
     alloc: Global,
     text: &str,
@@ -26,25 +28,15 @@ fn unknown(
     let keys = list_keys(alloc, known_keys(kind, place))?;
     match unknown_key(alloc, text, kind, place)? {
         Some(name) => {
-            let whose = whose_key(kind, is_of_other(kind, place, &name));
+            let whose = match (is_of_other(kind, place, &name), kind) {
+                (false, _) => "",
+                (true, SettingsKind::Agent) => ", but a station's",
+                (true, SettingsKind::Station) => ", but an agent's",
+            };
             format!(in alloc; "{place}: {name:?} is no key here{whose}; the keys are {keys}")
         }
         None => format!(in alloc; "{place}: a key is unknown; the keys are {keys}"),
     }
-}
-
-/// Whose key it is, where it is one of settings of the other kind.
-fn whose_key(kind: SettingsKind, is_of_other: bool) -> &'static str {
-    match (is_of_other, kind) {
-        (false, _) => "",
-        (true, SettingsKind::Agent) => ", but a station's",
-        (true, SettingsKind::Station) => ", but an agent's",
-    }
-}
-
-fn not_toml(alloc: Global, place: LineColumn) -> Result<String, AllocError> {
-    let LineColumn { line, column } = place;
-    format!(in alloc; "line {line}, column {column}: the text is not TOML from here on")
 }
 
 /// Says what is wrong with a text that is refused as settings of this kind for this fault, and
@@ -61,7 +53,10 @@ pub fn explain(
     text: &str,
 ) -> Result<String, AllocError> {
     match fault {
-        SettingsFault::NotToml(from) => not_toml(alloc, line_column_at(text, from)),
+        SettingsFault::NotToml(from) => {
+            let LineColumn { line, column } = line_column_at(text, from);
+            format!(in alloc; "line {line}, column {column}: the text is not TOML from here on")
+        }
         SettingsFault::UnknownKey(place) => unknown(alloc, text, kind, place),
         _ => format!(in alloc; "{fault}"),
     }

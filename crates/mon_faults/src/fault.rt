@@ -1,7 +1,7 @@
 //! What may go wrong in a command, and whose fault it is.
 
 ghost use Rattle.std.specs.Prelude.{◌≡◌};
-ghost use Rattle.mon_faults.specs.Fault.{app_lasts, innermost_of, is_no_memory, lasts, station_fault};
+ghost use Rattle.mon_faults.specs.Fault.{innermost_of, is_no_memory, lasts, station_fault};
 
 use mon_app::{AppFault, SocketReason};
 use mon_disk::KeeperFault;
@@ -69,12 +69,17 @@ impl Fault {
     }
 
     /// Returns `true` if the fault stays until somebody changes something: the arguments, the
-    /// settings, a module, the station's file, or what has its address.
+    /// settings, a module, the station's file, or what has its address. So do arguments that are
+    /// not read, and an address that another program has or a port that the system does not permit.
     pub fn lasts(self) -> bool
         ensures { result ≡ lasts self }
     {
         match self {
-            Fault::App(fault) => app_lasts(fault),
+            Fault::App(AppFault::BadText) => true,
+            Fault::App(AppFault::SocketFault { reason }) => matches!(
+                reason,
+                SocketReason::AddressInUse | SocketReason::PermissionDenied
+            ),
             Fault::Names(fault) => is_no_memory(fault.number()),
             Fault::Text(fault) => is_no_memory(fault.number()),
             Fault::Settings(fault) => is_no_memory(fault.number()),
@@ -85,7 +90,7 @@ impl Fault {
             Fault::Image(fault) => is_no_memory(fault.number()),
             Fault::Station(fault) => matches!(fault, StationFault::NoMoreIncarnations),
             Fault::Other(innermost) => is_no_memory(innermost.number),
-            Fault::Device(_) | Fault::SettingsChanged => false,
+            Fault::App(_) | Fault::Device(_) | Fault::SettingsChanged => false,
         }
     }
 }
@@ -98,21 +103,6 @@ fn is_no_memory(number: u8) -> bool
     ensures { result ≡ is_no_memory number }
 {
     number != OUT_OF_MEMORY
-}
-
-/// Returns `true` if arguments are not read, another program has the address, or the system does
-/// not permit the port.
-fn app_lasts(fault: AppFault) -> bool
-    ensures { result ≡ app_lasts fault }
-{
-    match fault {
-        AppFault::BadText => true,
-        AppFault::SocketFault { reason } => matches!(
-            reason,
-            SocketReason::AddressInUse | SocketReason::PermissionDenied
-        ),
-        _ => false,
-    }
 }
 
 /// A fault of a station's file is the file's own.

@@ -1,7 +1,7 @@
 //! Lines and columns of a text, by its characters.
 
-ghost use Rattle.std.specs.Prelude.{◌≡◌, ◌==◌, count_by, take};
-ghost use Rattle.mon_faults.specs.LineColumn.{begins_char, last_line, line_from, line_column_after};
+ghost use Rattle.std.specs.Prelude.{◌≡◌, take};
+ghost use Rattle.mon_faults.specs.LineColumn.{last_line, line_column_after};
 
 /// A place in a text.
 #[derive(Clone, Copy, Debug, PartialEq, Eq)]
@@ -10,21 +10,6 @@ pub(crate) struct LineColumn {
     pub(crate) line: usize,
     /// The number of its character in the line. The first one is 1.
     pub(crate) column: usize,
-}
-
-fn line_feeds(octets: &[u8]) -> usize
-    ensures { result ≡ count_by (λ b. b == 10) octets.now }
-{
-    octets.iter().filter(|octet| **octet == b'\n').count()
-}
-
-fn chars(octets: &[u8]) -> usize
-    ensures { result ≡ count_by begins_char octets.now }
-{
-    octets
-        .iter()
-        .filter(|octet| **octet < 0x80 || **octet >= 0xC0)
-        .count()
 }
 
 /// Returns what follows the last line feed.
@@ -40,32 +25,24 @@ fn last_line(octets: &[u8]) -> &[u8]
     line
 }
 
-/// The place after some octets.
-fn line_column_after(octets: &[u8]) -> LineColumn
-    ensures { result ≡ line_column_after octets.now }
-{
-    LineColumn {
-        line: line_feeds(octets) + 1,
-        column: chars(last_line(octets)) + 1,
-    }
-}
-
-/// The first octets of a text, all where it has no more.
-#[tactic(auto, using(std::proofs::lemmas::List::take_all))]
-fn front(octets: &[u8], count: usize) -> &[u8]
-    ensures { result.now ≡ take count octets.now }
-{
-    if count <= octets.len() {
-        &octets[..count]
-    } else {
-        octets
-    }
-}
-
 /// The line and the column of the octet after the first `offset` ones of a text, and of its end
 /// where it has no more. A column counts characters.
+#[tactic(auto, using(std::proofs::lemmas::List::take_all))]
 pub(crate) fn line_column_at(text: &str, offset: usize) -> LineColumn
     ensures { result ≡ line_column_after (take offset text.now) }
 {
-    line_column_after(front(text.as_bytes(), offset))
+    let all = text.as_bytes();
+    let octets = if offset <= all.len() {
+        &all[..offset]
+    } else {
+        all
+    };
+    let line_feeds = octets.iter().filter(|octet| **octet == b'\n');
+    let chars = last_line(octets)
+        .iter()
+        .filter(|octet| **octet < 0x80 || **octet >= 0xC0);
+    LineColumn {
+        line: line_feeds.count() + 1,
+        column: chars.count() + 1,
+    }
 }

@@ -193,8 +193,8 @@ BUGS = {
     ),
     "prints_values_in_numbers": (
         "src/printed.rt",
-        "    let name = names.text(alloc, name)?;",
-        "    let name = mon_smi::InNumbers.text(alloc, name)?;",
+        "            let shown = names.text(alloc, name)?;",
+        "            let shown = mon_smi::InNumbers.text(alloc, name)?;",
     ),
     "leaves_out_the_name": (
         "src/printed.rt",
@@ -283,8 +283,8 @@ BUGS = {
     ),
     "prints_opaque_as_a_string": (
         "src/printed.rt",
-        "    let shown = hex_text(alloc, octets)?;",
-        "    let shown = string_text(alloc, octets)?;",
+        "            let shown = hex_text(alloc, octets.as_slice())?;",
+        "            let shown = string_text(alloc, octets.as_slice())?;",
     ),
     "escapes_no_backslash": (
         "src/printed.rt",
@@ -403,8 +403,8 @@ BUGS = {
     ),
     "asks_for_the_first_name_alone": (
         "src/question.rt",
-        "        bindings.push(asked_binding(alloc, asking, name)?)?;",
-        "        if bindings.is_empty() {\n            bindings.push(asked_binding(alloc, asking, name)?)?;\n        }",
+        "        bindings.push(Binding { name, value })?;",
+        "        if bindings.is_empty() {\n            bindings.push(Binding { name, value })?;\n        }",
     ),
     "asks_under_the_next_request_id": (
         "src/question.rt",
@@ -508,8 +508,8 @@ BUGS = {
     ),
     "walks_past_the_end_of_a_view": (
         "src/walking.rt",
-        "    matches!(value, Value::EndOfMibView)",
-        "    matches!(value, Value::NoSuchInstance)",
+        "matches!(found.value, Value::EndOfMibView)",
+        "matches!(found.value, Value::NoSuchInstance)",
     ),
     "walks_without_repetitions": (
         "src/walking.rt",
