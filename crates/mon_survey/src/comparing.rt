@@ -148,17 +148,13 @@ fn are_agents(wanted: &Wanted<'_>, targets: &[Target]) -> bool
     targets.iter().all(|target| is_agent(wanted, target))
 }
 
-/// Returns `true` if the target has no more objects than the size allows.
-fn is_small(size: TargetSize, target: &Target) -> bool
-    ensures { IsTrue result ↔ IsSmall size target.now }
-{
-    target.objects.as_slice().len() <= size.objects()
-}
-
+/// Returns `true` if no target has more objects than the size allows.
 fn are_small(size: TargetSize, targets: &[Target]) -> bool
     ensures { IsTrue result ↔ All (IsSmall size) targets.now }
 {
-    targets.iter().all(|target| is_small(size, target))
+    targets
+        .iter()
+        .all(|target| target.objects.as_slice().len() <= size.objects())
 }
 
 /// Returns `true` if the targets are those that were meant.
@@ -317,18 +313,14 @@ fn are_peers(peers: &[Peer], numbers: &[u32], addresses: &[Addr]) -> bool
     are_numbered(numbers, peers) && are_placed(addresses, peers)
 }
 
-/// Returns `true` if the window has the size of the options.
-fn is_sized(options: &Options<'_>, watched: &Watched) -> bool
-    ensures { IsTrue result ↔ IsSized options.now watched.now }
-{
-    let window = options.window as usize;
-    watched.window == window && watched.epoch == window
-}
-
+/// Returns `true` if the windows have the size of the options.
 fn are_sized(options: &Options<'_>, instances: &[Watched]) -> bool
     ensures { IsTrue result ↔ All (IsSized options.now) instances.now }
 {
-    instances.iter().all(|watched| is_sized(options, watched))
+    let window = options.window as usize;
+    instances
+        .iter()
+        .all(|watched| watched.window == window && watched.epoch == window)
 }
 
 fn is_module(text: &String, file: &str) -> bool

@@ -243,8 +243,8 @@ BUGS = {
     ),
     "compares_no_epochs": (
         "src/comparing.rt",
-        "    watched.window == window && watched.epoch == window",
-        "    watched.window == window",
+        "watched.window == window && watched.epoch == window",
+        "watched.window == window",
     ),
     "compares_the_first_alarms": (
         "src/comparing.rt",
@@ -498,8 +498,8 @@ BUGS = {
     ),
     "takes_targets_of_any_size": (
         "src/comparing.rt",
-        "    target.objects.as_slice().len() <= size.objects()",
-        "    target.objects.as_slice().len() <= size.objects().max(16)",
+        "target.objects.as_slice().len() <= size.objects())",
+        "target.objects.as_slice().len() <= size.objects().max(16))",
     ),
     "drafts_any_number_of_targets": (
         "src/surveying.rt",
