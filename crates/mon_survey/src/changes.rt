@@ -204,16 +204,6 @@ fn called(alloc: Global, name: &[u8], index: u32) -> Result<String, AllocError>
     Ok(text)
 }
 
-/// The name that the interface of an index had; no octets if it is not known.
-fn old_name<'a>(places: &Places<'a>, index: u32) -> &'a [u8]
-    ensures { result.now ≡ old_name (at_of places.now) index }
-{
-    match name_before(places.known, index) {
-        Some(name) => name,
-        None => &[],
-    }
-}
-
 /// The line of a change.
 fn change_line(alloc: Global, places: &Places<'_>, change: Change) -> Result<String, AllocError>
     ensures { IfOk result (λ t. string_bytes t ≡ change_line (at_of places.now) change) }
@@ -224,7 +214,8 @@ fn change_line(alloc: Global, places: &Places<'_>, change: Change) -> Result<Str
             format!(in alloc; "+ {name}\n")
         }
         Change::Gone(index) => {
-            let name = called(alloc, old_name(places, index), index)?;
+            let name = name_before(places.known, index).unwrap_or(&[]);
+            let name = called(alloc, name, index)?;
             format!(in alloc; "- {name}\n")
         }
         Change::Moved(index, now) => {

@@ -130,22 +130,18 @@ fn objects_of(alloc: Global, targets: &[Target]) -> Result<Vec<Object>, AllocErr
     Ok(all)
 }
 
-/// Returns `true` if the target is the agent.
-fn is_agent(wanted: &Wanted<'_>, target: &Target) -> bool
-    ensures { IsTrue result ↔ IsAgent wanted.now.options.now wanted.now.engine.now target.now }
-{
-    let options = wanted.options;
-    is_address(target.address, options.address)
-        && target.community.as_slice() == options.community.as_bytes()
-        && target.engine.as_slice() == wanted.engine
-        && target.tries == options.tries
-}
-
+/// Returns `true` if the targets are the agent.
 fn are_agents(wanted: &Wanted<'_>, targets: &[Target]) -> bool
     ensures { IsTrue result ↔ All (IsAgent wanted.now.options.now wanted.now.engine.now)
         targets.now }
 {
-    targets.iter().all(|target| is_agent(wanted, target))
+    let options = wanted.options;
+    targets.iter().all(|target| {
+        is_address(target.address, options.address)
+            && target.community.as_slice() == options.community.as_bytes()
+            && target.engine.as_slice() == wanted.engine
+            && target.tries == options.tries
+    })
 }
 
 /// Returns `true` if no target has more objects than the size allows.
@@ -318,9 +314,7 @@ fn are_sized(options: &Options<'_>, instances: &[Watched]) -> bool
     ensures { IsTrue result ↔ All (IsSized options.now) instances.now }
 {
     let window = options.window as usize;
-    instances
-        .iter()
-        .all(|watched| watched.window == window && watched.epoch == window)
+    instances.iter().all(|watched| watched.window == window && watched.epoch == window)
 }
 
 fn is_module(text: &String, file: &str) -> bool

@@ -238,7 +238,7 @@ BUGS = {
     ),
     "compares_no_communities": (
         "src/comparing.rt",
-        "        && target.community.as_slice() == options.community.as_bytes()\n",
+        "            && target.community.as_slice() == options.community.as_bytes()\n",
         "",
     ),
     "compares_no_epochs": (
