@@ -107,20 +107,6 @@ impl<'a> Updating<'a> {
         }
         self.require_few(alloc, station)
     }
-
-    /// The alarms that are left, and those on new counters.
-    fn rulings(&self, alloc: Global, old: &StationSettings) -> Result<Vec<Ruling>, AllocError>
-        requires { self.now.options.now.percent ≤ 100 }
-        ensures { IfOk result (λ v. v.items ≡ rulings (at_of self.now.places)
-            self.now.options.now.percent self.now.planned.now
-            (station_view old.now).core.watch.instances (station_view old.now).core.watch.rules) }
-    {
-        let was = Watching {
-            instances: old.core.watch().instances(),
-            rules: old.core.watch().rules(),
-        };
-        rulings(alloc, &self.places, self.options.percent, self.planned, was)
-    }
 }
 
 /// Returns `true` if this is watched.
@@ -169,11 +155,14 @@ fn left_of(alloc: Global, update: &Updating<'_>, old: &StationSettings) -> Resul
         update.now.options.now.percent update.now.planned.now
         (station_view old.now).core.watch.instances (station_view old.now).core.watch.rules) }
 {
-    let targets = update.places.targets_now(alloc, old.core.targets())?;
-    let instances = update
-        .places
-        .watch_now(alloc, old.core.watch().instances())?;
-    let rulings = update.rulings(alloc, old)?;
+    let was = Watching {
+        instances: old.core.watch().instances(),
+        rules: old.core.watch().rules(),
+    };
+    let places = &update.places;
+    let targets = places.targets_now(alloc, old.core.targets())?;
+    let instances = places.watch_now(alloc, was.instances)?;
+    let rulings = rulings(alloc, places, update.options.percent, update.planned, was)?;
     Ok(Left {
         targets,
         instances,
@@ -193,15 +182,9 @@ fn is_watch_kept(left: &Left, new: &StationSettings) -> bool
     are_watched(now.instances, &left.instances) && are_rulings(now, &left.rulings)
 }
 
-/// Returns `true` if what is outside of targets and alarms is the same, and the targets that are
-/// left are at the front.
-fn is_front_kept(targets: &[Target], old: &StationSettings, new: &StationSettings) -> bool
-    ensures { IsTrue result ↔ KeepsFront targets.now (station_view old.now) (station_view new.now) }
-{
-    are_kept_scalars(old, new) && are_kept_targets(targets, new.core.targets())
-}
-
-/// Returns `true` if the new settings are the old ones with what is left, and with these counters.
+/// Returns `true` if the new settings are the old ones with what is left, and with these counters:
+/// what is outside of targets and alarms is the same, and the targets that are left are at the
+/// front.
 fn is_made_of(
     alloc: Global,
     update: &Updating<'_>,
@@ -217,36 +200,12 @@ fn is_made_of(
 {
     let added = after(new.core.targets(), left.targets.len());
     let targets = are_targets(alloc, &update.wanted(), added)?;
-    Ok(is_front_kept(&left.targets, old, new) && targets && is_watch_kept(left, new))
-}
-
-/// Returns what the new settings are read as, if they are the old ones with what is left, and with
-/// these counters.
-fn require_made_of(
-    alloc: Global,
-    update: &Updating<'_>,
-    left: &Left,
-    old: &StationSettings,
-    new: &StationSettings,
-) -> Result<Reading, SurveyFault>
-    requires few { length update.now.planned.now ≤ 256 }
-    ensures gives { IfOk result (λ reading. IsMadeOf update.now.options.now
-        (at_of update.now.places) update.now.planned.now left.now.targets.items
-        left.now.instances.items left.now.rulings.items (station_view old.now)
-        (station_view new.now) × (reading.longest ≡ longest_of (station_view new.now))
-        × (reading.targets.items ≡ drop (length left.now.targets.items)
-        (station_view new.now).core.targets)) }
-    ensures fault { IfErr result (IsUnlike (IsMadeOf update.now.options.now
-        (at_of update.now.places) update.now.planned.now left.now.targets.items
-        left.now.instances.items left.now.rulings.items (station_view old.now)
-        (station_view new.now))) }
-{
-    if is_made_of(alloc, update, left, old, new)? {
-        let added = after(new.core.targets(), left.targets.len());
-        Ok(reading_of(alloc, new, added)?)
-    } else {
-        Err(SurveyFault::Misread)
-    }
+    Ok(
+        are_kept_scalars(old, new)
+            && are_kept_targets(&left.targets, new.core.targets())
+            && targets
+            && is_watch_kept(left, new),
+    )
 }
 
 /// Requires that the new settings are the old ones with the agent's interfaces as they are now, and
@@ -269,7 +228,12 @@ fn require_updated(
         (station_view new.now))) }
 {
     let left = left_of(alloc, update, old)?;
-    require_made_of(alloc, update, &left, old, new)
+    if is_made_of(alloc, update, &left, old, new)? {
+        let added = after(new.core.targets(), left.targets.len());
+        Ok(reading_of(alloc, new, added)?)
+    } else {
+        Err(SurveyFault::Misread)
+    }
 }
 
 /// Returns what a text is read as, if it is read as the settings with the agent's interfaces as
