@@ -3,7 +3,7 @@
 ghost use Rattle.std.specs.Prelude.{◌≡◌, ◌++◌, [], None, IfOk, OnOk, Some, map, nat_eq, string_bytes};
 ghost use Rattle.std.specs.List.{flat_map, list_any};
 ghost use Rattle.std.specs.Option.{option_to_list};
-ghost use Rattle.mon_survey.specs.Changes.{called, change_line, change_lines, change_of, change_to, changes_between, old_name};
+ghost use Rattle.mon_survey.specs.Changes.{called, change_line, change_lines, change_of, change_to, changes_between};
 ghost use Rattle.mon_survey.specs.Labels.{indexes_after};
 ghost use Rattle.mon_survey.specs.Moved.{at_in, at_of, index_now};
 ghost use Rattle.mon_survey.specs.Plan.{counters_of};

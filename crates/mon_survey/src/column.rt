@@ -1,7 +1,7 @@
 //! Columns of the tables of interfaces, and where a name lies in them.
 
 ghost use Rattle.std.specs.Prelude.{◌≡◌, IfOk};
-ghost use Rattle.mon_survey.specs.Column.{cell_name, code_of, column_name, columns, key_of, spot_of, spot_after};
+ghost use Rattle.mon_survey.specs.Column.{cell_name, column_name, columns, key_of, spot_of, spot_after};
 
 use mon_oid::{Oid, OidFault};
 use std::alloc::Global;

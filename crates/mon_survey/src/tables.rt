@@ -4,7 +4,7 @@ ghost use Rattle.std.specs.Prelude.{◌≡◌, ◌≤◌, ◌++◌, [], ◌∷�
 ghost use Rattle.std.specs.List.{concat, flat_map};
 ghost use Rattle.hex.specs.Hex.{encode_lower};
 ghost use Rattle.mon_survey.specs.Answers.{octets_of, speed_in, value_at};
-ghost use Rattle.mon_survey.specs.Labels.{begun, escaped, if_alias, if_name, indexes_after, interface_text, is_before, labels_text, line_of, speed_line, text_of};
+ghost use Rattle.mon_survey.specs.Labels.{begun, escaped, indexes_after, interface_text, is_before, labels_text, line_of, speed_line, text_of};
 
 use crate::answers::Answers;
 use crate::column::Column;
