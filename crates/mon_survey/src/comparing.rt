@@ -173,16 +173,6 @@ pub(crate) fn are_targets(
     )
 }
 
-/// Returns `true` if the column counts octets.
-fn is_octets(column: Column) -> bool
-    ensures { result ≡ is_octets column }
-{
-    match column {
-        Column::If(number) => number == 10 || number == 16,
-        Column::IfX(number) => number == 6 || number == 10,
-    }
-}
-
 /// Returns `true` if the instance is the agent's.
 pub(crate) fn is_own(engine: &[u8], watched: &Watched) -> bool
     ensures { result ≡ is_own engine.now watched.now }
@@ -200,12 +190,11 @@ fn alarm_on(wanted: &Wanted<'_>, number: usize, watched: &Watched) -> Option<Ala
     if !is_own(wanted.engine, watched) {
         return None;
     }
-    let Spot::Cell(column, index) = Spot::of(&watched.instance.name) else {
+    let Spot::Cell(Column::If(10 | 16) | Column::IfX(6 | 10), index) =
+        Spot::of(&watched.instance.name)
+    else {
         return None;
     };
-    if !is_octets(column) {
-        return None;
-    }
     let at = thresholds_at(wanted.answers, wanted.options.percent, index)?;
     Some(Alarm {
         instance: number,

@@ -9,7 +9,7 @@ ghost use Rattle.mon_survey.specs.Appended.{polls, shown_by};
 ghost use Rattle.mon_survey.specs.Longest.{longest_of};
 ghost use Rattle.mon_survey.specs.Meant.{IsUnlike};
 ghost use Rattle.mon_survey.specs.Moved.{at_in, at_of, rulings, targets_now, watch_now};
-ghost use Rattle.mon_survey.specs.Updated.{AreWatched, IsMadeOf, IsUndrafted, IsUnread, IsUpdateFault, IsUpdated, IsUpdatedText, IsWatched, KeepsFront, KeepsWatch, few_left, kept_text, new_counters, update_of, with_space};
+ghost use Rattle.mon_survey.specs.Updated.{AreWatched, IsMadeOf, IsUndrafted, IsUnread, IsUpdateFault, IsUpdated, IsUpdatedText, IsWatched, KeepsWatch, few_left, kept_text, new_counters, update_of, with_space};
 
 use crate::appending::{Existing, polls_any};
 use crate::changes::new_counters;
@@ -58,42 +58,8 @@ impl<'a> Updating<'a> {
         }
     }
 
-    /// What the targets of new interfaces are compared with.
-    fn wanted(&self) -> Wanted<'a>
-        ensures options { result.options.now ≡ self.now.options.now }
-        ensures engine { result.engine.now ≡ self.now.places.engine.now }
-        ensures answers { result.answers.now ≡ self.now.places.answers.now }
-        ensures planned { result.planned.now ≡ self.now.planned.now }
-    {
-        Wanted {
-            options: self.options,
-            engine: self.places.engine,
-            answers: self.places.answers,
-            planned: self.planned,
-        }
-    }
-
-    /// Requires that there are at most 256 instances and 64 targets with those that are left.
-    fn require_few(&self, alloc: Global, station: &StationSettings) -> Result<(), SurveyFault>
-        ensures room { OnOk result (few_left self.now.options.now.size (at_of self.now.places)
-            (station_view station.now) self.now.planned.now ≡ Ok self.now.planned.now) }
-        ensures few { OnOk result (length self.now.planned.now ≤ 256) }
-        ensures fault { IfErr result (λ e. (e ≡ SurveyFault.OutOfMemory)
-            ⊎ (few_left self.now.options.now.size (at_of self.now.places) (station_view station.now)
-            self.now.planned.now ≡ Err e)) }
-    {
-        let targets = self.places.targets_now(alloc, station.core.targets())?;
-        let left = self
-            .places
-            .watch_now(alloc, station.core.watch().instances())?;
-        let instances = left.len() + self.planned.len();
-        if instances > MAX_INSTANCES {
-            return Err(SurveyFault::TooMany(instances));
-        }
-        require_few_targets(self.options.size, &targets, self.planned)
-    }
-
-    /// Requires that settings poll the agent and have space for the new counters.
+    /// Requires that settings poll the agent, and that there are at most 256 instances and 64 targets
+    /// with those that are left.
     fn require_space(&self, alloc: Global, station: &StationSettings) -> Result<(), SurveyFault>
         ensures room { OnOk result (with_space self.now.options.now.size (at_of self.now.places)
             (station_view station.now) self.now.planned.now ≡ Ok self.now.planned.now) }
@@ -105,7 +71,15 @@ impl<'a> Updating<'a> {
         if !polls_any(self.places.engine, station.core.targets()) {
             return Err(SurveyFault::OtherEngine);
         }
-        self.require_few(alloc, station)
+        let targets = self.places.targets_now(alloc, station.core.targets())?;
+        let left = self
+            .places
+            .watch_now(alloc, station.core.watch().instances())?;
+        let instances = left.len() + self.planned.len();
+        if instances > MAX_INSTANCES {
+            return Err(SurveyFault::TooMany(instances));
+        }
+        require_few_targets(self.options.size, &targets, self.planned)
     }
 }
 
@@ -199,7 +173,13 @@ fn is_made_of(
         (station_view new.now)) }
 {
     let added = after(new.core.targets(), left.targets.len());
-    let targets = are_targets(alloc, &update.wanted(), added)?;
+    let wanted = Wanted {
+        options: update.options,
+        engine: update.places.engine,
+        answers: update.places.answers,
+        planned: update.planned,
+    };
+    let targets = are_targets(alloc, &wanted, added)?;
     Ok(
         are_kept_scalars(old, new)
             && are_kept_targets(&left.targets, new.core.targets())
