@@ -2,7 +2,7 @@
 
 ghost use Rattle.std.specs.Prelude.{◌≡◌, ◌⊎◌, Err, IfErr, IfOk, Ok, OnOk, length, map, option_map};
 ghost use Rattle.std.specs.List.{list_all};
-ghost use Rattle.mon_placing.specs.Machines.{begins_well, enough, entry_in, has_address, has_name, is_name, is_of_names, is_passed, joined, listed, machines_in, octets_of, read_line, unrepeated};
+ghost use Rattle.mon_placing.specs.Machines.{begins_well, enough, entry_in, has_address, has_name, is_name, is_of_names, listed, machines_in, octets_of, read_line, unrepeated};
 ghost use Rattle.mon_placing.specs.declared.fault.MachinesFault.TheVariants.{OutOfMemory};
 
 use crate::fault::MachinesFault;
