@@ -6,7 +6,7 @@ ghost use Rattle.std.specs.Option.{option_to_list};
 ghost use Rattle.mon_settings.specs.StationAccepted.{station_view};
 ghost use Rattle.mon_udp.specs.Addr.{addr_of};
 ghost use Rattle.mon_survey.specs.Column.{cell_name, spot_of};
-ghost use Rattle.mon_survey.specs.Meant.{ArePeers, AreScalars, AreTargets, IsAgent, IsAlarm, IsCounter, IsMeant, IsSized, IsSmall, alarm_on, alarms_from, at_cell, at_watched, is_octets, is_own, mark_of};
+ghost use Rattle.mon_survey.specs.Meant.{ArePeers, AreScalars, AreTargets, IsAgent, IsAlarm, IsCounter, IsMeant, IsSized, IsSmall, alarm_on, alarms_from, at_cell, at_watched, is_own, mark_of};
 
 use crate::answers::Answers;
 use crate::column::{Column, Spot};

@@ -9,7 +9,7 @@ ghost use Rattle.mon_survey.specs.Appended.{polls, shown_by};
 ghost use Rattle.mon_survey.specs.Longest.{longest_of};
 ghost use Rattle.mon_survey.specs.Meant.{IsUnlike};
 ghost use Rattle.mon_survey.specs.Moved.{at_in, at_of, rulings, targets_now, watch_now};
-ghost use Rattle.mon_survey.specs.Updated.{AreWatched, IsMadeOf, IsUndrafted, IsUnread, IsUpdateFault, IsUpdated, IsUpdatedText, IsWatched, KeepsWatch, few_left, kept_text, new_counters, update_of, with_space};
+ghost use Rattle.mon_survey.specs.Updated.{AreWatched, IsMadeOf, IsUndrafted, IsUnread, IsUpdateFault, IsUpdated, IsUpdatedText, IsWatched, KeepsWatch, kept_text, new_counters, update_of, with_space};
 
 use crate::appending::{Existing, polls_any};
 use crate::changes::new_counters;
