@@ -2,7 +2,7 @@
 
 ghost use Rattle.std.specs.Prelude.{◌≡◌, ◌⊎◌, Err, IfErr, IfOk, Ok, OnOk, length, map, option_map};
 ghost use Rattle.std.specs.List.{list_all};
-ghost use Rattle.mon_placing.specs.Machines.{begins_well, enough, entry_in, has_address, has_name, is_name, is_of_names, is_passed, joined, listed, machines_in, octets_of, read_line, unrepeated};
+ghost use Rattle.mon_placing.specs.Machines.{begins_well, enough, entry_in, has_address, has_name, is_name, is_of_names, listed, machines_in, octets_of, read_line, unrepeated};
 ghost use Rattle.mon_placing.specs.declared.fault.MachinesFault.TheVariants.{OutOfMemory};
 
 use crate::fault::MachinesFault;
@@ -59,7 +59,8 @@ fn require_enough(machines: &[Machine], stations: u32) -> Result<(), MachinesFau
     Ok(())
 }
 
-/// Adds the machine of a line, unless that is passed over.
+/// Adds the machine of a line, if it may be added. A line that is empty or a comment, which begins
+/// with `#`, is passed over.
 fn add_line(
     alloc: Global,
     machines: &mut Vec<Machine>,
@@ -71,30 +72,12 @@ fn add_line(
     ensures refused { IfErr result (λ fault. (fault ≡ OutOfMemory)
         ⊎ (read_line number (map listed machines.old.items) line.now ≡ Err fault)) }
 {
-    if is_passed(line) {
+    if matches!(line.as_bytes(), [] | [b'#', ..]) {
         return Ok(());
     }
-    match entry_in(line) {
-        Some(entry) => add_machine(alloc, machines, number, entry),
-        None => Err(MachinesFault::Malformed(number)),
-    }
-}
-
-/// Adds a machine, if it may be added.
-fn add_machine(
-    alloc: Global,
-    machines: &mut Vec<Machine>,
-    number: usize,
-    entry: Entry<'_>,
-) -> Result<(), MachinesFault>
-    ensures added { OnOk result (joined (unrepeated number (map listed machines.old.items)
-        entry.entry.name.now entry.entry.octets) (map listed machines.old.items)
-        entry.entry.name.now entry.entry.octets ≡ Ok (map listed machines.new.items)) }
-    ensures refused { IfErr result (λ fault. (fault ≡ OutOfMemory)
-        ⊎ (joined (unrepeated number (map listed machines.old.items) entry.entry.name.now
-        entry.entry.octets) (map listed machines.old.items) entry.entry.name.now entry.entry.octets
-        ≡ Err fault)) }
-{
+    let Some(entry) = entry_in(line) else {
+        return Err(MachinesFault::Malformed(number));
+    };
     let octets = entry.octets;
     require_new(machines.as_slice(), number, entry.name, octets)?;
     let name = String::from_str(alloc, entry.name)?;
@@ -150,13 +133,6 @@ fn has_address(machines: &[Machine], octets: [u8; 4]) -> bool
         return true;
     }
     has_address(rest, octets)
-}
-
-/// Returns `true` if a line is empty or a comment, which begins with `#`.
-fn is_passed(line: &str) -> bool
-    ensures { result ≡ is_passed line.now }
-{
-    matches!(line.as_bytes(), [] | [b'#', ..])
 }
 
 /// What a line says of a machine.

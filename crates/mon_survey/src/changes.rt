@@ -3,7 +3,7 @@
 ghost use Rattle.std.specs.Prelude.{◌≡◌, ◌++◌, [], None, IfOk, OnOk, Some, map, nat_eq, string_bytes};
 ghost use Rattle.std.specs.List.{flat_map, list_any};
 ghost use Rattle.std.specs.Option.{option_to_list};
-ghost use Rattle.mon_survey.specs.Changes.{called, change_line, change_lines, change_of, change_to, changes_between, old_name};
+ghost use Rattle.mon_survey.specs.Changes.{called, change_line, change_lines, change_of, change_to, changes_between};
 ghost use Rattle.mon_survey.specs.Labels.{indexes_after};
 ghost use Rattle.mon_survey.specs.Moved.{at_in, at_of, index_now};
 ghost use Rattle.mon_survey.specs.Plan.{counters_of};
@@ -204,16 +204,6 @@ fn called(alloc: Global, name: &[u8], index: u32) -> Result<String, AllocError>
     Ok(text)
 }
 
-/// The name that the interface of an index had; no octets if it is not known.
-fn old_name<'a>(places: &Places<'a>, index: u32) -> &'a [u8]
-    ensures { result.now ≡ old_name (at_of places.now) index }
-{
-    match name_before(places.known, index) {
-        Some(name) => name,
-        None => &[],
-    }
-}
-
 /// The line of a change.
 fn change_line(alloc: Global, places: &Places<'_>, change: Change) -> Result<String, AllocError>
     ensures { IfOk result (λ t. string_bytes t ≡ change_line (at_of places.now) change) }
@@ -224,7 +214,8 @@ fn change_line(alloc: Global, places: &Places<'_>, change: Change) -> Result<Str
             format!(in alloc; "+ {name}\n")
         }
         Change::Gone(index) => {
-            let name = called(alloc, old_name(places, index), index)?;
+            let name = name_before(places.known, index).unwrap_or(&[]);
+            let name = called(alloc, name, index)?;
             format!(in alloc; "- {name}\n")
         }
         Change::Moved(index, now) => {

@@ -1,7 +1,7 @@
 //! Columns of the tables of interfaces, and where a name lies in them.
 
 ghost use Rattle.std.specs.Prelude.{◌≡◌, IfOk};
-ghost use Rattle.mon_survey.specs.Column.{cell_name, code_of, column_name, columns, key_of, spot_of, spot_after};
+ghost use Rattle.mon_survey.specs.Column.{cell_name, column_name, columns, key_of, spot_of, spot_after};
 
 use mon_oid::{Oid, OidFault};
 use std::alloc::Global;
@@ -25,16 +25,6 @@ pub enum Column {
 }
 
 impl Column {
-    /// A number that rises as columns do: those of ifTable, then those of ifXTable.
-    fn code(self) -> u128
-        ensures { result ≡ code_of self }
-    {
-        match self {
-            Column::If(number) => u128::from(number),
-            Column::IfX(number) => INDEXES + u128::from(number),
-        }
-    }
-
     /// Returns the name under which the column's cells lie. An `Err` means out of memory.
     pub fn name(self, alloc: Global) -> Result<Oid, OidFault>
         ensures { IfOk result (λ q. q ≡ column_name self) }
@@ -59,11 +49,15 @@ impl Column {
         }
     }
 
-    /// A number that rises as the names of cells do.
+    /// A number that rises as the names of cells do: those of ifTable, then those of ifXTable.
     pub(crate) fn key(self, index: u32) -> u128
         ensures { result ≡ key_of self index }
     {
-        self.code() * INDEXES + u128::from(index)
+        let code = match self {
+            Column::If(number) => u128::from(number),
+            Column::IfX(number) => INDEXES + u128::from(number),
+        };
+        code * INDEXES + u128::from(index)
     }
 }
 

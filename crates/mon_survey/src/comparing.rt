@@ -6,7 +6,7 @@ ghost use Rattle.std.specs.Option.{option_to_list};
 ghost use Rattle.mon_settings.specs.StationAccepted.{station_view};
 ghost use Rattle.mon_udp.specs.Addr.{addr_of};
 ghost use Rattle.mon_survey.specs.Column.{cell_name, spot_of};
-ghost use Rattle.mon_survey.specs.Meant.{ArePeers, AreScalars, AreTargets, IsAgent, IsAlarm, IsCounter, IsMeant, IsSized, IsSmall, alarm_on, alarms_from, at_cell, at_watched, is_octets, is_own, mark_of};
+ghost use Rattle.mon_survey.specs.Meant.{ArePeers, AreScalars, AreTargets, IsAgent, IsAlarm, IsCounter, IsMeant, IsSized, IsSmall, alarm_on, alarms_from, at_cell, at_watched, is_own, mark_of};
 
 use crate::answers::Answers;
 use crate::column::{Column, Spot};
@@ -130,35 +130,27 @@ fn objects_of(alloc: Global, targets: &[Target]) -> Result<Vec<Object>, AllocErr
     Ok(all)
 }
 
-/// Returns `true` if the target is the agent.
-fn is_agent(wanted: &Wanted<'_>, target: &Target) -> bool
-    ensures { IsTrue result ↔ IsAgent wanted.now.options.now wanted.now.engine.now target.now }
-{
-    let options = wanted.options;
-    is_address(target.address, options.address)
-        && target.community.as_slice() == options.community.as_bytes()
-        && target.engine.as_slice() == wanted.engine
-        && target.tries == options.tries
-}
-
+/// Returns `true` if the targets are the agent.
 fn are_agents(wanted: &Wanted<'_>, targets: &[Target]) -> bool
     ensures { IsTrue result ↔ All (IsAgent wanted.now.options.now wanted.now.engine.now)
         targets.now }
 {
-    targets.iter().all(|target| is_agent(wanted, target))
+    let options = wanted.options;
+    targets.iter().all(|target| {
+        is_address(target.address, options.address)
+            && target.community.as_slice() == options.community.as_bytes()
+            && target.engine.as_slice() == wanted.engine
+            && target.tries == options.tries
+    })
 }
 
-/// Returns `true` if the target has no more objects than the size allows.
-fn is_small(size: TargetSize, target: &Target) -> bool
-    ensures { IsTrue result ↔ IsSmall size target.now }
-{
-    target.objects.as_slice().len() <= size.objects()
-}
-
+/// Returns `true` if no target has more objects than the size allows.
 fn are_small(size: TargetSize, targets: &[Target]) -> bool
     ensures { IsTrue result ↔ All (IsSmall size) targets.now }
 {
-    targets.iter().all(|target| is_small(size, target))
+    targets
+        .iter()
+        .all(|target| target.objects.as_slice().len() <= size.objects())
 }
 
 /// Returns `true` if the targets are those that were meant.
@@ -181,16 +173,6 @@ pub(crate) fn are_targets(
     )
 }
 
-/// Returns `true` if the column counts octets.
-fn is_octets(column: Column) -> bool
-    ensures { result ≡ is_octets column }
-{
-    match column {
-        Column::If(number) => number == 10 || number == 16,
-        Column::IfX(number) => number == 6 || number == 10,
-    }
-}
-
 /// Returns `true` if the instance is the agent's.
 pub(crate) fn is_own(engine: &[u8], watched: &Watched) -> bool
     ensures { result ≡ is_own engine.now watched.now }
@@ -208,12 +190,11 @@ fn alarm_on(wanted: &Wanted<'_>, number: usize, watched: &Watched) -> Option<Ala
     if !is_own(wanted.engine, watched) {
         return None;
     }
-    let Spot::Cell(column, index) = Spot::of(&watched.instance.name) else {
+    let Spot::Cell(Column::If(10 | 16) | Column::IfX(6 | 10), index) =
+        Spot::of(&watched.instance.name)
+    else {
         return None;
     };
-    if !is_octets(column) {
-        return None;
-    }
     let at = thresholds_at(wanted.answers, wanted.options.percent, index)?;
     Some(Alarm {
         instance: number,
@@ -317,18 +298,12 @@ fn are_peers(peers: &[Peer], numbers: &[u32], addresses: &[Addr]) -> bool
     are_numbered(numbers, peers) && are_placed(addresses, peers)
 }
 
-/// Returns `true` if the window has the size of the options.
-fn is_sized(options: &Options<'_>, watched: &Watched) -> bool
-    ensures { IsTrue result ↔ IsSized options.now watched.now }
-{
-    let window = options.window as usize;
-    watched.window == window && watched.epoch == window
-}
-
+/// Returns `true` if the windows have the size of the options.
 fn are_sized(options: &Options<'_>, instances: &[Watched]) -> bool
     ensures { IsTrue result ↔ All (IsSized options.now) instances.now }
 {
-    instances.iter().all(|watched| is_sized(options, watched))
+    let window = options.window as usize;
+    instances.iter().all(|watched| watched.window == window && watched.epoch == window)
 }
 
 fn is_module(text: &String, file: &str) -> bool

@@ -191,38 +191,6 @@ fn put_addition<S: NameTexts>(
     put_alarms(text, shown, plan.options.percent, engine, plan.planned)
 }
 
-/// The text of the settings.
-fn settings_of<S: NameTexts>(
-    shown: &Naming<'_, S>,
-    plan: &AgentPlan<'_>,
-) -> Result<String, AllocError>
-    requires { plan.now.options.now.percent ≤ 100 }
-    ensures { IfOk result (λ text. string_bytes text ≡ settings_text (S.shown shown.now.names.now)
-        plan.now.options.now plan.now.engine.now shown.now.answers.now plan.now.planned.now) }
-{
-    let digits = hex::encode(shown.alloc, plan.engine)?;
-    let mut text = String::new(shown.alloc);
-    put_settings(&mut text, shown, plan, digits.as_str())?;
-    Ok(text)
-}
-
-/// The settings with what is added.
-fn settings_with<S: NameTexts>(
-    shown: &Naming<'_, S>,
-    plan: &AgentPlan<'_>,
-    settings: &str,
-) -> Result<String, AllocError>
-    requires { plan.now.options.now.percent ≤ 100 }
-    ensures { IfOk result (λ text. string_bytes text ≡ added_text (S.shown shown.now.names.now)
-        settings.now plan.now.options.now plan.now.engine.now shown.now.answers.now
-        plan.now.planned.now) }
-{
-    let digits = hex::encode(shown.alloc, plan.engine)?;
-    let mut text = String::from_str(shown.alloc, settings)?;
-    put_addition(&mut text, shown, plan, digits.as_str())?;
-    Ok(text)
-}
-
 /// Returns the text of the settings of a station that polls these counters of an agent.
 ///
 /// # Errors
@@ -242,10 +210,10 @@ pub(crate) fn draft<S: NameTexts>(
     if !plan.options.are_plain() {
         return Err(SurveyFault::BadText);
     }
-    match settings_of(shown, plan) {
-        Ok(text) => Ok(text),
-        Err(_) => Err(SurveyFault::OutOfMemory),
-    }
+    let digits = hex::encode(shown.alloc, plan.engine)?;
+    let mut text = String::new(shown.alloc);
+    put_settings(&mut text, shown, plan, digits.as_str())?;
+    Ok(text)
 }
 
 /// Returns settings with the targets of an agent and their alarms at their end.
@@ -268,8 +236,8 @@ pub(crate) fn addition<S: NameTexts>(
     if !plan.options.are_plain() {
         return Err(SurveyFault::BadText);
     }
-    match settings_with(shown, plan, settings) {
-        Ok(text) => Ok(text),
-        Err(_) => Err(SurveyFault::OutOfMemory),
-    }
+    let digits = hex::encode(shown.alloc, plan.engine)?;
+    let mut text = String::from_str(shown.alloc, settings)?;
+    put_addition(&mut text, shown, plan, digits.as_str())?;
+    Ok(text)
 }

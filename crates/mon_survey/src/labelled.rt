@@ -41,20 +41,12 @@ fn find<'t>(table: &'t Table, key: &str) -> Option<&'t Value>
     table.get(key)
 }
 
-/// The tables of interfaces in a tree; `None` where they are no list.
+/// The tables of interfaces in a tree: none where it names none; `None` where they are no list.
 pub(crate) fn interfaces(table: &Table) -> Option<&[Value]>
     ensures { option_map (λ v. items_view v.now) result ≡ items_at
         (get_member (codes "interface") (table_view table.now)) }
 {
-    items_in(find(table, "interface"))
-}
-
-/// The values of a list; none if there is no list.
-fn items_in(found: Option<&Value>) -> Option<&[Value]>
-    ensures { option_map (λ v. items_view v.now) result ≡ items_at
-        (option_map (λ v. view v.now) found.entry) }
-{
-    match found {
+    match find(table, "interface") {
         Some(value) => match value.as_array() {
             Some(values) => Some(values.as_slice()),
             None => None,

@@ -115,23 +115,6 @@ fn part_of(counters: &[Planned], from: usize) -> &[Planned]
     front(&counters[from..])
 }
 
-/// The counters of a group, or all.
-fn group_of(
-    alloc: Global,
-    group: Option<u32>,
-    counters: Vec<Planned>,
-) -> Result<Vec<Planned>, AllocError>
-    ensures { IfOk result (λ v. v.items ≡ group_of group counters.items) }
-{
-    match group {
-        Some(number) => {
-            let from = MAX_INSTANCES * number as usize;
-            Vec::from_slice(alloc, part_of(&counters, from))
-        }
-        None => Ok(counters),
-    }
-}
-
 /// Requires at least one counter, and at most the 256 of a station.
 fn require_few(counters: &[Planned]) -> Result<(), SurveyFault>
     ensures gives { OnOk result (limited counters.now ≡ Ok counters.now) }
@@ -162,7 +145,13 @@ pub fn plan(
         ⊎ (planned_of choice.now answers.now ≡ Err e)) }
 {
     let all = given!(counters_of(alloc, answers, choice));
-    let counters = group_of(alloc, choice.group, all)?;
+    let counters = match choice.group {
+        Some(number) => {
+            let from = MAX_INSTANCES * number as usize;
+            Vec::from_slice(alloc, part_of(&all, from))?
+        }
+        None => all,
+    };
     given!(require_few(&counters));
     Ok(counters)
 }

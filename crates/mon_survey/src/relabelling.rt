@@ -155,19 +155,17 @@ fn reads_rest(alloc: Global, engine: &str, before: &[Value], text: &str) -> Resu
 
 /// The old text without its blocks of this engine, but with the comments in them, if it is read as
 /// the tables of other engines.
-fn rest_after(
-    alloc: Global,
-    engine: &str,
-    old: &str,
-    before: &[Value],
-) -> Result<String, SurveyFault>
-    requires { interfaces_in old.now ≡ Some (items_view before.now) }
+fn rest_of(alloc: Global, engine: &str, old: &str) -> Result<String, SurveyFault>
     ensures is { IfOk result (λ t. string_bytes t ≡ text_without (quoted engine.now) old.now) }
-    ensures reads { IfOk result (λ t. ReadsRest engine.now (items_view before.now)
-        (string_bytes t)) }
+    ensures rest { IfOk result (λ t. IsRest engine.now old.now
+        (text_without (quoted engine.now) old.now)) }
     ensures fault { IfErr result (λ e. (e ≡ SurveyFault.OutOfMemory)
         ⊎ IsNoRest old.now engine.now e) }
 {
+    let was = given!(tree(alloc, old));
+    let Some(before) = interfaces(&was) else {
+        return Err(SurveyFault::BadLabels);
+    };
     let own = quoted(alloc, engine)?;
     let octets = text_without(alloc, own.as_slice(), old.as_bytes())?;
     let Ok(text) = String::from_utf8(octets) else {
@@ -177,21 +175,6 @@ fn rest_after(
         Ok(text)
     } else {
         Err(SurveyFault::Misread)
-    }
-}
-
-/// The old text without its blocks of this engine, if its tables of other engines are left.
-fn rest_of(alloc: Global, engine: &str, old: &str) -> Result<String, SurveyFault>
-    ensures is { IfOk result (λ t. string_bytes t ≡ text_without (quoted engine.now) old.now) }
-    ensures rest { IfOk result (λ t. IsRest engine.now old.now
-        (text_without (quoted engine.now) old.now)) }
-    ensures fault { IfErr result (λ e. (e ≡ SurveyFault.OutOfMemory)
-        ⊎ IsNoRest old.now engine.now e) }
-{
-    let was = given!(tree(alloc, old));
-    match interfaces(&was) {
-        Some(before) => rest_after(alloc, engine, old, before),
-        None => Err(SurveyFault::BadLabels),
     }
 }
 

@@ -4,7 +4,7 @@ ghost use Rattle.std.specs.Prelude.{◌≡◌, ◌≤◌, ◌++◌, [], ◌∷�
 ghost use Rattle.std.specs.List.{concat, flat_map};
 ghost use Rattle.hex.specs.Hex.{encode_lower};
 ghost use Rattle.mon_survey.specs.Answers.{octets_of, speed_in, value_at};
-ghost use Rattle.mon_survey.specs.Labels.{begun, escaped, if_alias, if_name, indexes_after, interface_text, is_before, labels_text, line_of, speed_line, text_of};
+ghost use Rattle.mon_survey.specs.Labels.{begun, escaped, indexes_after, interface_text, is_before, labels_text, line_of, speed_line, text_of};
 
 use crate::answers::Answers;
 use crate::column::Column;
@@ -75,32 +75,18 @@ fn put_quoted(alloc: Global, text: &mut Vec<u8>, value: &[u8]) -> Result<(), All
     Ok(())
 }
 
-/// Adds the line of a key, where it has a text.
-fn put_line(
-    alloc: Global,
-    text: &mut Vec<u8>,
-    key: &str,
-    value: &Option<String>,
-) -> Result<(), AllocError>
-    ensures { OnOk result (text.new.items ≡ text.old.items ++ line_of key.now
-        (option_map string_bytes value.now)) }
+/// Adds the line of a key, where there are octets, as a text.
+fn put_text(alloc: Global, text: &mut Vec<u8>, key: &str, octets: &[u8]) -> Result<(), AllocError>
+    ensures { OnOk result (text.new.items
+        ≡ text.old.items ++ line_of key.now (text_of octets.now)) }
 {
-    let Some(value) = value else {
+    let Some(value) = text_of(alloc, octets)? else {
         return Ok(());
     };
     text.extend_from_slice(key.as_bytes())?;
     text.extend_from_slice(b" = \"")?;
     put_quoted(alloc, text, value.as_bytes())?;
     text.extend_from_slice(b"\"\n")
-}
-
-/// Adds the line of a key, where there are octets, as a text.
-fn put_text(alloc: Global, text: &mut Vec<u8>, key: &str, octets: &[u8]) -> Result<(), AllocError>
-    ensures { OnOk result (text.new.items
-        ≡ text.old.items ++ line_of key.now (text_of octets.now)) }
-{
-    let value = text_of(alloc, octets)?;
-    put_line(alloc, text, key, &value)
 }
 
 /// Adds the head of an interface's table.
@@ -144,22 +130,6 @@ impl Source<'_> {
         self.answers.speed(index)
     }
 
-    /// Adds the line of the interface's ifName, where it has one.
-    fn put_name(&self, text: &mut Vec<u8>, index: u32) -> Result<(), AllocError>
-        ensures { OnOk result (text.new.items ≡ text.old.items
-            ++ line_of (codes "ifName") (if_name self.now.answers.now index)) }
-    {
-        put_text(self.alloc, text, "ifName", self.name(index))
-    }
-
-    /// Adds the line of the interface's ifAlias, where it has one.
-    fn put_alias(&self, text: &mut Vec<u8>, index: u32) -> Result<(), AllocError>
-        ensures { OnOk result (text.new.items ≡ text.old.items
-            ++ line_of (codes "ifAlias") (if_alias self.now.answers.now index)) }
-    {
-        put_text(self.alloc, text, "ifAlias", self.alias(index))
-    }
-
     /// Adds the line of the interface's speed, if it is known.
     fn put_speed(&self, text: &mut Vec<u8>, index: u32) -> Result<(), AllocError>
         ensures { OnOk result (text.new.items ≡ text.old.items
@@ -180,8 +150,8 @@ impl Source<'_> {
             ++ interface_text self.now.engine.now self.now.answers.now index) }
     {
         put_head(self.alloc, text, self.engine, index)?;
-        self.put_name(text, index)?;
-        self.put_alias(text, index)?;
+        put_text(self.alloc, text, "ifName", self.name(index))?;
+        put_text(self.alloc, text, "ifAlias", self.alias(index))?;
         self.put_speed(text, index)
     }
 

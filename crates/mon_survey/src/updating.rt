@@ -9,7 +9,7 @@ ghost use Rattle.mon_survey.specs.Appended.{polls, shown_by};
 ghost use Rattle.mon_survey.specs.Longest.{longest_of};
 ghost use Rattle.mon_survey.specs.Meant.{IsUnlike};
 ghost use Rattle.mon_survey.specs.Moved.{at_in, at_of, rulings, targets_now, watch_now};
-ghost use Rattle.mon_survey.specs.Updated.{AreWatched, IsMadeOf, IsUndrafted, IsUnread, IsUpdateFault, IsUpdated, IsUpdatedText, IsWatched, KeepsFront, KeepsWatch, few_left, kept_text, new_counters, update_of, with_space};
+ghost use Rattle.mon_survey.specs.Updated.{AreWatched, IsMadeOf, IsUndrafted, IsUnread, IsUpdateFault, IsUpdated, IsUpdatedText, IsWatched, KeepsWatch, kept_text, new_counters, update_of, with_space};
 
 use crate::appending::{Existing, polls_any};
 use crate::changes::new_counters;
@@ -58,42 +58,8 @@ impl<'a> Updating<'a> {
         }
     }
 
-    /// What the targets of new interfaces are compared with.
-    fn wanted(&self) -> Wanted<'a>
-        ensures options { result.options.now ≡ self.now.options.now }
-        ensures engine { result.engine.now ≡ self.now.places.engine.now }
-        ensures answers { result.answers.now ≡ self.now.places.answers.now }
-        ensures planned { result.planned.now ≡ self.now.planned.now }
-    {
-        Wanted {
-            options: self.options,
-            engine: self.places.engine,
-            answers: self.places.answers,
-            planned: self.planned,
-        }
-    }
-
-    /// Requires that there are at most 256 instances and 64 targets with those that are left.
-    fn require_few(&self, alloc: Global, station: &StationSettings) -> Result<(), SurveyFault>
-        ensures room { OnOk result (few_left self.now.options.now.size (at_of self.now.places)
-            (station_view station.now) self.now.planned.now ≡ Ok self.now.planned.now) }
-        ensures few { OnOk result (length self.now.planned.now ≤ 256) }
-        ensures fault { IfErr result (λ e. (e ≡ SurveyFault.OutOfMemory)
-            ⊎ (few_left self.now.options.now.size (at_of self.now.places) (station_view station.now)
-            self.now.planned.now ≡ Err e)) }
-    {
-        let targets = self.places.targets_now(alloc, station.core.targets())?;
-        let left = self
-            .places
-            .watch_now(alloc, station.core.watch().instances())?;
-        let instances = left.len() + self.planned.len();
-        if instances > MAX_INSTANCES {
-            return Err(SurveyFault::TooMany(instances));
-        }
-        require_few_targets(self.options.size, &targets, self.planned)
-    }
-
-    /// Requires that settings poll the agent and have space for the new counters.
+    /// Requires that settings poll the agent, and that there are at most 256 instances and 64 targets
+    /// with those that are left.
     fn require_space(&self, alloc: Global, station: &StationSettings) -> Result<(), SurveyFault>
         ensures room { OnOk result (with_space self.now.options.now.size (at_of self.now.places)
             (station_view station.now) self.now.planned.now ≡ Ok self.now.planned.now) }
@@ -105,21 +71,15 @@ impl<'a> Updating<'a> {
         if !polls_any(self.places.engine, station.core.targets()) {
             return Err(SurveyFault::OtherEngine);
         }
-        self.require_few(alloc, station)
-    }
-
-    /// The alarms that are left, and those on new counters.
-    fn rulings(&self, alloc: Global, old: &StationSettings) -> Result<Vec<Ruling>, AllocError>
-        requires { self.now.options.now.percent ≤ 100 }
-        ensures { IfOk result (λ v. v.items ≡ rulings (at_of self.now.places)
-            self.now.options.now.percent self.now.planned.now
-            (station_view old.now).core.watch.instances (station_view old.now).core.watch.rules) }
-    {
-        let was = Watching {
-            instances: old.core.watch().instances(),
-            rules: old.core.watch().rules(),
-        };
-        rulings(alloc, &self.places, self.options.percent, self.planned, was)
+        let targets = self.places.targets_now(alloc, station.core.targets())?;
+        let left = self
+            .places
+            .watch_now(alloc, station.core.watch().instances())?;
+        let instances = left.len() + self.planned.len();
+        if instances > MAX_INSTANCES {
+            return Err(SurveyFault::TooMany(instances));
+        }
+        require_few_targets(self.options.size, &targets, self.planned)
     }
 }
 
@@ -169,11 +129,14 @@ fn left_of(alloc: Global, update: &Updating<'_>, old: &StationSettings) -> Resul
         update.now.options.now.percent update.now.planned.now
         (station_view old.now).core.watch.instances (station_view old.now).core.watch.rules) }
 {
-    let targets = update.places.targets_now(alloc, old.core.targets())?;
-    let instances = update
-        .places
-        .watch_now(alloc, old.core.watch().instances())?;
-    let rulings = update.rulings(alloc, old)?;
+    let was = Watching {
+        instances: old.core.watch().instances(),
+        rules: old.core.watch().rules(),
+    };
+    let places = &update.places;
+    let targets = places.targets_now(alloc, old.core.targets())?;
+    let instances = places.watch_now(alloc, was.instances)?;
+    let rulings = rulings(alloc, places, update.options.percent, update.planned, was)?;
     Ok(Left {
         targets,
         instances,
@@ -193,15 +156,9 @@ fn is_watch_kept(left: &Left, new: &StationSettings) -> bool
     are_watched(now.instances, &left.instances) && are_rulings(now, &left.rulings)
 }
 
-/// Returns `true` if what is outside of targets and alarms is the same, and the targets that are
-/// left are at the front.
-fn is_front_kept(targets: &[Target], old: &StationSettings, new: &StationSettings) -> bool
-    ensures { IsTrue result ↔ KeepsFront targets.now (station_view old.now) (station_view new.now) }
-{
-    are_kept_scalars(old, new) && are_kept_targets(targets, new.core.targets())
-}
-
-/// Returns `true` if the new settings are the old ones with what is left, and with these counters.
+/// Returns `true` if the new settings are the old ones with what is left, and with these counters:
+/// what is outside of targets and alarms is the same, and the targets that are left are at the
+/// front.
 fn is_made_of(
     alloc: Global,
     update: &Updating<'_>,
@@ -216,37 +173,19 @@ fn is_made_of(
         (station_view new.now)) }
 {
     let added = after(new.core.targets(), left.targets.len());
-    let targets = are_targets(alloc, &update.wanted(), added)?;
-    Ok(is_front_kept(&left.targets, old, new) && targets && is_watch_kept(left, new))
-}
-
-/// Returns what the new settings are read as, if they are the old ones with what is left, and with
-/// these counters.
-fn require_made_of(
-    alloc: Global,
-    update: &Updating<'_>,
-    left: &Left,
-    old: &StationSettings,
-    new: &StationSettings,
-) -> Result<Reading, SurveyFault>
-    requires few { length update.now.planned.now ≤ 256 }
-    ensures gives { IfOk result (λ reading. IsMadeOf update.now.options.now
-        (at_of update.now.places) update.now.planned.now left.now.targets.items
-        left.now.instances.items left.now.rulings.items (station_view old.now)
-        (station_view new.now) × (reading.longest ≡ longest_of (station_view new.now))
-        × (reading.targets.items ≡ drop (length left.now.targets.items)
-        (station_view new.now).core.targets)) }
-    ensures fault { IfErr result (IsUnlike (IsMadeOf update.now.options.now
-        (at_of update.now.places) update.now.planned.now left.now.targets.items
-        left.now.instances.items left.now.rulings.items (station_view old.now)
-        (station_view new.now))) }
-{
-    if is_made_of(alloc, update, left, old, new)? {
-        let added = after(new.core.targets(), left.targets.len());
-        Ok(reading_of(alloc, new, added)?)
-    } else {
-        Err(SurveyFault::Misread)
-    }
+    let wanted = Wanted {
+        options: update.options,
+        engine: update.places.engine,
+        answers: update.places.answers,
+        planned: update.planned,
+    };
+    let targets = are_targets(alloc, &wanted, added)?;
+    Ok(
+        are_kept_scalars(old, new)
+            && are_kept_targets(&left.targets, new.core.targets())
+            && targets
+            && is_watch_kept(left, new),
+    )
 }
 
 /// Requires that the new settings are the old ones with the agent's interfaces as they are now, and
@@ -269,7 +208,12 @@ fn require_updated(
         (station_view new.now))) }
 {
     let left = left_of(alloc, update, old)?;
-    require_made_of(alloc, update, &left, old, new)
+    if is_made_of(alloc, update, &left, old, new)? {
+        let added = after(new.core.targets(), left.targets.len());
+        Ok(reading_of(alloc, new, added)?)
+    } else {
+        Err(SurveyFault::Misread)
+    }
 }
 
 /// Returns what a text is read as, if it is read as the settings with the agent's interfaces as

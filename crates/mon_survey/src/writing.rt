@@ -68,21 +68,6 @@ pub(crate) fn put_cleaned(text: &mut String, octets: &[u8]) -> Result<(), AllocE
     Ok(())
 }
 
-/// The name of a cell, as it is shown.
-fn cell_text<S: NameTexts>(
-    shown: &Naming<'_, S>,
-    column: Column,
-    index: u32,
-) -> Result<String, AllocError>
-    ensures { IfOk result (λ text. string_bytes text ≡ S.shown shown.now.names.now
-        (cell_name column index)) }
-{
-    match column.cell(shown.alloc, index) {
-        Ok(name) => shown.names.text(shown.alloc, &name),
-        Err(_) => Err(AllocError),
-    }
-}
-
 /// Adds the name of a cell, as it is shown.
 fn put_cell<S: NameTexts>(
     text: &mut String,
@@ -93,7 +78,10 @@ fn put_cell<S: NameTexts>(
     ensures { OnOk result (string_bytes text.new ≡ string_bytes text.old
         ++ S.shown shown.now.names.now (cell_name column index)) }
 {
-    let name = cell_text(shown, column, index)?;
+    let Ok(name) = column.cell(shown.alloc, index) else {
+        return Err(AllocError);
+    };
+    let name = shown.names.text(shown.alloc, &name)?;
     text.push_str(name.as_str())
 }
 

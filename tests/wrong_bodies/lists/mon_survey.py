@@ -133,8 +133,8 @@ BUGS = {
     ),
     "writes_texts_as_they_are": (
         "src/drafting.rt",
-        "    if !plan.options.are_plain() {\n        return Err(SurveyFault::BadText);\n    }\n    match settings_of(shown, plan) {",
-        "    if !plan.options.are_plain() && plan.options.percent == 0 {\n        return Err(SurveyFault::BadText);\n    }\n    match settings_of(shown, plan) {",
+        "    if !plan.options.are_plain() {\n        return Err(SurveyFault::BadText);\n    }\n    let digits = hex::encode(shown.alloc, plan.engine)?;\n    let mut text = String::new(shown.alloc);",
+        "    if !plan.options.are_plain() && plan.options.percent == 0 {\n        return Err(SurveyFault::BadText);\n    }\n    let digits = hex::encode(shown.alloc, plan.engine)?;\n    let mut text = String::new(shown.alloc);",
     ),
     "writes_no_alarms": (
         "src/drafting.rt",
@@ -143,8 +143,8 @@ BUGS = {
     ),
     "adds_no_alarms": (
         "src/drafting.rt",
-        "    put_targets(text, shown, plan, engine)?;\n    put_alarms(text, shown, plan.options.percent, engine, plan.planned)\n}\n\n/// The text of the settings",
-        "    put_targets(text, shown, plan, engine)\n}\n\n/// The text of the settings",
+        "    put_targets(text, shown, plan, engine)?;\n    put_alarms(text, shown, plan.options.percent, engine, plan.planned)\n}\n\n/// Returns the text of the settings",
+        "    put_targets(text, shown, plan, engine)\n}\n\n/// Returns the text of the settings",
     ),
     "forgets_the_old_text": (
         "src/drafting.rt",
@@ -238,13 +238,13 @@ BUGS = {
     ),
     "compares_no_communities": (
         "src/comparing.rt",
-        "        && target.community.as_slice() == options.community.as_bytes()\n",
+        "            && target.community.as_slice() == options.community.as_bytes()\n",
         "",
     ),
     "compares_no_epochs": (
         "src/comparing.rt",
-        "    watched.window == window && watched.epoch == window",
-        "    watched.window == window",
+        "watched.window == window && watched.epoch == window",
+        "watched.window == window",
     ),
     "compares_the_first_alarms": (
         "src/comparing.rt",
@@ -498,8 +498,8 @@ BUGS = {
     ),
     "takes_targets_of_any_size": (
         "src/comparing.rt",
-        "    target.objects.as_slice().len() <= size.objects()",
-        "    target.objects.as_slice().len() <= size.objects().max(16)",
+        "target.objects.as_slice().len() <= size.objects())",
+        "target.objects.as_slice().len() <= size.objects().max(16))",
     ),
     "drafts_any_number_of_targets": (
         "src/surveying.rt",
