@@ -319,8 +319,8 @@ BUGS = {
     "a_page_stays_made": ("src/snapshot.rt", "            page: Draft::blank(page.text),", "            page,"),
     "texts_of_a_round_before": (
         "src/showing.rt",
-        "    let (drafts, board) = memory_of(alloc, before);\n",
-        "    if let Some(before) = before {\n        return Ok(before);\n    }\n    let (drafts, board) = memory_of(alloc, None);\n",
+        "    let (drafts, memory) = memory_of(alloc, before);\n",
+        "    if let Some(before) = before {\n        return Ok(before);\n    }\n    let (drafts, memory) = memory_of(alloc, None);\n",
     ),
     "the_windows_of_a_round_before": ("src/copying.rt", "    copy.copy_from(board);\n", ""),
     "takes_any_board_for_the_copy": ("src/copying.rt", "        if is_same_watch(before.watch(), watch) {\n", "        if true {\n"),
