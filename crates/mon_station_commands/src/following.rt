@@ -1,8 +1,6 @@
 //! Settings that change while their station runs.
 
-ghost use Rattle.std.specs.Prelude.{◌≡◌, ◌==◌, [], ◌∷◌, None, Some, if◌then◌else◌};
-ghost use Rattle.std.specs.Time.{system_time_nanos};
-ghost use Rattle.mon_console.specs.Failure.{is_memory};
+ghost use Rattle.std.specs.Prelude.{◌≡◌, [], ◌∷◌};
 ghost use Rattle.mon_file_commands.specs.Line.{AreNoted, stated};
 ghost use Rattle.mon_host.specs.declared.level.Level.TheVariants.{Notice};
 ghost use Rattle.mon_host.specs.Log.{GoesOnBy};
@@ -92,23 +90,10 @@ fn new_time(known: Option<SystemTime>, changed: Option<SystemTime>) -> Option<Sy
     match (known, changed) {
         (_, None) => None,
         (None, Some(at)) => Some(at),
-        (Some(before), Some(at)) => {
-            if is_same_time(before, at) {
-                None
-            } else {
-                Some(at)
-            }
-        }
-    }
-}
-
-/// Returns `true` if both are the same time.
-fn is_same_time(one: SystemTime, other: SystemTime) -> bool
-    ensures { result ≡ (system_time_nanos one == system_time_nanos other) }
-{
-    match other.duration_since(one) {
-        Ok(passed) => passed.is_zero(),
-        Err(_) => false,
+        (Some(before), Some(at)) => match at.duration_since(before) {
+            Ok(passed) if passed.is_zero() => None,
+            _ => Some(at),
+        },
     }
 }
 
@@ -127,7 +112,8 @@ fn take_news<H: Host>(
     say_news(host, words, round, at, given)
 }
 
-/// Says what became of settings that were changed at this time.
+/// Says what became of settings that were changed at this time. It is not known when they were if
+/// memory ran out, so that they are read again.
 fn say_news<H: Host>(
     host: &mut H,
     words: StationArgs<'_, '_>,
@@ -149,22 +135,15 @@ fn say_news<H: Host>(
         Err(failure) => {
             failure.report(host, Level::Warning);
             Look {
-                at: known_after(&failure, at),
+                at: if failure.is_of_memory() {
+                    None
+                } else {
+                    Some(at)
+                },
                 ends: false,
             }
         }
     }
-}
-
-/// Returns when settings that could not be used were changed: it is not known if memory ran out, so
-/// that they are read again.
-fn known_after(failure: &Failure, at: SystemTime) -> Option<SystemTime>
-    ensures { result ≡ (if is_memory failure.now.fault then None else Some at) }
-{
-    if failure.is_of_memory() {
-        return None;
-    }
-    Some(at)
 }
 
 /// Says that settings that can be used were changed.

@@ -3,7 +3,7 @@
 ghost use Rattle.std.specs.Prelude.{◌≡◌, false, IfErr, OnErr, OnOk, codes, string_bytes};
 ghost use Rattle.mon_disk.specs.Kept.{is_spoiled};
 ghost use Rattle.mon_host.specs.Log.{GoesOnBy};
-ghost use Rattle.mon_station_commands.specs.Keeping.{IsFileKept, IsKeptBy, IsMoveSaid, IsNoFile, IsTaken, found_at, found_by, strayed_lines};
+ghost use Rattle.mon_station_commands.specs.Keeping.{IsFileKept, IsKeptBy, IsMoveSaid, IsNoFile, IsTaken, found_by, strayed_lines};
 ghost use Rattle.mon_file_commands.specs.Line.{AreNoted};
 
 use crate::live::Live;
@@ -49,26 +49,10 @@ pub(crate) fn keep_file<
 fn found_by(at: Result<Option<(u64, u64)>, Reason>, own: io::Result<(u64, u64)>) -> Found
     ensures { result ≡ found_by at own }
 {
-    match at {
-        Ok(None) => Found::Nothing,
-        Ok(Some(at)) => found_at(at, own),
-        Err(_) => Found::Own,
-    }
-}
-
-/// Returns whether the file at a path is the station's.
-fn found_at(at: (u64, u64), own: io::Result<(u64, u64)>) -> Found
-    ensures { result ≡ found_at at own }
-{
-    match own {
-        Ok(own) => {
-            if at.0 == own.0 && at.1 == own.1 {
-                Found::Own
-            } else {
-                Found::Other
-            }
-        }
-        Err(_) => Found::Own,
+    match (at, own) {
+        (Ok(None), _) => Found::Nothing,
+        (Ok(Some(at)), Ok(own)) if at.0 != own.0 || at.1 != own.1 => Found::Other,
+        _ => Found::Own,
     }
 }
 

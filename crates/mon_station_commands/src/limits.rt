@@ -4,7 +4,7 @@ ghost use Rattle.std.specs.Prelude.{◌≡◌, ◌≤◌, ◌<◌, ◌++◌, IfO
 ghost use Rattle.mon_board.specs.Instance.{AreSized};
 ghost use Rattle.mon_host.specs.Log.{GoesOnBy};
 ghost use Rattle.mon_station_commands.specs.Checking.{AreLimits};
-ghost use Rattle.mon_station_commands.specs.Limits.{interval_line, kept_lines, limits_text, longest_gap, outlasting_line, round_line, sample_line, sample_lines, samples_of, target_line, target_lines, turn_line, turn_lines, turn_of};
+ghost use Rattle.mon_station_commands.specs.Limits.{interval_line, kept_lines, limits_text, longest_gap, round_line, sample_lines, samples_of, target_line, target_lines, turn_line, turn_lines, turn_of};
 
 use mon_board::Watched;
 use mon_console::{Failure, print};
@@ -111,7 +111,13 @@ fn put_turns(text: &mut String, silent: u64, interval: u32, peers: usize) -> Res
     }
     let turn = turn_of(interval, peers + 1);
     put_turn(text, peers + 1, turn)?;
-    put_outlasting(text, silent, turn)
+    if silent <= turn {
+        return Ok(());
+    }
+    write!(
+        text,
+        "turns: a round of {silent} ms outlasts its turn; a longer --interval, fewer tries or a smaller wait_ms keep stations apart\n"
+    )
 }
 
 /// Adds how many stations poll one after another, and how long each one's turn is.
@@ -125,20 +131,6 @@ fn put_turn(text: &mut String, stations: usize, turn: u64) -> Result<(), AllocEr
     )
 }
 
-/// Adds what to change if a round in which no target answers outlasts a station's turn.
-fn put_outlasting(text: &mut String, silent: u64, turn: u64) -> Result<(), AllocError>
-    ensures { OnOk result (string_bytes text.new
-        ≡ string_bytes text.old ++ outlasting_line silent turn) }
-{
-    if silent <= turn {
-        return Ok(());
-    }
-    write!(
-        text,
-        "turns: a round of {silent} ms outlasts its turn; a longer --interval, fewer tries or a smaller wait_ms keep stations apart\n"
-    )
-}
-
 /// Adds what to do about agents that renew their counters less often than samples are taken, if
 /// these come closer together than such agents want.
 fn put_samples(text: &mut String, interval: u32, peers: usize) -> Result<(), AllocError>
@@ -149,14 +141,7 @@ fn put_samples(text: &mut String, interval: u32, peers: usize) -> Result<(), All
     if interval == 0 {
         return Ok(());
     }
-    put_sample_line(text, turn_of(interval, peers + 1))
-}
-
-/// Adds the same for samples that come this many milliseconds apart.
-fn put_sample_line(text: &mut String, apart: u64) -> Result<(), AllocError>
-    ensures { OnOk result (string_bytes text.new
-        ≡ string_bytes text.old ++ sample_line apart) }
-{
+    let apart = turn_of(interval, peers + 1);
     if apart >= APART {
         return Ok(());
     }

@@ -1,9 +1,9 @@
 //! Notifications of a running station: what is put for the receiver, and its delivery.
 
-ghost use Rattle.std.specs.Prelude.{◌≡◌, Ok, OnErr, OnOk, Some, option_copied, option_map};
+ghost use Rattle.std.specs.Prelude.{◌≡◌, Ok, OnErr, OnOk, option_copied, option_map};
 ghost use Rattle.mon_host.specs.Log.{GoesOnBy};
 ghost use Rattle.mon_file_commands.specs.Line.{AreNoted};
-ghost use Rattle.mon_station_commands.specs.Notifying.{Chain, HasTurn, IfCarried, IsAlarmPut, IsCourier, IsDateAt, IsDevicePut, IsPut, IsSeenAt, IsTurnSaid, OrLost, dropped_of, is_silence, lost, news_level, news_lines, until_turn, wanted_of};
+ghost use Rattle.mon_station_commands.specs.Notifying.{Chain, HasTurn, IfCarried, IsAlarmPut, IsCourier, IsDevicePut, IsPut, IsSeenAt, IsTurnSaid, OrLost, dropped_of, lost, news_level, news_lines, until_turn, wanted_of};
 ghost use Rattle.mon_station_commands.specs.Quiet.{AreQuiet};
 
 use crate::live::Live;
@@ -31,16 +31,9 @@ const TELL_AFTER: u64 = 1000;
 pub(crate) fn courier_of(alloc: Global, url: Option<&str>) -> Result<Option<Courier>, Failure>
     ensures { IsCourier (option_copied url.entry) result }
 {
-    match url {
-        Some(url) => courier_to(alloc, url),
-        None => Ok(None),
-    }
-}
-
-/// Returns what delivers notifications to this URL.
-fn courier_to(alloc: Global, url: &str) -> Result<Option<Courier>, Failure>
-    ensures { IsCourier (Some url.now) result }
-{
+    let Some(url) = url else {
+        return Ok(None);
+    };
     match parse_target(url) {
         Ok(target) => Ok(Some(Courier::new(alloc, &target)?)),
         Err(fault) => Err(Failure::text(alloc, url, wanted_of(fault))),
@@ -65,21 +58,15 @@ pub(crate) struct Look<'a> {
     pub(crate) seen: Seen,
 }
 
-/// Returns that this station sees something at this time, in seconds since 1970-01-01 00:00:00 UTC.
+/// Returns that this station sees something at this time, in seconds since 1970-01-01 00:00:00 UTC;
+/// a time after the year 9999 counts as its end.
 pub(crate) fn seen_at(station: u32, seconds: u64) -> Seen
     ensures { IsSeenAt station seconds result }
 {
     Seen {
         station,
-        date: date_of(seconds),
+        date: HttpDate::from_unix_secs(seconds.min(LAST_SECOND)).unwrap(),
     }
-}
-
-/// Returns the date at this time; a time after the year 9999 counts as its end.
-fn date_of(seconds: u64) -> HttpDate
-    ensures { IsDateAt seconds result }
-{
-    HttpDate::from_unix_secs(seconds.min(LAST_SECOND)).unwrap()
 }
 
 /// Puts a notice of each of these changes of alarms, in order, if there is a receiver. One for
@@ -212,7 +199,7 @@ fn put_device(
         courier.old courier.new) }
     ensures same { OnErr result (courier.new ≡ courier.old) }
 {
-    if is_silence(change.trouble) {
+    if change.trouble == Trouble::SilentTarget {
         return put_silence(
             alloc,
             courier,
@@ -222,13 +209,6 @@ fn put_device(
         );
     }
     Ok(())
-}
-
-/// Returns `true` if a trouble is that a target gives no answer.
-fn is_silence(trouble: Trouble) -> bool
-    ensures { result ≡ is_silence trouble }
-{
-    matches!(trouble, Trouble::SilentTarget)
 }
 
 /// Puts a notice that the device at a target gives no answer, or answers again, if there is such a

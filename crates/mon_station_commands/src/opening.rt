@@ -5,7 +5,7 @@ ghost use Rattle.mon_console.specs.Failure.{HasLine, IsOf};
 ghost use Rattle.mon_faults.specs.Fault.{innermost_of, station_fault};
 ghost use Rattle.mon_host.specs.Log.{GoesOnBy};
 ghost use Rattle.mon_station_commands.specs.Opening.{IsOfFile, IsOpenedOr};
-ghost use Rattle.mon_station_commands.specs.Places.{AreSavedIf, IsFile, IsHad, IsLookedAt, IsSocketOr, IsWithout, MayBeThere};
+ghost use Rattle.mon_station_commands.specs.Places.{AreSavedIf, IsFile, IsHad, IsLookedAt, IsSocketOr, MayBeThere};
 ghost use Rattle.mon_file_commands.specs.Line.{AreNoted};
 ghost use Rattle.mon_station_commands.specs.Telling.{short_lines, short_lines_of};
 
@@ -35,24 +35,10 @@ pub(crate) fn or_no_socket<T: Drop, H: Host>(
 {
     match given {
         Ok(socket) => Ok(socket),
-        Err(error) => Err(without_socket(alloc, host, settings, error)),
-    }
-}
-
-/// Returns why there is no socket, after this error: a fault of the file of the settings, or the
-/// error.
-fn without_socket<H: Host>(
-    alloc: Global,
-    host: &mut H,
-    settings: &StationSettings,
-    error: io::Error,
-) -> Failure
-    ensures { GoesOnBy (λ log. IsWithout settings.now error log result) (H.log host.old)
-        (H.log host.new) }
-{
-    match look_at_file(alloc, host, settings) {
-        Ok(()) => Failure::socket(alloc, settings.listen, error),
-        Err(failure) => failure,
+        Err(error) => {
+            look_at_file(alloc, host, settings)?;
+            Err(Failure::socket(alloc, settings.listen, error))
+        }
     }
 }
 

@@ -74,7 +74,8 @@ pub(crate) fn show<S: Shows<Snapshot> + Drop, O: Outbox + Drop>(
     }
 }
 
-/// Returns what is shown now, in the memory of what was shown before.
+/// Returns what is shown now, in the memory of what was shown before: what texts are built from, as
+/// it is now.
 fn snapshot_of<S: Receiver + Drop, O: Outbox + Drop>(
     alloc: Global,
     live: &Live<S, O>,
@@ -86,8 +87,17 @@ fn snapshot_of<S: Receiver + Drop, O: Outbox + Drop>(
         live.now.freshness live.now.transport.peers.items live.now.transport.engines.items
         live.now.ended live.now.kept.round_at live.now.reports (texts_of snapshot.source)) }
 {
-    let (drafts, board) = memory_of(alloc, before);
-    let source = source_of(alloc, live, board)?;
+    let (drafts, memory) = memory_of(alloc, before);
+    let figures = make_figures(alloc, live)?;
+    let states = live.course.announced(alloc)?;
+    let board = copy_of(alloc, live.station.board(), memory)?;
+    let printing = live.reports.printing.share()?;
+    let source = Source {
+        board,
+        states,
+        figures,
+        printing,
+    };
     Ok(Snapshot::new(source, drafts))
 }
 
@@ -103,26 +113,4 @@ fn memory_of(alloc: Global, before: Option<Snapshot>) -> (Drafts, Option<Board>)
         }
         None => (Drafts::new(alloc), None),
     }
-}
-
-/// Returns what texts are built from, as it is now, in the memory of a board.
-fn source_of<S: Receiver + Drop, O: Outbox + Drop>(
-    alloc: Global,
-    live: &Live<S, O>,
-    memory: Option<Board>,
-) -> Result<Source, AllocError>
-    ensures { IfOk result (λ source. AreTextsOf (state_of live.now.station.life) live.now.course
-        live.now.freshness live.now.transport.peers.items live.now.transport.engines.items
-        live.now.ended live.now.kept.round_at live.now.reports (texts_of source)) }
-{
-    let figures = make_figures(alloc, live)?;
-    let states = live.course.announced(alloc)?;
-    let board = copy_of(alloc, live.station.board(), memory)?;
-    let printing = live.reports.printing.share()?;
-    Ok(Source {
-        board,
-        states,
-        figures,
-        printing,
-    })
 }

@@ -356,16 +356,9 @@ fn copies_of(alloc: Global, texts: &[&str]) -> Result<Vec<String>, AllocError>
 fn http_address_of(alloc: Global, text: Option<&str>) -> Result<Option<Addr>, Failure>
     ensures { IsHttpAddress (option_copied text.entry) result }
 {
-    match text {
-        Some(text) => http_address_at(alloc, text),
-        None => Ok(None),
-    }
-}
-
-/// Returns the address for HTTP that a text writes.
-fn http_address_at(alloc: Global, text: &str) -> Result<Option<Addr>, Failure>
-    ensures { IsHttpAddress (Some text.now) result }
-{
+    let Some(text) = text else {
+        return Ok(None);
+    };
     match Addr::parse(text) {
         Some(address) => Ok(Some(address)),
         None => Err(Failure::text(alloc, text, "an address, a.b.c.d:port,")),
@@ -520,17 +513,10 @@ fn paths_of(alloc: Global, out: Option<&str>, file: &str) -> Result<Paths, Failu
     ensures { OrMemory (ArePaths (option_copied out.entry) file.now) result }
 {
     Ok(Paths {
-        out: out_of(alloc, out)?,
+        out: match out {
+            Some(path) => Some(String::from_str(alloc, path)?),
+            None => None,
+        },
         file: String::from_str(alloc, file)?,
     })
-}
-
-/// Returns the path of the file for each round's report, if there is one.
-fn out_of(alloc: Global, path: Option<&str>) -> Result<Option<String>, AllocError>
-    ensures { IfOk result (λ out. option_map string_bytes out ≡ option_copied path.entry) }
-{
-    match path {
-        Some(path) => Ok(Some(String::from_str(alloc, path)?)),
-        None => Ok(None),
-    }
 }

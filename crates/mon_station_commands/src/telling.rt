@@ -5,9 +5,8 @@ ghost use Rattle.std.specs.List.{flat_map};
 ghost use Rattle.mon_host.specs.AtHost.{IsNoted};
 ghost use Rattle.mon_host.specs.Log.{GoesOnBy};
 ghost use Rattle.mon_station.specs.State.{state_of};
-ghost use Rattle.mon_host.specs.declared.level.Level.TheVariants.{Warning};
-ghost use Rattle.mon_file_commands.specs.Line.{AreNoted, stated, unstated};
-ghost use Rattle.mon_station_commands.specs.Telling.{AreSaid, alarm_level, alarm_note, last_stray, line_in, memory_line, notice_lines, plural, raised_notes, response_lines, restart_level, restart_line, restart_lines, round_lines, stray_lines, strays_in, unreceived_lines, unsaved_line, unsent_lines};
+ghost use Rattle.mon_file_commands.specs.Line.{AreNoted, stated};
+ghost use Rattle.mon_station_commands.specs.Telling.{AreSaid, alarm_level, alarm_note, last_stray, line_in, notice_lines, plural, raised_notes, response_lines, restart_level, restart_line, restart_lines, round_lines, stray_lines, strays_in, unreceived_lines, unsaved_line, unsent_lines};
 
 use crate::live::Live;
 use mon_alarms::{AlarmChange, AlarmEvent};
@@ -71,25 +70,29 @@ fn tell_notice<H: Host, S: Receiver + Drop, O: Outbox + Drop>(
         Notice::Astray(_) => {}
         Notice::NotPolled(target, fault) => {
             let at = shown_target(&live.transport.addresses, target);
-            tell_unpolled(host, round, u32::from(target) + 1, at, fault);
+            let number = u32::from(target) + 1;
+            host.note(
+                Level::Warning,
+                format_args!(
+                    "snmpmon: round {round}: target {number} at {at} was not polled: {fault}\n"
+                ),
+            );
         }
         Notice::BadResponse(from, fault) => tell_response(host, round, from, fault),
-        Notice::BadClaim(from, fault) => tell_claim(host, round, from, fault),
-        Notice::NotShared(peer, fault) => tell_unshared(host, round, peer, fault),
-        Notice::NoMemory(_) => tell_memory(host, round),
+        Notice::BadClaim(from, fault) => host.note(
+            Level::Warning,
+            format_args!("snmpmon: round {round}: from peer {from}: {fault}\n"),
+        ),
+        Notice::NotShared(peer, fault) => host.note(
+            Level::Warning,
+            format_args!("snmpmon: round {round}: station {peer} was offered nothing: {fault}\n"),
+        ),
+        Notice::NoMemory(_) => host.note(
+            Level::Warning,
+            format_args!("snmpmon: round {round}: out of memory\n"),
+        ),
         Notice::NotSaved(number) => tell_unsaved(host, live, round, number),
     }
-}
-
-/// Prints that a target was not polled.
-fn tell_unpolled<H: Host>(host: &mut H, round: u32, number: u32, at: Addr, fault: StationFault)
-    ensures { GoesOnBy (AreNoted (unstated Warning ∷ []))
-        (H.log host.old) (H.log host.new) }
-{
-    host.note(
-        Level::Warning,
-        format_args!("snmpmon: round {round}: target {number} at {at} was not polled: {fault}\n"),
-    );
 }
 
 /// Prints that a response was refused, except if another engine than the target's answered, or if
@@ -105,39 +108,6 @@ fn tell_response<H: Host>(host: &mut H, round: u32, from: Addr, fault: StationFa
             format_args!("snmpmon: round {round}: from target {from}: {fault}\n"),
         ),
     }
-}
-
-/// Prints that a claim was refused.
-fn tell_claim<H: Host>(host: &mut H, round: u32, from: Addr, fault: StationFault)
-    ensures { GoesOnBy (AreNoted (unstated Warning ∷ []))
-        (H.log host.old) (H.log host.new) }
-{
-    host.note(
-        Level::Warning,
-        format_args!("snmpmon: round {round}: from peer {from}: {fault}\n"),
-    );
-}
-
-/// Prints that a peer was offered nothing.
-fn tell_unshared<H: Host>(host: &mut H, round: u32, peer: u32, fault: StationFault)
-    ensures { GoesOnBy (AreNoted (unstated Warning ∷ []))
-        (H.log host.old) (H.log host.new) }
-{
-    host.note(
-        Level::Warning,
-        format_args!("snmpmon: round {round}: station {peer} was offered nothing: {fault}\n"),
-    );
-}
-
-/// Prints that memory ran out.
-fn tell_memory<H: Host>(host: &mut H, round: u32)
-    ensures { GoesOnBy (AreNoted (stated Warning (memory_line round) ∷ []))
-        (H.log host.old) (H.log host.new) }
-{
-    host.note(
-        Level::Warning,
-        format_args!("snmpmon: round {round}: out of memory\n"),
-    );
 }
 
 /// Prints that the windows were not saved, with the system's reason if the disk failed.

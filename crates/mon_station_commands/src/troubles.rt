@@ -5,14 +5,14 @@ ghost use Rattle.std.specs.List.{list_any};
 ghost use Rattle.mon_host.specs.Log.{GoesOnBy};
 ghost use Rattle.mon_file_commands.specs.Line.{AreNoted};
 ghost use Rattle.mon_station_commands.specs.Telling.{text_lines};
-ghost use Rattle.mon_station_commands.specs.Troubles.{AreTroublesSaid, BeginsWith, IsText, count_alike, engine_at, engine_text, joins, key_in, key_of, key_text, late_at, late_text, level_of, many_text, offers_at, offers_text, other_text, own_text, peer_at, peer_text, silent_at, silent_text, stale_at, stale_many, stale_one, target_at, target_of, target_text, text_at, trouble_level, words_of};
+ghost use Rattle.mon_station_commands.specs.Troubles.{AreTroublesSaid, BeginsWith, IsText, count_alike, engine_at, engine_text, joins, key_in, key_of, key_text, late_at, late_text, level_of, many_text, offers_at, other_text, own_text, peer_at, silent_at, silent_text, stale_many, stale_one, target_at, target_of, target_text, text_at, words_of};
 
 use crate::telling::plural;
 use mon_board::Board;
 use mon_console::SharedPrinting;
 use mon_host::{Host, Level};
 use mon_reasons::NewestDatagrams;
-use mon_rounds::{Change, Freshness, InstanceAge, PeerAge, TargetAge, Trouble, explain_stale};
+use mon_rounds::{Change, Freshness, InstanceAge, TargetAge, Trouble, explain_stale};
 use mon_station::StationFault;
 use std::alloc::{AllocError, Global};
 
@@ -62,14 +62,7 @@ fn level_at(keys: &[Key], place: usize) -> Level
     requires { place < length keys.now }
     ensures { result ≡ level_of (slice_get (map key_in keys.now) place) }
 {
-    trouble_level(keys[place].change.begins)
-}
-
-/// Returns how grave a trouble is that begins, or that ends.
-fn trouble_level(begins: bool) -> Level
-    ensures { result ≡ trouble_level begins }
-{
-    if begins {
+    if keys[place].change.begins {
         Level::Warning
     } else {
         Level::Notice
@@ -203,7 +196,8 @@ fn key_text(alloc: Global, facts: Facts<'_>, key: &Key, alike: u32) -> Result<St
         Trouble::LateTarget => late_at(alloc, facts, change),
         Trouble::SilentPeer => peer_at(alloc, facts, change),
         Trouble::OffersOften => offers_at(alloc, facts, change),
-        Trouble::StaleInstance => stale_at(alloc, facts, key, alike),
+        Trouble::StaleInstance if alike > 1 => stale_many(alloc, facts, key, alike),
+        Trouble::StaleInstance => stale_one(alloc, facts, key),
     }
 }
 
@@ -342,18 +336,11 @@ fn late_text(alloc: Global, target: &TargetAge, begins: bool) -> Result<String, 
 fn peer_at(alloc: Global, facts: Facts<'_>, change: Change) -> Result<String, AllocError>
     ensures { IfOk result (λ text. IsText (peer_at facts.entry change) (string_bytes text)) }
 {
-    match facts.freshness.peers().get(change.number) {
-        Some(peer) => peer_text(alloc, peer, change.begins),
-        None => Ok(String::new(alloc)),
-    }
-}
-
-/// Says that nothing comes from a peer, or that something does again.
-fn peer_text(alloc: Global, peer: &PeerAge, begins: bool) -> Result<String, AllocError>
-    ensures { IfOk result (λ text. string_bytes text ≡ peer_text begins peer.now) }
-{
+    let Some(peer) = facts.freshness.peers().get(change.number) else {
+        return Ok(String::new(alloc));
+    };
     let (station, rounds) = (peer.station, peer.rounds);
-    if begins {
+    if change.begins {
         let end = plural(u64::from(rounds));
         format!(in alloc; "nothing came from station {station} for {rounds} round{end}")
     } else {
@@ -365,33 +352,15 @@ fn peer_text(alloc: Global, peer: &PeerAge, begins: bool) -> Result<String, Allo
 fn offers_at(alloc: Global, facts: Facts<'_>, change: Change) -> Result<String, AllocError>
     ensures { IfOk result (λ text. IsText (offers_at facts.entry change) (string_bytes text)) }
 {
-    match facts.freshness.peers().get(change.number) {
-        Some(peer) => offers_text(alloc, peer.station, change.begins),
-        None => Ok(String::new(alloc)),
-    }
-}
-
-/// Says that a peer offers more often than once an interval, or that it no longer does.
-fn offers_text(alloc: Global, station: u32, begins: bool) -> Result<String, AllocError>
-    ensures { IfOk result (λ text. string_bytes text ≡ offers_text begins station) }
-{
-    if begins {
+    let Some(peer) = facts.freshness.peers().get(change.number) else {
+        return Ok(String::new(alloc));
+    };
+    let station = peer.station;
+    if change.begins {
         format!(in alloc; "station {station} offers more often than once an interval")
     } else {
         format!(in alloc; "station {station} offers once an interval again")
     }
-}
-
-/// Says that an instance has no new sample, and why, or that it has one again; of several of a
-/// target how many.
-fn stale_at(alloc: Global, facts: Facts<'_>, key: &Key, alike: u32) -> Result<String, AllocError>
-    ensures { IfOk result (λ text. IsText (stale_at facts.entry (key_in key.now) alike)
-        (string_bytes text)) }
-{
-    if alike > 1 {
-        return stale_many(alloc, facts, key, alike);
-    }
-    stale_one(alloc, facts, key)
 }
 
 /// Says that an instance has no new sample, and why, or that it has one again.

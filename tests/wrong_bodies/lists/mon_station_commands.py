@@ -28,18 +28,18 @@ BUGS = {
     ),
     "ends_for_settings_that_cannot_be_used": (
         "src/following.rt",
-        "                at: known_after(&failure, at),\n                ends: false,",
-        "                at: known_after(&failure, at),\n                ends: words.follows,",
+        "                    Some(at)\n                },\n                ends: false,",
+        "                    Some(at)\n                },\n                ends: words.follows,",
     ),
     "loses_news_where_memory_ends": (
         "src/following.rt",
-        "    if failure.is_of_memory() {\n        return None;\n    }\n    Some(at)",
-        "    let _ = failure;\n    Some(at)",
+        "                at: if failure.is_of_memory() {\n                    None",
+        "                at: if failure.is_of_memory() {\n                    Some(at)",
     ),
     "says_bad_settings_again_and_again": (
         "src/following.rt",
-        "    if failure.is_of_memory() {\n        return None;\n    }\n    Some(at)",
-        "    let _ = (failure, at);\n    None",
+        "                at: if failure.is_of_memory() {\n                    None\n                } else {\n                    Some(at)\n                },",
+        "                at: None,",
     ),
     "changed_settings_are_not_spoken_of": (
         "src/following.rt",
@@ -53,8 +53,8 @@ BUGS = {
     ),
     "each_look_is_news": (
         "src/following.rt",
-        "        Ok(passed) => passed.is_zero(),",
-        "        Ok(_) => false,",
+        "            Ok(passed) if passed.is_zero() => None,",
+        "            Ok(passed) if passed.is_zero() => Some(at),",
     ),
     "no_look_is_news": (
         "src/following.rt",
@@ -63,8 +63,8 @@ BUGS = {
     ),
     "settings_that_went_back_stay_unseen": (
         "src/following.rt",
-        "        Err(_) => false,\n    }\n}\n\n/// Reads the settings",
-        "        Err(_) => true,\n    }\n}\n\n/// Reads the settings",
+        "            _ => Some(at),",
+        "            Ok(_) => Some(at),\n            Err(_) => None,",
     ),
     "the_start_is_not_dated": (
         "src/following.rt",
@@ -118,13 +118,13 @@ BUGS = {
     ),
     "warns_of_no_cached_counters": (
         "src/limits.rt",
-        "    put_sample_line(text, turn_of(interval, peers + 1))\n",
-        "    let _ = (text, peers);\n    Ok(())\n",
+        "    if apart >= APART {",
+        "    if apart < APART || apart >= APART {",
     ),
     "warns_of_the_whole_interval": (
         "src/limits.rt",
-        "    put_sample_line(text, turn_of(interval, peers + 1))\n",
-        "    let _ = peers;\n    put_sample_line(text, u64::from(interval) * 1000)\n",
+        "    let apart = turn_of(interval, peers + 1);\n",
+        "    let _ = peers;\n    let apart = u64::from(interval) * 1000;\n",
     ),
     "a_station_is_never_new": (
         "src/live.rt",
@@ -168,18 +168,18 @@ BUGS = {
     ),
     "takes_each_file_for_its_own": (
         "src/keeping.rt",
-        "                Found::Other\n",
-        "                Found::Own\n",
+        " => Found::Other,",
+        " => Found::Own,",
     ),
     "takes_its_own_file_for_another": (
         "src/keeping.rt",
-        "            if at.0 == own.0 && at.1 == own.1 {",
-        "            if at.0 == own.0 && at.1 != own.1 {",
+        " if at.0 != own.0 || at.1 != own.1 =>",
+        " if at.0 != own.0 || at.1 == own.1 =>",
     ),
     "a_file_that_is_gone_is_there": (
         "src/keeping.rt",
-        "        Ok(None) => Found::Nothing,",
-        "        Ok(None) => Found::Own,",
+        "        (Ok(None), _) => Found::Nothing,",
+        "        (Ok(None), _) => Found::Own,",
     ),
     "says_in_each_round_that_a_file_is_gone": (
         "src/keeping.rt",
@@ -284,8 +284,8 @@ BUGS = {
     ),
     "writes_no_reports": (
         "src/station.rt",
-        "        Some(path) => Ok(Some(String::from_str(alloc, path)?)),",
-        "        Some(_) => Ok(None),",
+        "            Some(path) => Some(String::from_str(alloc, path)?),",
+        "            Some(_) => None,",
     ),
     "no_engine_of_the_first_target": (
         "src/live.rt",
@@ -319,8 +319,8 @@ BUGS = {
     "a_page_stays_made": ("src/snapshot.rt", "            page: Draft::blank(page.text),", "            page,"),
     "texts_of_a_round_before": (
         "src/showing.rt",
-        "    let (drafts, board) = memory_of(alloc, before);\n",
-        "    if let Some(before) = before {\n        return Ok(before);\n    }\n    let (drafts, board) = memory_of(alloc, None);\n",
+        "    let (drafts, memory) = memory_of(alloc, before);\n",
+        "    if let Some(before) = before {\n        return Ok(before);\n    }\n    let (drafts, memory) = memory_of(alloc, None);\n",
     ),
     "the_windows_of_a_round_before": ("src/copying.rt", "    copy.copy_from(board);\n", ""),
     "takes_any_board_for_the_copy": ("src/copying.rt", "        if is_same_watch(before.watch(), watch) {\n", "        if true {\n"),
@@ -455,8 +455,8 @@ BUGS = {
     ),
     "a_trouble_has_the_level_of_the_first": (
         "src/troubles.rt",
-        "    trouble_level(keys[place].change.begins)",
-        "    trouble_level(keys[place - place].change.begins)",
+        "    if keys[place].change.begins {",
+        "    if keys[place - place].change.begins {",
     ),
     "a_failed_save_is_a_warning": (
         "src/telling.rt",
@@ -530,8 +530,8 @@ BUGS = {
     ),
     "no_file_before_a_socket_fails": (
         "src/opening.rt",
-        "    match look_at_file(alloc, host, settings) {",
-        "    let _ = host;\n    let looked: Result<(), Failure> = Ok(());\n    match looked {",
+        "            look_at_file(alloc, host, settings)?;\n",
+        "            let _ = host;\n",
     ),
     "a_file_is_read_if_none_is_there": (
         "src/opening.rt",
@@ -690,8 +690,8 @@ BUGS = {
     ),
     "counts_one_instance_too_few": (
         "src/troubles.rt",
-        "    if alike > 1 {\n        return stale_many(alloc, facts, key, alike);",
-        "    if alike > 1 {\n        return stale_many(alloc, facts, key, alike - 1);",
+        "if alike > 1 => stale_many(alloc, facts, key, alike),",
+        "if alike > 1 => stale_many(alloc, facts, key, alike - 1),",
     ),
     "says_again_for_what_begins": (
         "src/troubles.rt",
@@ -765,7 +765,7 @@ BUGS = {
     ),
     "notifies_of_each_trouble_as_of_a_device": (
         "src/notifying.rt",
-        "    if is_silence(change.trouble) {",
+        "    if change.trouble == Trouble::SilentTarget {",
         "    if true {",
     ),
     "a_device_that_is_up_is_down": (
@@ -775,8 +775,8 @@ BUGS = {
     ),
     "takes_no_url": (
         "src/notifying.rt",
-        "        Some(url) => courier_to(alloc, url),",
-        "        Some(url) => {\n            let _ = (alloc, url);\n            Ok(None)\n        }",
+        "        Ok(target) => Ok(Some(Courier::new(alloc, &target)?)),",
+        "        Ok(_) => {\n            let _ = alloc;\n            Ok(None)\n        }",
     ),
     "any_bad_url_is_of_https": (
         "src/notifying.rt",
@@ -795,8 +795,8 @@ BUGS = {
     ),
     "a_notice_of_1970": (
         "src/notifying.rt",
-        "    HttpDate::from_unix_secs(seconds.min(LAST_SECOND)).unwrap()",
-        "    let _ = seconds;\n    HttpDate::from_unix_secs(0).unwrap()",
+        "HttpDate::from_unix_secs(seconds.min(LAST_SECOND)).unwrap()",
+        "HttpDate::from_unix_secs(seconds.min(0)).unwrap()",
     ),
     "alarms_are_said_and_not_notified": (
         "src/live.rt",
@@ -821,7 +821,7 @@ PROMISES = {
     "forgets_an_unwritten_report": "printing::write_out",
     "ends_well_with_an_unwritten_report": "station::ended",
     "the_last_save_is_forgotten": "station::run_rounds",
-    "no_file_before_a_socket_fails": "opening::without_socket",
+    "no_file_before_a_socket_fails": "opening::or_no_socket",
     "shows_no_levels": "station::show_levels_if",
     "says_nothing_of_deliveries": "notifying::take_one",
 }
