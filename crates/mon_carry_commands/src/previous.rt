@@ -4,7 +4,7 @@ ghost use Rattle.std.specs.Prelude.{◌≤◌, false};
 ghost use Rattle.mon_host.specs.Log.{GoesOnBy};
 ghost use Rattle.mon_carry_commands.specs.Previous.{IsFinished, IsPrevious};
 ghost use Rattle.mon_carry_commands.specs.Previous.{IsPreviousOf, IsReplaced, IsReplacedBy};
-ghost use Rattle.mon_carry_commands.specs.Previous.{IsReplacedAt, IsReplacedOther, IsReplacing};
+ghost use Rattle.mon_carry_commands.specs.Previous.{IsReplacedAt, IsReplacing};
 ghost use Rattle.mon_carry_commands.specs.Previous.{IsReplacingBy, IsReplacingUnless, IsWritingNew};
 
 use crate::alike::are_alike;
@@ -75,7 +75,7 @@ fn replace_standing<K: Saves, H: Host>(
     replace_at(means, host, standing, skips, task)
 }
 
-/// Replaces a station's file by what is there of it.
+/// Replaces a station's file by what is there of it, if something else is watched than before.
 fn replace_at<K: Saves, H: Host>(
     means: &Means<'_, K>,
     host: &mut H,
@@ -88,7 +88,8 @@ fn replace_at<K: Saves, H: Host>(
         task.entry.dropped.now log result) (H.log host.old) (H.log host.new) }
 {
     match standing {
-        Standing::There => replace_other(means, host, skips, task),
+        Standing::There if are_alike(task.old, task.new) => print_same(means.alloc, host),
+        Standing::There => replace_task(means, host, skips, task),
         Standing::Between => finish_unless(means.alloc, host, skips, task.path),
         Standing::Absent => print_absent(means.alloc, host, task.path),
     }
@@ -118,24 +119,6 @@ fn finish_and_print<H: Host>(alloc: Global, host: &mut H, path: &str) -> Result<
 {
     finish(alloc, host, path)?;
     print_finished(alloc, host, path)
-}
-
-/// Replaces a station's file if something else is watched than before.
-fn replace_other<K: Saves, H: Host>(
-    means: &Means<'_, K>,
-    host: &mut H,
-    skips: bool,
-    task: Task<'_>,
-) -> Result<(), Failure>
-    ensures { GoesOnBy (λ log. IsReplacedOther (K.asked_save means.now.disks.now)
-        skips task.entry.path.now task.entry.old.now task.entry.new.now task.entry.dropped.now log
-        result) (H.log host.old) (H.log host.new) }
-{
-    if are_alike(task.old, task.new) {
-        print_same(means.alloc, host)
-    } else {
-        replace_task(means, host, skips, task)
-    }
 }
 
 /// Replaces a station's file by what is carried from it.

@@ -4,7 +4,7 @@ ghost use Rattle.std.specs.Prelude.{◌≡◌, ◌≤◌, ◌++◌, codes, false
 ghost use Rattle.mon_console.specs.Failure.{HasLine};
 ghost use Rattle.mon_faults.specs.Fault.{innermost_of};
 ghost use Rattle.mon_carry_commands.specs.Faults.{IsCarryFault, IsOfCarry};
-ghost use Rattle.mon_carry_commands.specs.Saving.{IsOfFile, IsSaving, IsSavingUnless};
+ghost use Rattle.mon_carry_commands.specs.Saving.{IsSaving, IsSavingUnless};
 
 use crate::disks::OpensDisks;
 use crate::load::{Load, fault_of, file_failure};
@@ -81,7 +81,10 @@ impl<'a, O: OpensDisks> Saves for Disks<'a, O> {
                     Err(unsaved(alloc, path, fault, error))
                 }
             },
-            Err(fault) => Err(opening_failure(alloc, path, fault)),
+            Err(OpenFault::InUse) => Err(in_use(alloc, path)),
+            Err(OpenFault::System(error)) => {
+                Err(Failure::stream(alloc, path, Reason::of(alloc, error)))
+            }
         }
     }
 }
@@ -123,16 +126,6 @@ pub(crate) fn save_load<K: Saves>(
         .save(means.alloc, path, &load.board, load.incarnation)
 }
 
-/// Returns why a station's file could not be opened.
-fn opening_failure(alloc: Global, path: &str, fault: OpenFault) -> Failure
-    ensures { IsOfFile path.now fault result }
-{
-    match fault {
-        OpenFault::InUse => in_use(alloc, path),
-        OpenFault::System(error) => Failure::stream(alloc, path, Reason::of(alloc, error)),
-    }
-}
-
 /// Returns the failure of a station's file that another process has open.
 fn in_use(alloc: Global, path: &str) -> Failure
     ensures part { (innermost_of result.fault).part ≡ codes "mon_disk" }
@@ -149,27 +142,23 @@ fn in_use(alloc: Global, path: &str) -> Failure
     )
 }
 
-/// Returns why the windows were not saved in the file at a path, with the system's last error.
+/// Returns why the windows were not saved in the file at a path, with the system's last error if
+/// the disk failed.
 fn unsaved(alloc: Global, path: &str, fault: CarryFault, error: Option<io::Error>) -> Failure
     ensures { IsOfCarry fault result }
 {
     match fault {
-        CarryFault::Keeper(KeeperFault::DiskFault) => disk_failure(alloc, path, fault, error),
+        CarryFault::Keeper(KeeperFault::DiskFault) => {
+            let whole = fault_of(fault);
+            match error {
+                Some(error) => Failure::said(whole, format!(in alloc; "{path}: {whole}: {error}")),
+                None => Failure::at(alloc, path, whole),
+            }
+        }
         CarryFault::AlreadySaved => Failure::said(
             fault_of(fault),
             format!(in alloc; "{path}: {fault}"),
         ),
         _ => file_failure(alloc, path, fault),
-    }
-}
-
-/// A disk that failed, with the system's reason.
-fn disk_failure(alloc: Global, path: &str, fault: CarryFault, error: Option<io::Error>) -> Failure
-    ensures { IsOfCarry fault result }
-{
-    let whole = fault_of(fault);
-    match error {
-        Some(error) => Failure::said(whole, format!(in alloc; "{path}: {whole}: {error}")),
-        None => Failure::at(alloc, path, whole),
     }
 }

@@ -2,7 +2,7 @@
 
 ghost use Rattle.std.specs.Prelude.{◌≡◌};
 ghost use Rattle.mon_host.specs.Log.{GoesOnBy};
-ghost use Rattle.mon_carry_commands.specs.Side.{AreApart, IsPlain, IsSide, side_of};
+ghost use Rattle.mon_carry_commands.specs.Side.{AreApart, IsSide, side_of};
 
 use mon_board::Watch;
 use mon_cli::{Named, Printed};
@@ -25,28 +25,22 @@ impl Drop for Side {
     }
 }
 
-/// How reports are printed, of which `carry` prints none.
-fn plain() -> Printed<'static, 'static>
-    ensures { IsPlain result }
+/// Reads the settings of a station in a file. How reports are printed matters not: `carry` prints
+/// none.
+pub(crate) fn read_side<H: Host>(alloc: Global, host: &mut H, path: &str) -> Result<Side, Failure>
+    ensures { GoesOnBy (λ log. IsSide path.now log result) (H.log host.old) (H.log host.new) }
 {
-    let named = Named {
-        modules: &[],
-        shown: false,
-    };
-    Printed {
+    let plain = Printed {
         format: Format::Text,
         chosen: false,
         sort: None,
         station_label: false,
-        named,
-    }
-}
-
-/// Reads the settings of a station in a file.
-pub(crate) fn read_side<H: Host>(alloc: Global, host: &mut H, path: &str) -> Result<Side, Failure>
-    ensures { GoesOnBy (λ log. IsSide path.now log result) (H.log host.old) (H.log host.new) }
-{
-    let (settings, _) = read_station_file(alloc, host, path, plain())?;
+        named: Named {
+            modules: &[],
+            shown: false,
+        },
+    };
+    let (settings, _) = read_station_file(alloc, host, path, plain)?;
     Ok(side_of(settings))
 }
 

@@ -22,19 +22,19 @@ pub returns-in-Ok-clause-asked : goal.returns-in-Ok-clause-asked
 returns-in-Ok-clause-asked g c =
     inr (record {
       before = c.in-Ok.disk;
-      after = c.in-Err-save_first.disk;
-      fault = c.in-Err-save_first.fault;
+      after = c.in-Err.disk;
+      fault = c.in-Err.fault;
       opened_is = c.in-Ok.ensures;
       refused = λ h. record {
-        of_new = c.in-Err-save_first.ensures.fault h;
-        untouched = c.in-Err-save_first.ensures.refused h;
-        found_still = c.in-Err-save_first.ensures.found_still h;
+        of_new = c.in-Err.ensures.fault h;
+        untouched = c.in-Err.ensures.refused h;
+        found_still = c.in-Err.ensures.found_still h;
         safe = record {
-          any_moment = c.in-Err-save_first.ensures.any_moment_err h;
-          whole = c.in-Err-save_first.ensures.whole_err h;
+          any_moment = c.in-Err.ensures.any_moment_err h;
+          whole = c.in-Err.ensures.whole_err h;
         };
-        stays = c.in-Err-save_first.ensures.honest_err h;
+        stays = c.in-Err.ensures.honest_err h;
       };
-      caused = c.in-Err-save_first.ensures.cause;
+      caused = c.in-Err.ensures.cause;
       failure_is = c.unsaved.ensures;
     })
