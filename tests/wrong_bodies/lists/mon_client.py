@@ -583,7 +583,7 @@ BUGS = {
     "ends_well_at_a_name_that_does_not_increase": (
         "src/walking.rt",
         "            WalkStep::Back => return Err(WalkFault::App(AppFault::NotIncreasing)),",
-        "            WalkStep::Back => return Ok(None),",
+        "            WalkStep::Back => return Ok(Turned::Over(printed)),",
     ),
     "prints_an_answer_twice": (
         "src/walking.rt",
