@@ -190,9 +190,9 @@ fn alarm_on(wanted: &Wanted<'_>, number: usize, watched: &Watched) -> Option<Ala
     if !is_own(wanted.engine, watched) {
         return None;
     }
-    let Spot::Cell(Column::If(10 | 16) | Column::IfX(6 | 10), index) =
-        Spot::of(&watched.instance.name)
-    else {
+    let Spot::Cell(Column::If(10 | 16) | Column::IfX(6 | 10), index) = Spot::of(
+        &watched.instance.name,
+    ) else {
         return None;
     };
     let at = thresholds_at(wanted.answers, wanted.options.percent, index)?;

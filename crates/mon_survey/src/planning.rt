@@ -3,7 +3,7 @@
 ghost use Rattle.std.specs.Prelude.{◌≡◌, ◌⊎◌, ◌≤◌, ◌<◌, ◌*◌, ◌++◌, Err, Ok, IfErr, IfOk, IfSome, OnOk, drop, take};
 ghost use Rattle.std.specs.List.{flat_map};
 ghost use Rattle.std.specs.Option.{option_to_list};
-ghost use Rattle.mon_survey.specs.Plan.{count_without_speed, counters_from, counters_of, interface_counters, lacks_speed, limited, planned_by, group_of, planned_of, polls_octets, thresholds_at, thresholds_of, width_of};
+ghost use Rattle.mon_survey.specs.Plan.{count_without_speed, counters_from, counters_of, interface_counters, lacks_speed, limited, planned_by, planned_of, polls_octets, thresholds_at, thresholds_of, width_of};
 ghost use Rattle.mon_survey.specs.Answers.{speed_in};
 
 use crate::answers::{Answers, Cell};

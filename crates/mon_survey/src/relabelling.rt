@@ -16,7 +16,7 @@ use crate::choice::{Choice, has_part};
 use crate::editing::{quoted, text_without};
 use crate::fault::{SurveyFault, given};
 use crate::labelled::{interfaces, is_of, is_same, labels_of, number_at, text_at, tree};
-use crate::moving::{Known, Places};
+use crate::moving::Known;
 use crate::tables::{Source, indexes_of};
 use crate::updating::Renamed;
 use mon_ber::Octets;
@@ -120,23 +120,6 @@ fn are_rest(engine: &str, old: &[Value], new: &[Value]) -> bool
     is_same(one, other) && are_rest(engine, old, new)
 }
 
-/// The indexes of the interfaces that are left and of the new ones.
-fn indexes_then(
-    alloc: Global,
-    places: &Places<'_>,
-    choice: &Choice<'_>,
-    instances: &[Watched],
-) -> Result<Vec<u32>, AllocError>
-    ensures { IfOk result (λ v. v.items ≡ indexes_then choice.now (at_of places.now)
-        instances.now) }
-{
-    let mut indexes = indexes_left(alloc, places, instances)?;
-    let counters = new_counters(alloc, places, choice, instances)?;
-    let added = indexes_of(alloc, &counters)?;
-    indexes.extend_from_slice(&added)?;
-    Ok(indexes)
-}
-
 /// Returns `true` if the text is read as those of the old tables that are of other engines.
 fn reads_rest(alloc: Global, engine: &str, before: &[Value], text: &str) -> Result<bool, AllocError>
     ensures { IfOk result (λ is. IsTrue is
@@ -213,7 +196,10 @@ pub fn relabel(
         (at_in renamed.now).cells (indexes_then choice.now (at_in renamed.now) instances.now)) }
 {
     let places = renamed.places();
-    let indexes = indexes_then(alloc, &places, choice, instances)?;
+    let mut indexes = indexes_left(alloc, &places, instances)?;
+    let counters = new_counters(alloc, &places, choice, instances)?;
+    let added = indexes_of(alloc, &counters)?;
+    indexes.extend_from_slice(&added)?;
     let digits = hex::encode(alloc, places.engine)?;
     let source = Source {
         alloc,
