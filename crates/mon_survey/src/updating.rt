@@ -58,8 +58,8 @@ impl<'a> Updating<'a> {
         }
     }
 
-    /// Requires that settings poll the agent, and that there are at most 256 instances and 64 targets
-    /// with those that are left.
+    /// Requires that settings poll the agent, and that there are at most 256 instances and 64
+    /// targets with those that are left.
     fn require_space(&self, alloc: Global, station: &StationSettings) -> Result<(), SurveyFault>
         ensures room { OnOk result (with_space self.now.options.now.size (at_of self.now.places)
             (station_view station.now) self.now.planned.now ≡ Ok self.now.planned.now) }
