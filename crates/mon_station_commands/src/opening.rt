@@ -4,7 +4,7 @@ ghost use Rattle.std.specs.Prelude.{◌≡◌, ◌↔◌, ◌<◌, ◌≤◌, �
 ghost use Rattle.mon_console.specs.Failure.{HasLine, IsOf};
 ghost use Rattle.mon_faults.specs.Fault.{innermost_of, station_fault};
 ghost use Rattle.mon_host.specs.Log.{GoesOnBy};
-ghost use Rattle.mon_station_commands.specs.Opening.{IsOfFile, IsOpenedOr};
+ghost use Rattle.mon_station_commands.specs.Opening.{IsOpenedOr};
 ghost use Rattle.mon_station_commands.specs.Places.{AreSavedIf, IsFile, IsHad, IsLookedAt, IsSocketOr, MayBeThere};
 ghost use Rattle.mon_file_commands.specs.Line.{AreNoted};
 ghost use Rattle.mon_station_commands.specs.Telling.{short_lines, short_lines_of};
@@ -142,17 +142,10 @@ pub(crate) fn or_file_failure<T: Drop>(
 {
     match given {
         Ok(value) => Ok(value),
-        Err(fault) => Err(opening_failure(alloc, path, fault)),
-    }
-}
-
-/// Returns why a station's file could not be opened.
-fn opening_failure(alloc: Global, path: &str, fault: OpenFault) -> Failure
-    ensures { IsOfFile path.now fault result }
-{
-    match fault {
-        OpenFault::InUse => in_use(alloc, path),
-        OpenFault::System(error) => Failure::stream(alloc, path, Reason::of(alloc, error)),
+        Err(OpenFault::InUse) => Err(in_use(alloc, path)),
+        Err(OpenFault::System(error)) => {
+            Err(Failure::stream(alloc, path, Reason::of(alloc, error)))
+        }
     }
 }
 

@@ -10,7 +10,7 @@ ghost use Rattle.mon_page.specs.declared.extras.Presentation.{Presentation};
 ghost use Rattle.mon_station.specs.State.{state_of};
 ghost use Rattle.mon_station_commands.specs.Reporting.{IsAgain, IsChangeOut, IsFiled, IsOut, IsReportOf, IsReported, IsUnwritten, failed_by, is_known};
 ghost use Rattle.mon_station_commands.specs.Rounds.{IsLastReport, moment_of};
-ghost use Rattle.mon_station_commands.specs.Steps.{IsKeptOf, IsSaidOf, IsTried, kept_after};
+ghost use Rattle.mon_station_commands.specs.Steps.{IsKeptOf, IsSaidOf, kept_after};
 
 use crate::figures::make_figures;
 use crate::live::Live;
@@ -38,7 +38,8 @@ pub(crate) fn print_between<H: Host, S: Receiver + Drop, O: Outbox + Drop>(
     ensures format { live.new.reports.printing ≡ live.old.reports.printing }
     ensures paths { live.new.reports.paths ≡ live.old.reports.paths }
 {
-    let failure = try_print(alloc, host, live);
+    let done = print_report(alloc, host, live);
+    let failure = said(host, done);
     live.kept.unprinted = kept_after(live.kept.unprinted.take(), failure);
 }
 
@@ -56,25 +57,6 @@ fn kept_after(before: Option<Failure>, failure: Option<Failure>) -> Option<Failu
             }
         }
     }
-}
-
-/// Prints the report. Returns why it could not be printed, which is said.
-fn try_print<H: Host, S: Receiver + Drop, O: Outbox + Drop>(
-    alloc: Global,
-    host: &mut H,
-    live: &mut Live<S, O>,
-) -> Option<Failure>
-    ensures tried { GoesOnBy (λ log. IsTried (IsReported (IsReportOf
-        (state_of live.old.station.life) live.old.course
-        live.old.freshness live.old.transport.peers.items live.old.transport.engines.items
-        live.old.ended live.old.kept.round_at live.old.reports))
-        log result) (H.log host.old) (H.log host.new) }
-    ensures kept { live.new.kept ≡ live.old.kept }
-    ensures format { live.new.reports.printing ≡ live.old.reports.printing }
-    ensures paths { live.new.reports.paths ≡ live.old.reports.paths }
-{
-    let done = print_report(alloc, host, live);
-    said(host, done)
 }
 
 /// Says a failure, if there is one, and returns it.
