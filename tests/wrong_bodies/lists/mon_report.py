@@ -68,7 +68,7 @@ BUGS = {
     "time_before_boots": ("src/line.rt", "put_stamp(writer, ok, oldest.boots(), oldest.time())", "put_stamp(writer, ok, oldest.time(), oldest.boots())"),
     "mark_for_the_number": ("src/line.rt", "put_signed(writer, ok, sample.number())", "put_signed(writer, ok, i128::from(sample.discontinuity()))"),
     "value_without_its_sign": ("src/line.rt", "put_signed(writer, ok, sample.number())", "put_number(writer, ok, sample.value())"),
-    "two_digits": ("src/line.rt", "put(writer, ok, &[hundreds, tens, ones])", "put(writer, ok, &[hundreds, tens])"),
+    "two_digits": ("src/line.rt", "put(writer, ok, &[b'.', hundreds, tens, ones])", "put(writer, ok, &[b'.', hundreds, tens])"),
     "rate_of_no_time": ("src/line.rt", 'None => put(writer, ok, b"none")', 'None => put(writer, ok, b"0.000")'),
     "one_sample_less": ("src/line.rt", "put_number(writer, ok, samples.len() as u64)", "put_number(writer, ok, others.len() as u64)"),
     "clear_when_raised": ("src/line.rt", "AlarmState::Raised { boots, time } => put_raised(writer, ok, boots, time)", 'AlarmState::Raised { .. } => put(writer, ok, b"clear")'),
