@@ -1,6 +1,6 @@
 //! Carrying a station's file to settings that changed, in its own place.
 
-ghost use Rattle.std.specs.Prelude.{◌≤◌, false};
+ghost use Rattle.std.specs.Prelude.{◌≤◌};
 ghost use Rattle.mon_host.specs.Log.{GoesOnBy};
 ghost use Rattle.mon_carry_commands.specs.Previous.{IsFinished, IsPrevious};
 ghost use Rattle.mon_carry_commands.specs.Previous.{IsPreviousOf, IsReplaced, IsReplacedBy};
@@ -106,17 +106,8 @@ fn finish_unless<H: Host>(
         (H.log host.old) (H.log host.new) }
 {
     if skips {
-        print_finished(alloc, host, path)
-    } else {
-        finish_and_print(alloc, host, path)
+        return print_finished(alloc, host, path);
     }
-}
-
-/// Goes on where a run was killed between its two renames.
-fn finish_and_print<H: Host>(alloc: Global, host: &mut H, path: &str) -> Result<(), Failure>
-    ensures { GoesOnBy (λ log. IsFinished false path.now log result)
-        (H.log host.old) (H.log host.new) }
-{
     finish(alloc, host, path)?;
     print_finished(alloc, host, path)
 }

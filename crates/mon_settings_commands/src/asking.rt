@@ -9,7 +9,6 @@ ghost use Rattle.mon_console.specs.Failure.{IsMemory};
 ghost use Rattle.mon_host.specs.AtHost.{Noted};
 ghost use Rattle.mon_host.specs.declared.level.Level.TheVariants.{Warning};
 ghost use Rattle.mon_host.specs.Log.{GoesOnBy};
-ghost use Rattle.mon_pdu.specs.declared.message.Body.TheVariants as bodies;
 ghost use Rattle.mon_survey.specs.Column.{column_name, columns};
 ghost use Rattle.mon_survey.specs.Plan.{needs};
 ghost use Rattle.mon_survey.specs.declared.fault.SurveyFault.TheVariants.{NoEngine};
@@ -28,7 +27,7 @@ use mon_client::{Asking, Opens, Question, Repeats, Wire, send_request};
 use mon_console::{Failure, Fault, answer_failure};
 use mon_host::{Host, Level};
 use mon_oid::Oid;
-use mon_pdu::{Binding, Bindings, Body, Message, Pdu};
+use mon_pdu::{Binding, Bindings, Body, Message};
 use mon_survey::{Answers, Column, SurveyFault, columns, engine_of};
 use std::alloc::{AllocError, Global};
 use std::{mem, slice};
@@ -201,22 +200,13 @@ fn bindings_in(message: Message) -> Result<Bindings, AppFault>
 {
     let Message { body, .. } = message;
     match body {
-        Body::Pdu(pdu) => fine(pdu),
-        Body::Bulk(bulk) => Ok(bulk.bindings),
-    }
-}
-
-/// The variable bindings of a response without an error.
-fn fine(pdu: Pdu) -> Result<Bindings, AppFault>
-    ensures { result ≡ bindings_in (bodies.Pdu pdu) }
-{
-    if pdu.error_status != 0 {
-        return Err(AppFault::AgentStatus {
+        Body::Pdu(pdu) if pdu.error_status != 0 => Err(AppFault::AgentStatus {
             status: pdu.error_status,
             index: pdu.error_index,
-        });
+        }),
+        Body::Pdu(pdu) => Ok(pdu.bindings),
+        Body::Bulk(bulk) => Ok(bulk.bindings),
     }
-    Ok(pdu.bindings)
 }
 
 /// Returns what the agent answers.

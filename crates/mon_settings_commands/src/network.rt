@@ -340,26 +340,19 @@ fn seat_output<N: Opens>(
     let seat = files.network.seat(place);
     let path = seat_path(alloc, files.folder, seat)?;
     match fit(alloc, net, input, Wish::Placed(seat), TargetSize::Sixteen) {
-        Ok(drafted) => Ok(output_of(path, drafted)),
+        Ok(drafted) => {
+            let Drafted {
+                text,
+                longest,
+                targets: _,
+            } = drafted;
+            Ok(Output {
+                path,
+                text,
+                longest: Some(longest),
+            })
+        }
         Err(failure) => Err(failure),
-    }
-}
-
-/// Returns the file of settings at a path.
-fn output_of(path: String, drafted: Drafted) -> Output
-    ensures path { result.path ≡ path }
-    ensures text { result.text ≡ drafted.text }
-    ensures longest { result.longest ≡ Some drafted.longest }
-{
-    let Drafted {
-        text,
-        longest,
-        targets: _,
-    } = drafted;
-    Output {
-        path,
-        text,
-        longest: Some(longest),
     }
 }
 

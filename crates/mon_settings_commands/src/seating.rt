@@ -1,7 +1,7 @@
 //! The settings of a station of a network, by the machine that it is placed on.
 
 ghost use Rattle.std.specs.Prelude.{◌≡◌, ◌++◌, ◌+◌, ◌<◌, IfOk, OnOk, map, string_bytes};
-ghost use Rattle.mon_placing.specs.Network.{IsSeat, listens};
+ghost use Rattle.mon_placing.specs.Network.{IsSeat};
 ghost use Rattle.mon_settings_commands.specs.Seats.{AreSeatTexts, IsSeatSettings, other_at, others_of, peer_at};
 ghost use Rattle.mon_settings_commands.specs.Source.{source_in};
 ghost use Rattle.mon_udp.specs.Addr.{addr_text};
@@ -28,23 +28,8 @@ pub(crate) fn seat_settings(
     ensures { IsSeatSettings (source_in input.now) seat.entry size result }
 {
     let texts = seat_texts(alloc, input.words, seat)?;
-    seat_settings_by(alloc, input, seat, size, &texts)
-}
-
-/// The settings of a station of a network, with these texts.
-fn seat_settings_by(
-    alloc: Global,
-    input: &Input<'_, '_>,
-    seat: Seat<'_>,
-    size: TargetSize,
-    texts: &Texts,
-) -> Result<Drafted, Failure>
-    requires placed { IsSeat seat }
-    requires texts { AreSeatTexts input.now.words.now seat texts.now }
-    ensures { IsSeatSettings (source_in input.now) seat.entry size result }
-{
     let words = input.words;
-    let lent = lend(words.address, words.community, words.modules, texts, size);
+    let lent = lend(words.address, words.community, words.modules, &texts, size);
     let options = Options {
         station: seat.station + 1,
         ..options_of(words, input.asked.percent, lent)
@@ -106,21 +91,11 @@ fn put_other(
     if station == seat.station {
         return Ok(());
     }
-    let peer = peer_of(alloc, Seat { station, ..seat })?;
-    Ok(peers.push(peer)?)
-}
-
-/// Returns a station of a network as a peer.
-fn peer_of(alloc: Global, seat: Seat<'_>) -> Result<Peer, AllocError>
-    requires { IsSeat seat }
-    ensures station { IfOk result (λ peer. peer.station ≡ seat.entry.station + 1) }
-    ensures address { IfOk result (λ peer. string_bytes peer.address
-        ≡ addr_text (listens seat.entry)) }
-{
+    let other = Seat { station, ..seat };
     let mut address = String::new(alloc);
-    put_address(&mut address, seat.listens())?;
-    Ok(Peer {
-        station: seat.station + 1,
+    put_address(&mut address, other.listens())?;
+    Ok(peers.push(Peer {
+        station: station + 1,
         address,
-    })
+    })?)
 }

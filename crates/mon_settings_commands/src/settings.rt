@@ -486,22 +486,8 @@ pub(crate) fn settings_of(
     ensures { IsSettingsOf (source_in input.now) group size result }
 {
     let texts = texts_of(alloc, input.words, group.unwrap_or(0))?;
-    settings_by(alloc, input, group, size, &texts)
-}
-
-/// The settings of a station that polls all counters, or those of a group, with these texts.
-fn settings_by(
-    alloc: Global,
-    input: &Input<'_, '_>,
-    group: Option<u32>,
-    size: TargetSize,
-    texts: &Texts,
-) -> Result<Drafted, Failure>
-    requires { AreTexts input.now.words.now (up_of group) texts.now }
-    ensures { IsSettingsOf (source_in input.now) group size result }
-{
     let words = input.words;
-    let lent = lend(words.address, words.community, words.modules, texts, size);
+    let lent = lend(words.address, words.community, words.modules, &texts, size);
     let options = options_of(words, input.asked.percent, lent);
     match settings(
         alloc,
@@ -525,22 +511,8 @@ pub(crate) fn appended(
     ensures { IsAppendedOf (source_in input.now) existing.now size result }
 {
     let texts = texts_of(alloc, input.words, 0)?;
-    appended_by(alloc, input, existing, size, &texts)
-}
-
-/// Settings with the agent's targets at their end, with these texts.
-fn appended_by(
-    alloc: Global,
-    input: &Input<'_, '_>,
-    existing: &Existing,
-    size: TargetSize,
-    texts: &Texts,
-) -> Result<Drafted, Failure>
-    requires { AreTexts input.now.words.now 0 texts.now }
-    ensures { IsAppendedOf (source_in input.now) existing.now size result }
-{
     let words = input.words;
-    let lent = lend(words.address, words.community, words.modules, texts, size);
+    let lent = lend(words.address, words.community, words.modules, &texts, size);
     let options = options_of(words, input.asked.percent, lent);
     match append(
         alloc,
@@ -572,23 +544,8 @@ pub(crate) fn updated(
         result }
 {
     let texts = texts_of(alloc, input.words, 0)?;
-    updated_by(alloc, input, news, size, &texts)
-}
-
-/// Settings with the agent's interfaces as they are now, with these texts.
-fn updated_by(
-    alloc: Global,
-    input: &Input<'_, '_>,
-    news: News<'_>,
-    size: TargetSize,
-    texts: &Texts,
-) -> Result<Drafted, Failure>
-    requires { AreTexts input.now.words.now 0 texts.now }
-    ensures { IsUpdatedOf (source_in input.now) news.entry.existing.now news.entry.known.now size
-        result }
-{
     let words = input.words;
-    let lent = lend(words.address, words.community, words.modules, texts, size);
+    let lent = lend(words.address, words.community, words.modules, &texts, size);
     let options = options_of(words, input.asked.percent, lent);
     updated_on(alloc, input, news, &options)
 }

@@ -123,8 +123,8 @@ BUGS = {
     ),
     "an_error_without_an_index_is_none": (
         "src/asking.rt",
-        "    if pdu.error_status != 0 {",
-        "    if pdu.error_index != 0 {",
+        "Body::Pdu(pdu) if pdu.error_status != 0 =>",
+        "Body::Pdu(pdu) if pdu.error_index != 0 =>",
     ),
     "a_column_without_end_does_not_increase": (
         "src/asking.rt",
@@ -824,6 +824,6 @@ PROMISES = {
     "counts_the_interfaces_with_a_speed": "noting::note_speeds",
     "refuses_an_address_for_its_community": "settings::asked_of",
     "asks_after_the_start_again": "asking::step",
-    "counters_of_the_first_group": "seating::seat_settings_by",
+    "counters_of_the_first_group": "seating::seat_settings",
     "replaces_files_of_a_network": "network::require_output_free",
 }

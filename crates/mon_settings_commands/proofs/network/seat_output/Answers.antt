@@ -1,4 +1,4 @@
-use Rattle.std.proofs.Common.{◌∙◌, ap, inr, string_bytes, subst, sym}
+use Rattle.std.proofs.Common.{◌∙◌, ap, inr, refl, subst, sym}
 use Rattle.std.specs.Prelude.{Err, Ok}
 use Rattle.mon_client.specs.Network.{agents_by}
 use Rattle.mon_placing.specs.Network.{IsSeat, seat_path}
@@ -25,9 +25,9 @@ returns-in-Ok-clause-file g c =
     record {
       drafted = d;
       fits = subst (λ (q : Seat). AreFitting agents s.asked (IsSeatSettings s q) (Ok d)) c.seat-seat.ensures c.in-Ok.ensures;
-      path_is = ap string_bytes c.output_of.ensures.path ∙ (c.in_ok-path.ensures ∙ ap (λ (q : Seat). seat_path c.args.files.folder.now q) c.seat-seat.ensures);
-      text_is = c.output_of.ensures.text;
-      round = c.output_of.ensures.longest;
+      path_is = c.in_ok-path.ensures ∙ ap (λ (q : Seat). seat_path c.args.files.folder.now q) c.seat-seat.ensures;
+      text_is = refl;
+      round = refl;
     }
 
 pub returns-in-Err-clause-refused : goal.returns-in-Err-clause-refused

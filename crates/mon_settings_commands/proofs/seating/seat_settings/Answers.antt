@@ -6,7 +6,7 @@ use Rattle.mon_survey.specs.declared.options.Options.{Options}
 use Rattle.mon_settings_commands.specs.Source.{source_in}
 use Rattle.mon_settings_commands.specs.declared.settings.Texts.{Texts}
 use Rattle.mon_settings_commands.proofs.Seated.{seat_options}
-use Rattle.mon_settings_commands.proofs.seating.seat_settings_by.Goals as goal
+use Rattle.mon_settings_commands.proofs.seating.seat_settings.Goals as goal
 
 pub returns-in-Ok : goal.returns-in-Ok
 returns-in-Ok c =
@@ -14,7 +14,7 @@ returns-in-Ok c =
     let os = c.options_of.ensures in
     let lent = c.lend-lent.ensures in
     let names = c.args.input.now.names.now in
-    let made = seat_options (source_in c.args.input.now) c.args.seat c.args.size c.args.texts.now o c.requires.texts refl os.window os.wait_ms (os.size ∙ lent.size) os.tries os.same
+    let made = seat_options (source_in c.args.input.now) c.args.seat c.args.size c.in_ok-texts.texts o c.in_ok-texts.ensures refl os.window os.wait_ms (os.size ∙ lent.size) os.tries os.same
     (os.listen ∙ ap (λ (t : Texts). string_bytes t.listen) lent.texts) (os.file ∙ ap (λ (t : Texts). string_bytes t.file) lent.texts)
     (os.peers ∙ ap (λ (t : Texts). t.peers.items) lent.texts) (os.modules ∙ lent.modules) (os.address ∙ lent.address) (os.community ∙ lent.community) in
     let is = c.choice-choice.ensures in (
@@ -26,13 +26,13 @@ returns-in-Ok c =
           (subst (λ (engine : List ℕ). IsSettingsText names (shown_by names (length o.modules.now)) c.choice-choice.result o engine c.agent.result.answers.now (string_bytes c.in-Ok.drafted.text) c.in-Ok.drafted.longest c.in-Ok.drafted.targets.items) c.agent.ensures.engine c.in-Ok.ensures.reads),
     )
 
-pub returns-in-Err : goal.returns-in-Err
-returns-in-Err c =
+pub returns : goal.returns
+returns c =
     let o : Options = record c.options_of.result { station = c.args.seat.station + 1 } in
     let os = c.options_of.ensures in
     let lent = c.lend-lent.ensures in
     let names = c.args.input.now.names.now in
-    let made = seat_options (source_in c.args.input.now) c.args.seat c.args.size c.args.texts.now o c.requires.texts refl os.window os.wait_ms (os.size ∙ lent.size) os.tries os.same
+    let made = seat_options (source_in c.args.input.now) c.args.seat c.args.size c.in_ok-texts.texts o c.in_ok-texts.ensures refl os.window os.wait_ms (os.size ∙ lent.size) os.tries os.same
     (os.listen ∙ ap (λ (t : Texts). string_bytes t.listen) lent.texts) (os.file ∙ ap (λ (t : Texts). string_bytes t.file) lent.texts)
     (os.peers ∙ ap (λ (t : Texts). t.peers.items) lent.texts) (os.modules ∙ lent.modules) (os.address ∙ lent.address) (os.community ∙ lent.community) in
     let is = c.choice-choice.ensures in

@@ -1,12 +1,18 @@
-use Rattle.std.proofs.Common.{◌∙◌, List, ℕ, ap, inr, length, string_bytes, subst}
+use Rattle.std.proofs.Common.{◌∙◌, ◌≡◌, List, ℕ, ap, inr, length, refl, string_bytes, subst}
+use Rattle.std.specs.Prelude.{Option, None, Some, unwrap_or}
 use Rattle.mon_survey.specs.Appended.{shown_by}
 use Rattle.mon_survey.specs.Meant.{IsFault, IsSettingsText}
 use Rattle.mon_survey.specs.declared.answers.Cell.{Cell}
 use Rattle.mon_settings_commands.specs.Settings.{up_of}
 use Rattle.mon_settings_commands.specs.Source.{source_in}
+use Rattle.mon_settings_commands.specs.Texts.{AreTexts}
 use Rattle.mon_settings_commands.specs.declared.settings.Texts.{Texts}
 use Rattle.mon_settings_commands.proofs.Made.{options}
-use Rattle.mon_settings_commands.proofs.settings.settings_by.Goals as goal
+use Rattle.mon_settings_commands.proofs.settings.settings_of.Goals as goal
+
+is_up : (group : Option ℕ) → unwrap_or group 0 ≡ up_of group
+is_up None = refl
+is_up (Some group) = refl
 
 pub returns-in-Ok : goal.returns-in-Ok
 returns-in-Ok c =
@@ -14,7 +20,7 @@ returns-in-Ok c =
     let os = c.options_of-options.ensures in
     let lent = c.lend-lent.ensures in
     let names = c.args.input.now.names.now in
-    let made = options (source_in c.args.input.now) (up_of c.args.group) c.args.size c.args.texts.now o c.requires os.station os.window os.wait_ms (os.size ∙ lent.size) os.tries os.same
+    let made = options (source_in c.args.input.now) (up_of c.args.group) c.args.size c.in_ok-texts.texts o (subst (λ (u : ℕ). AreTexts c.args.input.now.words.now u c.in_ok-texts.texts) (c.unwrap_or.ensures ∙ is_up c.args.group) c.in_ok-texts.ensures.texts) os.station os.window os.wait_ms (os.size ∙ lent.size) os.tries os.same
     (os.listen ∙ ap (λ (t : Texts). string_bytes t.listen) lent.texts) (os.file ∙ ap (λ (t : Texts). string_bytes t.file) lent.texts)
     (os.peers ∙ ap (λ (t : Texts). t.peers.items) lent.texts) (os.modules ∙ lent.modules) (os.address ∙ lent.address) (os.community ∙ lent.community) in
     let is = c.choice.ensures in (
@@ -26,13 +32,13 @@ returns-in-Ok c =
           (subst (λ (engine : List ℕ). IsSettingsText names (shown_by names (length o.modules.now)) c.choice.result o engine c.agent.result.answers.now (string_bytes c.in-Ok.drafted.text) c.in-Ok.drafted.longest c.in-Ok.drafted.targets.items) c.agent.ensures.engine c.in-Ok.ensures.reads),
     )
 
-pub returns-in-Err : goal.returns-in-Err
-returns-in-Err c =
+pub returns : goal.returns
+returns c =
     let o = c.options_of-options.result in
     let os = c.options_of-options.ensures in
     let lent = c.lend-lent.ensures in
     let names = c.args.input.now.names.now in
-    let made = options (source_in c.args.input.now) (up_of c.args.group) c.args.size c.args.texts.now o c.requires os.station os.window os.wait_ms (os.size ∙ lent.size) os.tries os.same
+    let made = options (source_in c.args.input.now) (up_of c.args.group) c.args.size c.in_ok-texts.texts o (subst (λ (u : ℕ). AreTexts c.args.input.now.words.now u c.in_ok-texts.texts) (c.unwrap_or.ensures ∙ is_up c.args.group) c.in_ok-texts.ensures.texts) os.station os.window os.wait_ms (os.size ∙ lent.size) os.tries os.same
     (os.listen ∙ ap (λ (t : Texts). string_bytes t.listen) lent.texts) (os.file ∙ ap (λ (t : Texts). string_bytes t.file) lent.texts)
     (os.peers ∙ ap (λ (t : Texts). t.peers.items) lent.texts) (os.modules ∙ lent.modules) (os.address ∙ lent.address) (os.community ∙ lent.community) in
     let is = c.choice.ensures in

@@ -7,7 +7,7 @@ use Rattle.mon_survey.specs.declared.answers.Cell.{Cell}
 use Rattle.mon_settings_commands.specs.Source.{source_in}
 use Rattle.mon_settings_commands.specs.declared.settings.Texts.{Texts}
 use Rattle.mon_settings_commands.proofs.Made.{options}
-use Rattle.mon_settings_commands.proofs.settings.appended_by.Goals as goal
+use Rattle.mon_settings_commands.proofs.settings.appended.Goals as goal
 
 pub returns-in-Ok : goal.returns-in-Ok
 returns-in-Ok c =
@@ -15,7 +15,7 @@ returns-in-Ok c =
     let os = c.options_of-options.ensures in
     let lent = c.lend-lent.ensures in
     let names = c.args.existing.now.names in
-    let made = options (source_in c.args.input.now) 0 c.args.size c.args.texts.now o c.requires os.station os.window os.wait_ms (os.size ∙ lent.size) os.tries os.same
+    let made = options (source_in c.args.input.now) 0 c.args.size c.in_ok-texts.texts o c.in_ok-texts.ensures.texts os.station os.window os.wait_ms (os.size ∙ lent.size) os.tries os.same
     (os.listen ∙ ap (λ (t : Texts). string_bytes t.listen) lent.texts) (os.file ∙ ap (λ (t : Texts). string_bytes t.file) lent.texts)
     (os.peers ∙ ap (λ (t : Texts). t.peers.items) lent.texts) (os.modules ∙ lent.modules) (os.address ∙ lent.address) (os.community ∙ lent.community) in
     let is = c.choice.ensures in (
@@ -30,13 +30,13 @@ returns-in-Ok c =
           (subst (λ (engine : List ℕ). IsAppendedText c.lent.result.names.now c.choice.result o c.lent.result.text.now (station_view c.lent.result.station.now) engine c.agent.result.answers.now (string_bytes c.in-Ok.drafted.text) c.in-Ok.drafted.longest c.in-Ok.drafted.targets.items) c.agent.ensures.engine c.in-Ok.ensures.reads)))),
     )
 
-pub returns-in-Err : goal.returns-in-Err
-returns-in-Err c =
+pub returns : goal.returns
+returns c =
     let o = c.options_of-options.result in
     let os = c.options_of-options.ensures in
     let lent = c.lend-lent.ensures in
     let names = c.args.existing.now.names in
-    let made = options (source_in c.args.input.now) 0 c.args.size c.args.texts.now o c.requires os.station os.window os.wait_ms (os.size ∙ lent.size) os.tries os.same
+    let made = options (source_in c.args.input.now) 0 c.args.size c.in_ok-texts.texts o c.in_ok-texts.ensures.texts os.station os.window os.wait_ms (os.size ∙ lent.size) os.tries os.same
     (os.listen ∙ ap (λ (t : Texts). string_bytes t.listen) lent.texts) (os.file ∙ ap (λ (t : Texts). string_bytes t.file) lent.texts)
     (os.peers ∙ ap (λ (t : Texts). t.peers.items) lent.texts) (os.modules ∙ lent.modules) (os.address ∙ lent.address) (os.community ∙ lent.community) in
     let is = c.choice.ensures in
