@@ -1,15 +1,14 @@
 //! Questions to one agent: its engine, and the cells of its tables of interfaces.
 
-ghost use Rattle.std.specs.Prelude.{◌≡◌, ◌∷◌, ◌++◌, ◌<◌, ◌≤◌, [], IfErr, IfOk, IsTrue, MatchBool, MatchResult, Ok, OnOk, codes, string_bytes};
+ghost use Rattle.std.specs.Prelude.{◌≡◌, ◌∷◌, ◌++◌, ◌<◌, ◌≤◌, [], IfErr, IfOk, IsTrue, MatchResult, Ok, OnOk, codes, string_bytes};
 ghost use Rattle.mon_client.specs.Network.{agents_by};
 ghost use Rattle.mon_client.specs.Printed.{bindings_in};
-ghost use Rattle.mon_client.specs.Walk.{IsPast, IsUnderStart};
 ghost use Rattle.mon_client.specs.declared.question.Asking.TheVariants.{Get};
 ghost use Rattle.mon_console.specs.Failure.{IsMemory};
 ghost use Rattle.mon_host.specs.AtHost.{Noted};
 ghost use Rattle.mon_host.specs.declared.level.Level.TheVariants.{Warning};
 ghost use Rattle.mon_host.specs.Log.{GoesOnBy};
-ghost use Rattle.mon_survey.specs.Column.{column_name, columns};
+ghost use Rattle.mon_survey.specs.Column.{columns};
 ghost use Rattle.mon_survey.specs.Plan.{needs};
 ghost use Rattle.mon_survey.specs.declared.fault.SurveyFault.TheVariants.{NoEngine};
 ghost use Rattle.mon_settings_commands.specs.AgentOptions.{IsAsking, count_line, count_lines};
@@ -443,7 +442,7 @@ fn put(
     ensures { IsPut agent.now (stand place.old answers.old) binding.old
         (turned (stand place.new answers.new) result) }
 {
-    if is_past(&place.start, binding) {
+    if matches!(binding.value, Value::EndOfMibView) || !place.start.is_prefix_of(&binding.name) {
         return Ok(false);
     }
     if !place.last.compare(&binding.name).is_lt() {
@@ -498,7 +497,9 @@ impl Place {
         ensures place { IfOk result (λ place. place ≡ place_of column) }
         ensures refused { IfErr result IsMemory }
     {
-        let start = column_name(alloc, column)?;
+        let Ok(start) = column.name(alloc) else {
+            return Err(Failure::from(AppFault::OutOfMemory));
+        };
         let last = start.try_clone(alloc)?;
         Ok(Place {
             start,
@@ -506,13 +507,6 @@ impl Place {
             taken: 0,
         })
     }
-}
-
-/// Returns `true` if the variable is not under the start, or there is none.
-fn is_past(start: &Oid, binding: &Binding) -> bool
-    ensures { MatchBool result (IsPast start.now binding.now) (IsUnderStart start.now binding.now) }
-{
-    matches!(binding.value, Value::EndOfMibView) || !start.is_prefix_of(&binding.name)
 }
 
 /// The engine id in the answers to the three names of the group, which come first.
@@ -564,28 +558,8 @@ fn add_name(alloc: Global, names: &mut Vec<Oid>, parts: &[u32]) -> Result<(), Fa
     ensures added { OnOk result (names.new.items ≡ names.old.items ++ parts.now ∷ []) }
     ensures refused { IfErr result IsMemory }
 {
-    let name = name_of(alloc, parts)?;
-    Ok(names.push(name)?)
-}
-
-/// The name of these numbers.
-fn name_of(alloc: Global, parts: &[u32]) -> Result<Oid, Failure>
-    ensures name { IfOk result (λ name. name ≡ parts.now) }
-    ensures refused { IfErr result IsMemory }
-{
     match Oid::from_parts(alloc, parts) {
-        Ok(name) => Ok(name),
-        Err(_) => Err(Failure::from(AppFault::OutOfMemory)),
-    }
-}
-
-/// The name of a column.
-fn column_name(alloc: Global, column: Column) -> Result<Oid, Failure>
-    ensures name { IfOk result (λ name. name ≡ column_name column) }
-    ensures refused { IfErr result IsMemory }
-{
-    match column.name(alloc) {
-        Ok(name) => Ok(name),
+        Ok(name) => Ok(names.push(name)?),
         Err(_) => Err(Failure::from(AppFault::OutOfMemory)),
     }
 }

@@ -1,7 +1,7 @@
 //! The command `settings`: asks an agent for its engine, walks its tables of interfaces, and prints
 //! the settings of a station that polls it.
 
-ghost use Rattle.std.specs.Prelude.{◌≡◌, ◌<◌, ◌≤◌, [], IfErr, IfOk, OnOk, option_copied, string_bytes};
+ghost use Rattle.std.specs.Prelude.{◌≡◌, ◌<◌, ◌≤◌, [], IfErr, IfOk, option_copied, string_bytes};
 ghost use Rattle.mon_client.specs.Network.{agents_by};
 ghost use Rattle.mon_host.specs.Log.{GoesOnBy};
 ghost use Rattle.mon_settings_commands.specs.Appended.{IsAlone, IsAppendedOf, IsLonger, IsPutLonger};
@@ -378,20 +378,6 @@ impl Texts {
             peers: Vec::new(alloc),
         }
     }
-
-    /// Appends the texts that the arguments give, with ports and the file's name counted up.
-    fn put(&mut self, alloc: Global, words: &SettingsArgs<'_, '_>, up: u32) -> Result<(), Failure>
-        requires few { up < 65536 }
-        requires listen { string_bytes self.old.listen ≡ [] }
-        requires file { string_bytes self.old.file ≡ [] }
-        requires peers { self.old.peers.items ≡ [] }
-        ensures texts { OnOk result (AreTexts words.now up self.new) }
-        ensures refused { IfErr result IsOfOptions }
-    {
-        put_address(alloc, &mut self.listen, given_or(words.listen, LISTEN), up)?;
-        put_file(&mut self.file, given_or(words.file, FILE), up)?;
-        put_peers(alloc, &mut self.peers, words.peers, up)
-    }
 }
 
 /// The texts that the arguments give, with ports and the file's name counted up.
@@ -401,7 +387,9 @@ fn texts_of(alloc: Global, words: &SettingsArgs<'_, '_>, up: u32) -> Result<Text
     ensures refused { IfErr result IsOfOptions }
 {
     let mut texts = Texts::new(alloc);
-    texts.put(alloc, words, up)?;
+    put_address(alloc, &mut texts.listen, given_or(words.listen, LISTEN), up)?;
+    put_file(&mut texts.file, given_or(words.file, FILE), up)?;
+    put_peers(alloc, &mut texts.peers, words.peers, up)?;
     Ok(texts)
 }
 

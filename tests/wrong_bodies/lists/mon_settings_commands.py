@@ -118,8 +118,8 @@ BUGS = {
     ),
     "reads_past_the_end_of_the_view": (
         "src/asking.rt",
-        "    matches!(binding.value, Value::EndOfMibView) || !start.is_prefix_of(&binding.name)",
-        "    !start.is_prefix_of(&binding.name)",
+        "matches!(binding.value, Value::EndOfMibView) || !place.start.is_prefix_of(&binding.name)",
+        "!place.start.is_prefix_of(&binding.name)",
     ),
     "an_error_without_an_index_is_none": (
         "src/asking.rt",
