@@ -397,6 +397,19 @@ BUGS = {
     "heads_of_targets_in_prometheus_text": ("src/prometheus/station.rt", "    put_targets(format, text,", "    put_targets(Exposition::Prometheus, text,"),
     "heads_of_instances_in_prometheus_text": ("src/prometheus.rt", "        listing.format,\n        text,\n        metric.name(),", "        Exposition::Prometheus,\n        text,\n        metric.name(),"),
     "a_speed_in_kilobits": ("src/prometheus.rt", "labels, bits)", "labels, bits / 1000)"),
+    # The ends of the lines of metrics, which are written at once.
+    "a_number_without_its_brace": ("src/prometheus/text.rt", "    let mut end = [b'\\n'; 23];\n    let start = write_digits(number, &mut end, 22);\n    end[start - 1] = b' ';\n    end[start - 2] = b'}';", "    let mut end = [b'\\n'; 23];\n    let start = write_digits(number, &mut end, 22);\n    end[start - 1] = b' ';\n    end[start - 2] = b' ';"),
+    "a_number_behind_its_brace_alone": ("src/prometheus/text.rt", "    let start = write_digits(number, &mut end, 22);\n    end[start - 1] = b' ';\n    end[start - 2] = b'}';\n    text.extend_from_slice(&end[start - 2..])", "    let start = write_digits(number, &mut end, 22);\n    end[start - 1] = b' ';\n    end[start - 2] = b'}';\n    text.extend_from_slice(&end[start - 1..])"),
+    "numbers_of_lines_that_do_not_end": ("src/prometheus/text.rt", "    let mut end = [b'\\n'; 23];", "    let mut end = [b' '; 23];"),
+    "each_number_is_0": ("src/prometheus/text.rt", "    let start = write_digits(number, &mut end, 22);", "    let start = write_digits(number / u64::MAX, &mut end, 22);"),
+    "no_number_at_all": ("src/prometheus/text.rt", "    text.extend_from_slice(labels)?;\n    put_number_end(text, number)", "    let _ = number;\n    text.extend_from_slice(labels)"),
+    "hundredths_for_tenths": ("src/prometheus/text.rt", "    end[23] = b'0' + (below / 100) as u8;", "    end[23] = b'0' + (below / 10 % 10) as u8;"),
+    "a_comma_for_the_point": ("src/prometheus/text.rt", "    end[22] = b'.';", "    end[22] = b',';"),
+    "a_rate_ten_times_as_high": ("src/prometheus/text.rt", "    match u64::try_from(thousandths / 1000) {", "    match u64::try_from(thousandths / 100) {"),
+    "thousandths_of_the_last_two_digits": ("src/prometheus/text.rt", "    let below = (thousandths % 1000) as u16;", "    let below = (thousandths % 100) as u16;"),
+    "a_great_rate_is_left_out": ("src/prometheus/text.rt", "            if !write_rate(text, true, thousandths) {\n                return Err(AllocError);\n            }\n", "            let _ = write_rate(&mut Vec::new(*text.allocator()), true, thousandths);\n"),
+    "a_counter_is_counted_as_0": ("src/prometheus.rt", "labels, newest.value())", "labels, newest.value() / u64::MAX)"),
+    "labels_that_do_not_begin": ("src/prometheus/text.rt", "    text.extend_from_slice(b\"{\")?;\n    put_label(text, \"station\"", "    put_label(text, \"station\""),
 }
 
 # Those that break a promise as a whole, each with its function: tests/bodies tries them.

@@ -69,6 +69,8 @@ BUGS = {
     "mark_for_the_number": ("src/line.rt", "put_signed(writer, ok, sample.number())", "put_signed(writer, ok, i128::from(sample.discontinuity()))"),
     "value_without_its_sign": ("src/line.rt", "put_signed(writer, ok, sample.number())", "put_number(writer, ok, sample.value())"),
     "two_digits": ("src/line.rt", "put(writer, ok, &[b'.', hundreds, tens, ones])", "put(writer, ok, &[b'.', hundreds, tens])"),
+    "hundreds_of_the_whole": ("src/line.rt", "let hundreds = b'0' + (below / 100) as u8;", "let hundreds = b'0' + (below / 10 % 10) as u8;"),
+    "two_digits_of_three": ("src/line.rt", "let below = (rate % 1000) as u16;", "let below = (rate % 100) as u16;"),
     "rate_of_no_time": ("src/line.rt", 'None => put(writer, ok, b"none")', 'None => put(writer, ok, b"0.000")'),
     "one_sample_less": ("src/line.rt", "put_number(writer, ok, samples.len() as u64)", "put_number(writer, ok, others.len() as u64)"),
     "clear_when_raised": ("src/line.rt", "AlarmState::Raised { boots, time } => put_raised(writer, ok, boots, time)", 'AlarmState::Raised { .. } => put(writer, ok, b"clear")'),
