@@ -22,8 +22,7 @@ AreOf instances entries = map (λ e. named e.engine e.name) entries ≡ instance
 
 -- Of these instances the texts are the labels, whatever a report says of them: where series have
 -- this number of a station, if any, names are shown so, and these labels are given.
-abbrev pub AreSeries : (station : Option ℕ) → (shown : List ℕ → List ℕ) → List InstanceLabels
-    → Series
+abbrev pub AreSeries : (station : Option ℕ) → (shown : List ℕ → List ℕ) → List InstanceLabels → Series
     → Type 0
 AreSeries station shown given s = (entries : List Entry) → AreOf s.instances entries
     → map (instance_labels station shown) (labelled given entries) ≡ s.texts

@@ -139,8 +139,8 @@ pub record IsReplaced {G : Ghosts MemoryDisk} (core : Core) (place : ℕ) (body 
   pub begun : IsBegun (setting_at core (length old) (place + 1)) body (state_in station)
   pub kept : Leaves (disk_leaves station) (FindsState (state_in station))
 
--- What stations in these states say of their debts is true after these moves. What x does not owe
--- y, whose present incarnation it knows, y has taken; two stations that know each other's present
+-- What stations in these states say of their debts is true after these moves. What x does not owe y,
+-- whose present incarnation it knows, y has taken; two stations that know each other's present
 -- incarnation and owe each other nothing hold equal windows and print equal reports; and every
 -- sample in a window was offered by an agent.
 pub record OweTruly (IsAt : ℕ → State → Type 0) (moves : List Move) : Type 0 where
